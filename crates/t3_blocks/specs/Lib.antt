@@ -1,0 +1,2 @@
+pub mod BlockName
+pub mod Spelling

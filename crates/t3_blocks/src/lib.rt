@@ -1,0 +1,15 @@
+//! The blocks of an image: what each kind holds, and which payload bytes spell it.
+//!
+//! [`parse_block`] takes a payload apart that lies in a caller's buffer, and [`take_block`] one that is
+//! handed in with its memory, so that what is kept as bytes isn't copied.
+#![tactic(auto)]
+
+mod block;
+mod names;
+mod parse;
+mod refusal;
+
+pub use block::{Block, block_spelling};
+pub use names::{END_NAME, is_unknown_mandatory};
+pub use parse::{IMAGE_LIMIT, parse_block, take_block};
+pub use refusal::BlockRefusal;

@@ -1,0 +1,297 @@
+-- Every stream of bytes begins with a valid image's text, or is refused.
+use Rattle.std.proofs.Common.{◌≡◌, ◌≢◌, ℕ, zero, suc, ◌+◌, ◌^◌, ◌<◌, ◌≤◌, min, false, List, [], ◌∷◌, ◌++◌, length, take, drop, get_or, refl, sym, ap, subst, ◌∙◌, ◌⊎◌, inl, inr, append_assoc, arith}
+use Rattle.std.specs.Prelude.{IsTrue}
+use Rattle.std.proofs.lemmas.Bool.{cases_lt, cases_eq, cases_Bool}
+use Rattle.std.proofs.lemmas.List.{length-append, length-take, length-drop, take-append-drop, get_or-take, ext_get_or}
+use Rattle.t3_holder.specs.NumberText.{little_endian, AreBytes}
+use Rattle.t3_blocks.specs.declared.block.Block.TheVariants.{Opaque}
+use Rattle.t3_blocks.specs.BlockName.{end_name, is_unknown_mandatory}
+use Rattle.t3_blocks.specs.Spelling.{image_limit}
+use Rattle.t3_image_read.specs.declared.header.BlockHeader.{BlockHeader}
+use Rattle.t3_image_read.specs.declared.image.Head.{Head}
+use Rattle.t3_image_read.specs.declared.image.PlacedBlock.{PlacedBlock}
+use Rattle.t3_image_read.specs.declared.refusal.ReadWhy.{ReadWhy}
+use Rattle.t3_image_read.specs.declared.refusal.ReadWhy.TheVariants.{Signature, Version, UnknownMandatory, Truncated, Unbuilt}
+use Rattle.t3_image_read.specs.ImageText.{ImageValue, signature, version, head_text, header_text, block_text, front_text, end_header, text}
+use Rattle.t3_image_read.specs.Validity.{IsHead, IsHeader, IsGood, IsFront, IsValid, header_limit}
+use Rattle.t3_image_read.specs.Refusal.{IsFirstBroken, DiffersFromSignature, HasOtherVersion, HeadBreaks, head_rules, StartsWith, PassesLimit, BlockBreaks, block_rules, head_place, IsRefused, BeginsWithImage}
+use Rattle.t3_image_read.proofs.Lists.{head_parts}
+use Rattle.t3_image_read.proofs.Headers.{some_header, header_same, length-header_text, AreBytes-drop}
+use Rattle.t3_image_read.proofs.Heads.{length-signature, head_text-append}
+use Rattle.t3_image_read.proofs.Blocks.{IsHeader-end_header, length-block_text}
+use Rattle.t3_image_read.proofs.Uniqueness.{text-append}
+use Rattle.t3_image_read.proofs.Push.{front_text-push, IsFront-push, IsFront-head, front_text-head}
+
+pub same_or_not : (a b : List ℕ) → (a ≡ b) ⊎ (a ≢ b)
+same_or_not [] [] = inl refl
+same_or_not [] (y ∷ b) = inr (λ e. absurd cc)
+same_or_not (x ∷ a) [] = inr (λ e. absurd cc)
+same_or_not (x ∷ a) (y ∷ b) =
+    elim (cases_eq x y) [
+      | inl same ↦ elim (same_or_not a b) [
+        | inl rest ↦ inl cc
+        | inr differs ↦ inr (λ e. differs cc)
+      ]
+      | inr differs ↦ inr (λ e. differs cc)
+    ]
+
+-- ---- one block
+
+passes_or_not : (count place : ℕ) (header : BlockHeader) → PassesLimit count place header ⊎ ¬ PassesLimit count place header
+passes_or_not count place header =
+    elim (cases_lt count header_limit) [
+      | inr many ↦ inl (inl many)
+      | inl few ↦ elim (cases_lt image_limit (place + 10 + header.size)) [
+        | inl far ↦ inl (inr (inr far))
+        | inr near ↦ elim (cases_lt 0 header.size) [
+          | inr empty ↦ inr (λ passes. elim passes [ inl many ↦ absurd (omega arith) | inr more ↦ elim more [ inl sized ↦ absurd (omega (arith, sized.1)) | inr far ↦ absurd (omega arith) ] ])
+          | inl sized ↦ elim (same_or_not header.name end_name) [
+            | inl is_end ↦ inl (inr (inl (is_end, sized)))
+            | inr other ↦ inr (λ passes. elim passes [ inl many ↦ absurd (omega arith) | inr more ↦ elim more [ inl at_end ↦ other at_end.0 | inr far ↦ absurd (omega arith) ] ])
+          ]
+        ]
+      ]
+    ]
+
+-- a rule that speaks of the header that stands here speaks of this one
+pub not_by_header : (P : BlockHeader → Type 0) (rest : List ℕ) (header : BlockHeader) (behind : List ℕ) → StartsWith rest header behind → ¬ P header → ¬ ((other : BlockHeader) × (y : List ℕ) × StartsWith rest other y × P other)
+not_by_header P rest header behind here not (other, y, there, holds) =
+    not (subst P (sym (header_same header other behind y here.fits there.fits (sym here.is ∙ there.is)).0) holds)
+
+pub no_header : (P : BlockHeader → Type 0) (rest : List ℕ) → length rest < 10 → ¬ ((other : BlockHeader) × (y : List ℕ) × StartsWith rest other y × P other)
+no_header P rest short (other, y, there, holds) =
+    let long = length-header_text other there.fits in
+    absurd (omega (arith, ap length there.is, length-append (header_text other) y))
+
+-- what stands at a place: a rule that is broken first, a good block, or the end
+pub record GoodBlock (count place : ℕ) (rest : List ℕ) : Type 0 where
+  pub block : PlacedBlock
+  pub behind : List ℕ
+  pub good : IsGood block
+  pub is : rest ≡ block_text block ++ behind
+  pub few : count < header_limit
+  pub near : place + length (block_text block) ≤ image_limit
+
+pub record TheEnd (count place : ℕ) (rest : List ℕ) : Type 0 where
+  pub flags : ℕ
+  pub behind : List ℕ
+  pub fits : flags < 2 ^ 16
+  pub is : rest ≡ header_text (end_header flags) ++ behind
+  pub few : count < header_limit
+  pub near : place + 10 ≤ image_limit
+
+abbrev BreaksFirst : ℕ → ℕ → List ℕ → Type 0
+BreaksFirst count place rest = (why : ReadWhy) × IsFirstBroken (BlockBreaks count place rest) block_rules why
+
+-- a short rest is cut, and breaks no other rule
+pub first_short : (count place : ℕ) (rest : List ℕ) → length rest < 10 → IsFirstBroken (BlockBreaks count place rest) block_rules Truncated
+first_short count place rest short =
+    inr (no_header (PassesLimit count place) rest short, inr (no_header (λ h. IsTrue (is_unknown_mandatory h.name h.flags)) rest short, inl (refl, inl short)))
+
+-- so is a payload, behind a header that breaks no rule
+pub first_cut : (count place : ℕ) (rest : List ℕ) (header : BlockHeader) (behind : List ℕ) → StartsWith rest header behind → ¬ PassesLimit count place header → is_unknown_mandatory header.name header.flags ≡ false → length behind < header.size
+    → IsFirstBroken (BlockBreaks count place rest) block_rules Truncated
+first_cut count place rest header behind starts within known short =
+    let is_known : ¬ IsTrue (is_unknown_mandatory header.name header.flags) = λ h. absurd cc in
+    inr (not_by_header (PassesLimit count place) rest header behind starts within, inr (not_by_header (λ h. IsTrue (is_unknown_mandatory h.name h.flags)) rest header behind starts is_known, inl (refl, inr (header, behind, starts, short))))
+
+pub first_unknown : (count place : ℕ) (rest : List ℕ) (header : BlockHeader) (behind : List ℕ) → StartsWith rest header behind → ¬ PassesLimit count place header → IsTrue (is_unknown_mandatory header.name header.flags)
+    → IsFirstBroken (BlockBreaks count place rest) block_rules UnknownMandatory
+first_unknown count place rest header behind starts within unknown =
+    inr (not_by_header (PassesLimit count place) rest header behind starts within, inl (refl, (header, behind, starts, unknown)))
+
+pub first_passes : (count place : ℕ) (rest : List ℕ) (header : BlockHeader) (behind : List ℕ) → StartsWith rest header behind → PassesLimit count place header
+    → IsFirstBroken (BlockBreaks count place rest) block_rules Unbuilt
+first_passes count place rest header behind starts passes = inl (refl, (header, behind, starts, passes))
+
+-- what a header says that passes no limit
+pub few_within : (count place : ℕ) (header : BlockHeader) → ¬ PassesLimit count place header → count < header_limit
+few_within count place header within = elim (cases_lt count header_limit) [ inl few ↦ few | inr many ↦ absurd (within (inl many)) ]
+
+pub near_within : (count place : ℕ) (header : BlockHeader) → ¬ PassesLimit count place header → place + 10 + header.size ≤ image_limit
+near_within count place header within = elim (cases_lt image_limit (place + 10 + header.size)) [ inl far ↦ absurd (within (inr (inr far))) | inr near ↦ near ]
+
+pub empty_end : (count place : ℕ) (header : BlockHeader) → ¬ PassesLimit count place header → header.name ≡ end_name → header.size ≡ 0
+empty_end count place header within is_end = elim (cases_lt 0 header.size) [ inl sized ↦ absurd (within (inr (inl (is_end, sized)))) | inr none ↦ omega arith ]
+
+-- the block that a header and its payload make
+abbrev pub block_made : BlockHeader → List ℕ → PlacedBlock
+block_made header payload = record { flags = header.flags; block = Opaque header.name payload }
+
+-- a header whose payload is whole, that breaks no rule and isn't the end, begins a good block
+pub record MakesBlock (count place : ℕ) (header : BlockHeader) (payload : List ℕ) : Type 0 where
+  pub good : IsGood (block_made header payload)
+  pub is : block_text (block_made header payload) ≡ header_text header ++ payload
+  pub few : count < header_limit
+  pub near : place + length (block_text (block_made header payload)) ≤ image_limit
+
+pub makes_block : (count place : ℕ) (header : BlockHeader) (payload : List ℕ) → IsHeader header → ¬ PassesLimit count place header → is_unknown_mandatory header.name header.flags ≡ false → header.name ≢ end_name → length payload ≡ header.size
+    → MakesBlock count place header payload
+unfolding block_text
+makes_block count place header payload fits within known not_end long =
+    let near = near_within count place header within in
+    let same : BlockHeader = record { name = header.name; size = length payload; flags = header.flags } in
+    let same_is : same ≡ header = λ i. record { name = header.name; size = long i; flags = header.flags } in
+    record {
+      good = record { spellable = (fits.name, not_end, omega arith); flags = fits.flags; known = known };
+      is = ap (λ h. header_text h ++ payload) same_is;
+      few = few_within count place header within;
+      near = omega (arith, ap (λ h. length (header_text h ++ payload)) same_is, length-append (header_text header) payload, length-header_text header fits);
+    }
+
+block_or_end : (count place : ℕ) (rest : List ℕ) (header : BlockHeader) (behind : List ℕ) → StartsWith rest header behind → ¬ PassesLimit count place header → is_unknown_mandatory header.name header.flags ≡ false → header.size ≤ length behind
+    → GoodBlock count place rest ⊎ TheEnd count place rest
+block_or_end count place rest header behind starts within known whole =
+    elim (same_or_not header.name end_name) [
+      | inl is_end ↦
+          let none = empty_end count place header within is_end in
+          let near = near_within count place header within in
+          let is : header ≡ end_header header.flags = λ i. record { name = is_end i; size = none i; flags = header.flags } in
+          inr (record { flags = header.flags; behind = behind; fits = starts.fits.flags; is = starts.is ∙ ap (λ h. header_text h ++ behind) is; few = few_within count place header within; near = omega arith })
+      | inr other ↦
+          let made = makes_block count place header (take header.size behind) starts.fits within known other (omega (arith, length-take header.size behind)) in
+          inl (record {
+            block = block_made header (take header.size behind);
+            behind = drop header.size behind;
+            good = made.good;
+            is = starts.is ∙ ap (λ b. header_text header ++ b) (sym (take-append-drop header.size behind)) ∙ sym (append_assoc (header_text header) (take header.size behind) (drop header.size behind)) ∙ ap (λ t. t ++ drop header.size behind) (sym made.is);
+            few = made.few;
+            near = made.near;
+          })
+    ]
+
+what_stands : (count place : ℕ) (rest : List ℕ) → AreBytes rest → BreaksFirst count place rest ⊎ (GoodBlock count place rest ⊎ TheEnd count place rest)
+what_stands count place rest bytes =
+    elim (cases_lt (length rest) 10) [
+      | inl short ↦ inl (Truncated, first_short count place rest short)
+      | inr long ↦
+          let found = some_header rest bytes long in
+          let header = found.0 in
+          let behind = found.1 in
+          elim (passes_or_not count place header) [
+            | inl passes ↦ inl (Unbuilt, first_passes count place rest header behind found.2 passes)
+            | inr within ↦ elim (cases_Bool (is_unknown_mandatory header.name header.flags)) [
+              | inl unknown ↦ inl (UnknownMandatory, first_unknown count place rest header behind found.2 within unknown)
+              | inr known ↦ elim (cases_lt (length behind) header.size) [
+                | inl short ↦ inl (Truncated, first_cut count place rest header behind found.2 within known short)
+                | inr whole ↦ inr (block_or_end count place rest header behind found.2 within known whole)
+              ]
+            ]
+          ]
+    ]
+
+-- ---- the header
+
+pub first_difference : (n : ℕ) (xs ys : List ℕ) → ((i : ℕ) × (i < n) × (get_or xs i 0 ≢ get_or ys i 0)) ⊎ ((i : ℕ) → i < n → get_or xs i 0 ≡ get_or ys i 0)
+first_difference zero xs ys = inr (λ i lt. absurd (omega arith))
+first_difference (suc n) xs ys =
+    elim (first_difference n xs ys) [
+      | inl found ↦ inl (found.0, omega (arith, found.1), found.2)
+      | inr same ↦ elim (cases_eq (get_or xs n 0) (get_or ys n 0)) [
+        | inr differs ↦ inl (n, omega arith, differs)
+        | inl here ↦ inr (λ i lt. elim (cases_eq i n) [ inl at ↦ rw at here | inr before ↦ same i (omega arith) ])
+      ]
+    ]
+
+-- a header with the right signature and version is a head
+abbrev pub head_made : List ℕ → Head
+head_made stream = record { reserved = take 32 (drop 13 stream); stamp = take 24 (drop 45 stream) }
+
+pub some_head : (stream : List ℕ) → take 11 stream ≡ signature → take 2 (drop 11 stream) ≡ little_endian 2 version → 69 ≤ length stream
+    → IsHead (head_made stream) × (stream ≡ head_text (head_made stream) ++ drop 69 stream)
+some_head stream is_signature is_version long = (
+  record { reserved = omega (arith, length-take 32 (drop 13 stream), length-drop 13 stream); stamp = omega (arith, length-take 24 (drop 45 stream), length-drop 45 stream) },
+  sym (head_text-append (head_made stream) (drop 69 stream) ∙ rw (← is_signature, ← is_version) (head_parts stream)),
+)
+
+-- all eleven bytes are the signature where none differs
+pub is_signature : (stream : List ℕ) → 11 ≤ length stream → ¬ DiffersFromSignature stream → take 11 stream ≡ signature
+is_signature stream long same =
+    ext_get_or 0 (take 11 stream) signature (omega (arith, length-take 11 stream, length-signature)) (λ i lt.
+    let near : i < 11 = omega (arith, length-take 11 stream) in
+    get_or-take 11 stream i 0 near ∙ elim (cases_eq (get_or stream i 0) (get_or signature i 0)) [ inl e ↦ e | inr differs ↦ absurd (same (i, near, omega arith, differs)) ])
+
+signature_or_not : (stream : List ℕ) → DiffersFromSignature stream ⊎ ¬ DiffersFromSignature stream
+signature_or_not stream =
+    elim (first_difference (min 11 (length stream)) stream signature) [
+      | inl (i, lt, differs) ↦ inl (i, omega arith, omega arith, differs)
+      | inr same ↦ inr (λ d. d.3 (same d.0 (let near = d.1 in let there = d.2 in omega arith)))
+    ]
+
+version_or_not : (stream : List ℕ) → HasOtherVersion stream ⊎ (13 ≤ length stream → take 2 (drop 11 stream) ≡ little_endian 2 version)
+version_or_not stream =
+    elim (same_or_not (take 2 (drop 11 stream)) (little_endian 2 version)) [
+      | inl same ↦ inr (λ there. same)
+      | inr other ↦ elim (cases_lt (length stream) 13) [
+        | inl short ↦ inr (λ there. absurd (omega arith))
+        | inr there ↦ inl (there, other)
+      ]
+    ]
+
+-- what the header is: refused, or good
+head_stands : (stream : List ℕ) → ((why : ReadWhy) × IsFirstBroken (HeadBreaks stream) head_rules why) ⊎ ((head : Head) × IsHead head × (stream ≡ head_text head ++ drop 69 stream))
+head_stands stream =
+    elim (signature_or_not stream) [
+      | inl differs ↦ inl (Signature, inl (refl, differs))
+      | inr same ↦ elim (version_or_not stream) [
+        | inl other ↦ inl (Version, inr (same, inl (refl, other)))
+        | inr right ↦ elim (cases_lt (length stream) 69) [
+          | inl short ↦ elim (same_or_not (take 2 (drop 11 stream)) (little_endian 2 version)) [
+            | inl is ↦ inl (Truncated, inr (same, inr ((λ other. other.1 is), inl (refl, short))))
+            | inr not ↦ inl (Truncated, inr (same, inr ((λ other. not (right other.0)), inl (refl, short))))
+          ]
+          | inr long ↦ let found = some_head stream (is_signature stream (omega arith) same) (right (omega arith)) long in inr (head_made stream, found.0, found.1)
+        ]
+      ]
+    ]
+
+-- ---- the stream
+
+AreBytes-behind : (a b : List ℕ) → AreBytes (a ++ b) → AreBytes b
+AreBytes-behind [] b bytes = bytes
+AreBytes-behind (x ∷ a) b bytes = AreBytes-behind a b bytes.1
+
+-- the end behind a good front ends a valid image
+pub valid_image : (head : Head) (blocks : List PlacedBlock) (flags : ℕ) → IsFront head blocks → flags < 2 ^ 16 → length blocks < header_limit → length (front_text head blocks) + 10 ≤ image_limit → IsValid (record { head = head; blocks = blocks; eof_flags = flags })
+unfolding text
+valid_image head blocks flags front fits few near = record {
+  head = front.head;
+  blocks = front.blocks;
+  eof_flags = fits;
+  count = few;
+  size = omega (arith, length-append (front_text head blocks) (header_text (end_header flags)), length-header_text (end_header flags) (IsHeader-end_header flags fits));
+}
+
+-- behind a good front comes a broken rule, the end, or a good block, at which it goes on
+next_stands : (head : Head) (blocks : List PlacedBlock) (rest stream : List ℕ) → IsFront head blocks → AreBytes rest → stream ≡ front_text head blocks ++ rest
+    → (GoodBlock (length blocks) (length (front_text head blocks)) rest → BeginsWithImage stream ⊎ IsRefused stream) → BeginsWithImage stream ⊎ IsRefused stream
+next_stands head blocks rest stream front bytes is goes_on =
+    elim (what_stands (length blocks) (length (front_text head blocks)) rest bytes) [
+      | inl (why, first) ↦ inr (length (front_text head blocks), why, inr (record { head = head; blocks = blocks; rest = rest; front = front; stream_is = is; place_is = refl; first = first }))
+      | inr (inl good) ↦ goes_on good
+      | inr (inr end) ↦
+          let image : ImageValue = record { head = head; blocks = blocks; eof_flags = end.flags } in
+          inl (image, end.behind, valid_image head blocks end.flags front end.fits end.few end.near, is ∙ ap (λ r. front_text head blocks ++ r) end.is ∙ sym (text-append image end.behind))
+    ]
+
+one_more : (head : Head) (blocks : List PlacedBlock) (rest stream : List ℕ) (g : GoodBlock (length blocks) (length (front_text head blocks)) rest) → stream ≡ front_text head blocks ++ rest → stream ≡ front_text head (blocks ++ g.block ∷ []) ++ g.behind
+one_more head blocks rest stream g is =
+    is ∙ ap (λ r. front_text head blocks ++ r) g.is ∙ sym (append_assoc (front_text head blocks) (block_text g.block) g.behind) ∙ ap (λ t. t ++ g.behind) (sym (front_text-push head blocks g.block))
+
+behind_front : (fuel : ℕ) (head : Head) (blocks : List PlacedBlock) (rest stream : List ℕ) → length rest ≤ fuel → IsFront head blocks → AreBytes rest → stream ≡ front_text head blocks ++ rest → BeginsWithImage stream ⊎ IsRefused stream
+behind_front zero head blocks rest stream enough front bytes is =
+    next_stands head blocks rest stream front bytes is (λ g. absurd (omega (arith, ap length g.is, length-append (block_text g.block) g.behind, length-block_text g.block g.good)))
+behind_front (suc fuel) head blocks rest stream enough front bytes is =
+    next_stands head blocks rest stream front bytes is (λ g.
+    behind_front fuel head (blocks ++ g.block ∷ []) g.behind stream
+    (omega (arith, ap length g.is, length-append (block_text g.block) g.behind, length-block_text g.block g.good))
+    (IsFront-push head blocks g.block front g.good g.few g.near)
+    (AreBytes-behind (block_text g.block) g.behind (subst AreBytes g.is bytes))
+    (one_more head blocks rest stream g is))
+
+pub image_or_refused : (stream : List ℕ) → AreBytes stream → BeginsWithImage stream ⊎ IsRefused stream
+image_or_refused stream bytes =
+    elim (head_stands stream) [
+      | inl (why, first) ↦ inr (head_place why, why, inl (record { first = first; place_is = refl }))
+      | inr (head, good, is) ↦ behind_front (length stream) head [] (drop 69 stream) stream (omega (arith, length-drop 69 stream)) (IsFront-head head good) (AreBytes-drop 69 stream bytes) (is ∙ ap (λ t. t ++ drop 69 stream) (sym (front_text-head head)))
+    ]

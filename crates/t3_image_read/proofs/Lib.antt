@@ -1,0 +1,11 @@
+pub mod Lists
+pub mod Headers
+pub mod Heads
+pub mod Blocks
+pub mod Fronts
+pub mod Uniqueness
+pub mod Push
+pub mod Existence
+pub mod HeadFaults
+pub mod Steps
+pub mod Feeding

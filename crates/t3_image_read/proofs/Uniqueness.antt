@@ -1,0 +1,112 @@
+-- A stream begins with one valid image's text, or is refused at one place by one rule.
+use Rattle.std.proofs.Common.{◌≡◌, ℕ, ◌+◌, List, [], ◌∷◌, ◌++◌, length, sym, ap, subst, ◌∙◌, inl, inr, append_assoc, arith}
+use Rattle.std.specs.List.{flat_map}
+use Rattle.std.proofs.lemmas.List.{length-append, append-nil}
+use Rattle.t3_image_read.specs.declared.header.BlockHeader.{BlockHeader}
+use Rattle.t3_image_read.specs.declared.image.Head.{Head}
+use Rattle.t3_image_read.specs.declared.image.PlacedBlock.{PlacedBlock}
+use Rattle.t3_image_read.specs.declared.refusal.ReadWhy.{ReadWhy}
+use Rattle.t3_image_read.specs.ImageText.{ImageValue, head_text, header_text, block_text, front_text, end_header, text}
+use Rattle.t3_image_read.specs.Validity.{IsHead, IsFront, IsValid}
+use Rattle.t3_image_read.specs.Refusal.{IsFirstBroken, HeadBreaks, head_rules, head_place, BlockBreaks, block_rules, RefusedAtBlock, Refused}
+use Rattle.t3_image_read.proofs.Headers.{header_same, length-header_text}
+use Rattle.t3_image_read.proofs.Heads.{head_same, head_unbroken, length-head_text}
+use Rattle.t3_image_read.proofs.Blocks.{IsHeader-end_header, end_unbroken}
+use Rattle.t3_image_read.proofs.Fronts.{Stops, Stops-broken, Stops-end, same_blocks}
+
+pub first_is_broken : (Breaks : ReadWhy → Type 0) (rules : List ReadWhy) (why : ReadWhy) → IsFirstBroken Breaks rules why → Breaks why
+first_is_broken Breaks [] why first = absurd first
+first_is_broken Breaks (rule ∷ rules) why (inl here) = subst Breaks (sym here.0) here.1
+first_is_broken Breaks (rule ∷ rules) why (inr later) = first_is_broken Breaks rules why later.1
+
+first_unique : (Breaks : ReadWhy → Type 0) (rules : List ReadWhy) (v w : ReadWhy) → IsFirstBroken Breaks rules v → IsFirstBroken Breaks rules w → v ≡ w
+first_unique Breaks [] v w first_v first_w = absurd first_v
+first_unique Breaks (rule ∷ rules) v w (inl a) (inl b) = a.0 ∙ sym b.0
+first_unique Breaks (rule ∷ rules) v w (inl a) (inr b) = absurd (b.0 a.1)
+first_unique Breaks (rule ∷ rules) v w (inr a) (inl b) = absurd (a.0 b.1)
+first_unique Breaks (rule ∷ rules) v w (inr a) (inr b) = first_unique Breaks rules v w a.1 b.1
+
+pub front_text-append : (h : Head) (bs : List PlacedBlock) (x : List ℕ) → front_text h bs ++ x ≡ head_text h ++ (flat_map block_text bs ++ x)
+unfolding front_text
+front_text-append h bs x = append_assoc (head_text h) (flat_map block_text bs) x
+
+pub length-front_text : (h : Head) (bs : List PlacedBlock) → IsHead h → length (front_text h bs) ≡ 69 + length (flat_map block_text bs)
+unfolding front_text
+length-front_text h bs is = let long = length-head_text h is in omega (arith, length-append (head_text h) (flat_map block_text bs))
+
+stops_from : (h : Head) (bs : List PlacedBlock) (x : List ℕ) → IsHead h → Stops (length bs) (length (front_text h bs)) x → Stops (0 + length bs) (69 + length (flat_map block_text bs)) x
+stops_from h bs x is stops placed y good few near e =
+    let long = length-front_text h bs is in
+    stops placed y good (omega arith) (omega arith) e
+
+-- two good fronts of a stream, behind which no further block comes, are one
+pub same_front : (h k : Head) (bs cs : List PlacedBlock) (x y : List ℕ) → IsFront h bs → IsFront k cs
+    → Stops (length bs) (length (front_text h bs)) x → Stops (length cs) (length (front_text k cs)) y
+    → front_text h bs ++ x ≡ front_text k cs ++ y → (h ≡ k) × ((bs ≡ cs) × (x ≡ y))
+same_front h k bs cs x y is_h is_k stop_x stop_y e =
+    let heads = head_same h k _ _ is_h.head is_k.head (sym (front_text-append h bs x) ∙ e ∙ front_text-append k cs y) in
+    let long_h = length-front_text h bs is_h.head in
+    let long_k = length-front_text k cs is_k.head in
+    let few_h = is_h.count in
+    let few_k = is_k.count in
+    let near_h = is_h.size in
+    let near_k = is_k.size in
+    (heads.0, same_blocks 0 69 bs cs x y is_h.blocks is_k.blocks (omega arith) (omega arith) (omega arith) (omega arith) (stops_from h bs x is_h.head stop_x) (stops_from k cs y is_k.head stop_y) heads.1)
+
+-- a valid image's text is a good front and the end
+pub text-append : (image : ImageValue) (x : List ℕ) → text image ++ x ≡ front_text image.head image.blocks ++ (header_text (end_header image.eof_flags) ++ x)
+unfolding text
+text-append image x = append_assoc (front_text image.head image.blocks) (header_text (end_header image.eof_flags)) x
+
+pub length-text : (image : ImageValue) → IsValid image → length (text image) ≡ length (front_text image.head image.blocks) + 10
+unfolding text
+length-text image valid = let long = length-header_text (end_header image.eof_flags) (IsHeader-end_header image.eof_flags valid.eof_flags) in omega (arith, length-append (front_text image.head image.blocks) (header_text (end_header image.eof_flags)))
+
+pub IsFront-image : (image : ImageValue) → IsValid image → IsFront image.head image.blocks
+IsFront-image image valid = record {
+  head = valid.head;
+  blocks = valid.blocks;
+  count = let few = valid.count in omega arith;
+  size = let near = valid.size in omega (arith, length-text image valid);
+}
+
+pub one_image : (a b : ImageValue) (x y : List ℕ) → IsValid a → IsValid b → text a ++ x ≡ text b ++ y → (a ≡ b) × (x ≡ y)
+one_image a b x y valid_a valid_b e =
+    let fronts = same_front a.head b.head a.blocks b.blocks _ _ (IsFront-image a valid_a) (IsFront-image b valid_b) (Stops-end _ _ a.eof_flags x valid_a.eof_flags) (Stops-end _ _ b.eof_flags y valid_b.eof_flags) (sym (text-append a x) ∙ e ∙ text-append b y) in
+    let ends = header_same (end_header a.eof_flags) (end_header b.eof_flags) x y (IsHeader-end_header _ valid_a.eof_flags) (IsHeader-end_header _ valid_b.eof_flags) fronts.1.1 in
+    let flags : a.eof_flags ≡ b.eof_flags = ap (λ (h : BlockHeader). h.flags) ends.0 in
+    ((λ i. record { head = fronts.0 i; blocks = fronts.1.0 i; eof_flags = flags i }), ends.1)
+
+pub no_prefix : (a b : ImageValue) (x : List ℕ) → IsValid a → IsValid b → text b ≡ text a ++ x → x ≡ []
+no_prefix a b x valid_a valid_b e = (one_image a b x [] valid_a valid_b (sym e ∙ sym (append-nil (text b)))).1
+
+broken_there : (stream : List ℕ) (place : ℕ) (why : ReadWhy) (r : RefusedAtBlock stream place why) → BlockBreaks (length r.blocks) (length (front_text r.head r.blocks)) r.rest why
+broken_there stream place why r = subst (λ p. BlockBreaks (length r.blocks) p r.rest why) r.place_is (first_is_broken (BlockBreaks (length r.blocks) place r.rest) block_rules why r.first)
+
+pub not_both : (image : ImageValue) (behind : List ℕ) (place : ℕ) (why : ReadWhy) → IsValid image → Refused (text image ++ behind) place why → ⊥
+not_both image behind place why valid (inl refused) =
+    let rest = flat_map block_text image.blocks ++ (header_text (end_header image.eof_flags) ++ behind) in
+    let broken = first_is_broken (HeadBreaks (text image ++ behind)) head_rules why refused.first in
+    head_unbroken image.head rest valid.head why (subst (λ s. HeadBreaks s why) (text-append image behind ∙ front_text-append image.head image.blocks _) broken)
+not_both image behind place why valid (inr refused) =
+    let broken = broken_there _ place why refused in
+    let few = valid.count in
+    let near = valid.size in
+    let long = length-text image valid in
+    let fronts = same_front image.head refused.head image.blocks refused.blocks _ _ (IsFront-image image valid) refused.front (Stops-end _ _ image.eof_flags behind valid.eof_flags) (Stops-broken _ _ refused.rest why broken) (sym (text-append image behind) ∙ refused.stream_is) in
+    let at_end : BlockBreaks (length image.blocks) (length (front_text image.head image.blocks)) (header_text (end_header image.eof_flags) ++ behind) why = rw (fronts.0, fronts.1.0, fronts.1.1) broken in
+    end_unbroken _ _ image.eof_flags behind valid.eof_flags (omega arith) (omega arith) why at_end
+
+pub one_refusal : (stream : List ℕ) (p q : ℕ) (v w : ReadWhy) → Refused stream p v → Refused stream q w → (p ≡ q) × (v ≡ w)
+one_refusal stream p q v w (inl a) (inl b) =
+    let same = first_unique (HeadBreaks stream) head_rules v w a.first b.first in
+    (a.place_is ∙ ap head_place same ∙ sym b.place_is, same)
+one_refusal stream p q v w (inl a) (inr b) =
+    absurd (head_unbroken b.head _ b.front.head v (subst (λ s. HeadBreaks s v) (b.stream_is ∙ front_text-append b.head b.blocks b.rest) (first_is_broken (HeadBreaks stream) head_rules v a.first)))
+one_refusal stream p q v w (inr a) (inl b) =
+    absurd (head_unbroken a.head _ a.front.head w (subst (λ s. HeadBreaks s w) (a.stream_is ∙ front_text-append a.head a.blocks a.rest) (first_is_broken (HeadBreaks stream) head_rules w b.first)))
+one_refusal stream p q v w (inr a) (inr b) =
+    let fronts = same_front a.head b.head a.blocks b.blocks a.rest b.rest a.front b.front (Stops-broken _ _ a.rest v (broken_there stream p v a)) (Stops-broken _ _ b.rest w (broken_there stream q w b)) (sym a.stream_is ∙ b.stream_is) in
+    let place : p ≡ q = a.place_is ∙ (λ i. length (front_text (fronts.0 i) (fronts.1.0 i))) ∙ sym b.place_is in
+    let first_w : IsFirstBroken (BlockBreaks (length a.blocks) p a.rest) block_rules w = subst (λ r. IsFirstBroken (BlockBreaks (length a.blocks) p r) block_rules w) (sym fronts.1.1) (subst (λ (bs : List PlacedBlock). IsFirstBroken (BlockBreaks (length bs) p b.rest) block_rules w) (sym fronts.1.0) (subst (λ n. IsFirstBroken (BlockBreaks (length b.blocks) n b.rest) block_rules w) (sym place) b.first)) in
+    (place, first_unique (BlockBreaks (length a.blocks) p a.rest) block_rules v w a.first first_w)

@@ -1,0 +1,28 @@
+use Rattle.std.proofs.Common.{◌≡◌, ◌++◌, length, subst, ap, sym, ◌∙◌, arith}
+use Rattle.std.proofs.lemmas.List.{append-nil}
+use Rattle.t3_blocks.specs.Spelling.{Spells}
+use Rattle.t3_image_read.specs.declared.taker.Part.TheVariants.{InPayload}
+use Rattle.t3_image_read.specs.ImageText.{front_text}
+use Rattle.t3_image_read.specs.Validity.{IsFront}
+use Rattle.t3_image_read.proofs.Steps.{at_part, taken-at, within_part, payload_settles}
+use Rattle.t3_image_read.proofs.taker.Taker.settle_payload.Goals as goal
+
+pub returns-clause-settled : goal.returns-clause-settled
+returns-clause-settled c =
+    let t = c.args.self.now in
+    let header = c.args.header in
+    let at = at_part t (InPayload header) c.requires.part c.requires.at in
+    let within = within_part t (InPayload header) c.requires.part c.requires.within in
+    let block = c.in-Ok.block in
+    let spells = subst (λ v. Spells block header.name v.items) c.replace-payload.ensures.value c.in-Ok.ensures.block in
+    let long : length t.held.items ≡ header.size = omega (arith, c.len.ensures, t.held.ok.0) in
+    let whole = payload_settles t.head t.blocks.items block header t.place t.held.items at.0.front at.0.place_is at.1 long spells in
+    let pushed = c.in_ok-push.ensures.items in
+    let none = ap (λ v. v.items) c.replace-payload.ensures.after ∙ c.new.ensures.items in (
+      record {
+        at = record { front = subst (λ bs. IsFront t.head bs) (sym pushed) whole.front; place_is = whole.place_is ∙ ap (λ bs. length (front_text t.head bs)) (sym pushed) };
+        good = tt;
+        short = omega (arith, ap length none);
+      },
+      ap (λ h. front_text t.head c.push.new.self.items ++ h) none ∙ append-nil (front_text t.head c.push.new.self.items) ∙ ap (front_text t.head) pushed ∙ whole.is ∙ sym (taken-at t (InPayload header) c.requires.part),
+    )

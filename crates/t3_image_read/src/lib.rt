@@ -1,0 +1,19 @@
+//! Reads an image from a stream that comes in pieces of any lengths.
+//!
+//! An [`ImageReader`] is fed until it is done or refuses. What it answers depends on the stream alone,
+//! and not on how the stream was cut.
+#![tactic(auto)]
+
+mod header;
+mod image;
+mod laws;
+mod reader;
+mod refusal;
+mod taker;
+#[cfg(test)]
+mod tests;
+
+pub use image::{Head, Image, Placed, PlacedBlock};
+pub use laws::one_reading;
+pub use reader::{Fed, ImageReader};
+pub use refusal::{ReadRefusal, ReadWhy};

@@ -1,0 +1,94 @@
+//! One image in pieces of each length: the same answers, whatever the cut.
+use super::*;
+use std::alloc::{AllocError, Global};
+use std::test::Fail;
+use t3_blocks::Block;
+
+/// A header whose reserved bytes are 0 and whose time is spaces, a block, and the end.
+fn image(alloc: Global, flags: u8) -> Result<Vec<u8>, AllocError> {
+    let mut bytes = Vec::new(alloc);
+    bytes.extend_from_slice(b"T3-image\r\n\x1a\x01\x00")?;
+    bytes.extend_from_slice(&[0; 32])?;
+    bytes.extend_from_slice(&[32; 24])?;
+    bytes.extend_from_slice(&[0x5A, 0x5A, 0x5A, 0x5A, 3, 0, 0, 0, flags, 0, 1, 2, 3])?;
+    bytes.extend_from_slice(b"EOF \x00\x00\x00\x00\x02\x00")?;
+    Ok(bytes)
+}
+
+#[test]
+fn reads_an_image_in_pieces_of_each_length(rt: HostRuntime) -> Result<(), Fail> {
+    let mut bytes = image(rt.alloc(), 0)?;
+    let end = bytes.len();
+    assert_eq!(rt; end, 92);
+    // What stands behind the end is left alone.
+    bytes.extend_from_slice(b"behind")?;
+    for length in 1..=bytes.len() {
+        let mut reader = ImageReader::new(rt.alloc());
+        let mut taken = 0;
+        for piece in bytes.chunks(length) {
+            let fed = reader.feed(piece)?;
+            if taken >= end {
+                assert_eq!(rt; fed, Fed::Done { used: 0 }, "behind the end, by {length}");
+            } else if taken + piece.len() >= end {
+                assert_eq!(rt;
+                    fed,
+                    Fed::Done { used: end - taken },
+                    "at the end, by {length}"
+                );
+            } else {
+                assert_eq!(rt; fed, Fed::More, "at {taken}, by {length}");
+            }
+            taken = taken.saturating_add(piece.len());
+        }
+        let image = reader.finish()?;
+        assert_eq!(rt; image.head.stamp, [32; 24]);
+        assert_eq!(rt; image.eof_flags, 2);
+        assert_eq!(rt; image.blocks.0.len(), 1);
+        for placed in &image.blocks.0 {
+            let Block::Opaque { name, bytes } = &placed.block;
+            assert_eq!(rt; placed.flags, 0);
+            assert_eq!(rt; *name, *b"ZZZZ");
+            assert_eq!(rt; bytes.0.as_slice(), [1, 2, 3].as_slice());
+        }
+    }
+    Ok(())
+}
+
+#[test]
+fn refuses_an_image_in_pieces_of_each_length(rt: HostRuntime) -> Result<(), Fail> {
+    let bytes = image(rt.alloc(), 1)?;
+    let refusal = ReadRefusal::At {
+        place: 69,
+        why: ReadWhy::UnknownMandatory,
+    };
+    for length in 1..=bytes.len() {
+        let mut reader = ImageReader::new(rt.alloc());
+        let mut taken = 0usize;
+        for piece in bytes.chunks(length) {
+            taken = taken.saturating_add(piece.len());
+            // The block's header ends behind 79 bytes.
+            let want = if taken < 79 {
+                Ok(Fed::More)
+            } else {
+                Err(refusal)
+            };
+            assert_eq!(rt; reader.feed(piece), want, "before {taken}, by {length}");
+        }
+        assert!(rt; reader.finish().err() == Some(refusal), "by {length}");
+    }
+    Ok(())
+}
+
+#[test]
+fn refuses_what_ends_too_early(rt: HostRuntime) -> Result<(), Fail> {
+    let bytes = image(rt.alloc(), 0)?;
+    let front = bytes.get(..68).ok_or("the image has a header")?;
+    let mut cut = ImageReader::new(rt.alloc());
+    assert_eq!(rt; cut.feed(front)?, Fed::More);
+    let refusal = ReadRefusal::At {
+        place: 0,
+        why: ReadWhy::Truncated,
+    };
+    assert!(rt; cut.finish().err() == Some(refusal));
+    Ok(())
+}
