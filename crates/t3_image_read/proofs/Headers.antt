@@ -34,7 +34,7 @@ pub header_text-parts : (name : List ℕ) (size flags : ℕ) (bytes : List ℕ) 
 header_text-parts name size flags bytes is_name is_size is_flags =
     regroup (record { name = name; size = size; flags = flags }) (drop 10 bytes) ∙ rw (← is_name, ← is_size, ← is_flags) (four_four_two bytes)
 
-AreBytes-take : (n : ℕ) (bytes : List ℕ) → AreBytes bytes → AreBytes (take n bytes)
+pub AreBytes-take : (n : ℕ) (bytes : List ℕ) → AreBytes bytes → AreBytes (take n bytes)
 AreBytes-take zero bytes all = tt
 AreBytes-take (suc n) [] all = tt
 AreBytes-take (suc n) (b ∷ bytes) all = (all.0, AreBytes-take n bytes all.1)

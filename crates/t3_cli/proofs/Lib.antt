@@ -1,0 +1,4 @@
+pub mod FileRead
+pub mod Shown
+pub mod Outcomes
+pub mod Commands

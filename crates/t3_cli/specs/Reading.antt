@@ -1,0 +1,77 @@
+-- What is read of an image's file, as the commands hand it on.
+use Rattle.std.specs.Prelude.{◌≡◌, ℕ, ◌≤◌, List, ◌++◌, length, take, drop, Option, Some, None, Result, Ok, Err}
+use Rattle.std.specs.FinMap.{get}
+use Rattle.t3_io.specs.Files.{Files}
+use Rattle.t3_io.specs.declared.depot.Got.{Got}
+use Rattle.t3_io.specs.declared.depot.Got.TheVariants as got
+use Rattle.t3_io.specs.declared.refusal.DeviceRefusal.{DeviceRefusal}
+use Rattle.t3_io.specs.declared.refusal.DeviceRefusal.TheVariants as device
+use Rattle.t3_image_read.specs.declared.refusal.ReadRefusal.TheVariants as refusal
+use Rattle.t3_image_read.specs.declared.refusal.ReadWhy.TheVariants.{Truncated}
+use Rattle.t3_image_read.specs.ImageText.{ImageValue, text}
+use Rattle.t3_image_read.specs.Validity.{IsValid}
+use Rattle.t3_image_read.specs.Refusal.{Refused}
+use Rattle.t3_image_read.specs.Reader.{Reading, Taking, Ended, Failed}
+use Rattle.t3_cli.specs.declared.read.ReadImage.{ReadImage}
+use Rattle.t3_cli.specs.declared.read.ReadImage.TheVariants as read
+use Rattle.t3_cli.specs.Outcome.{read_bytes}
+
+-- the bytes give an image that uses so many of them
+pub record Begins (bytes : List ℕ) (image : ImageValue) (used : ℕ) : Type 0 where
+  pub behind : List ℕ
+  pub valid : IsValid image
+  pub begins : bytes ≡ text image ++ behind
+  pub used_is : used ≡ length (text image)
+
+abbrev pub ReadsBytes : Option (List ℕ) → ReadImage → Type 0
+ReadsBytes None read.Absent = Unit {0}
+ReadsBytes None _ = ⊥
+ReadsBytes (Some file) read.Absent = ⊥
+ReadsBytes (Some file) (read.Refused place why) = Refused (read_bytes file) place why
+ReadsBytes (Some file) (read.Image image used) = Begins (read_bytes file) image used
+
+-- what is read of a file, where the device tells its files
+abbrev pub ReadsImage : Option Files → List ℕ → Result ReadImage DeviceRefusal → Type 0
+ReadsImage None name answer = Unit {0}
+ReadsImage (Some files) name (Err _) = Unit {0}
+ReadsImage (Some files) name (Ok found) = ReadsBytes (get files name) found
+
+-- a read gave bytes of the file from the place on, at most so many, and none only at its end
+pub record IsPiece (file : List ℕ) (at want : ℕ) (buffer : List ℕ) (count : ℕ) : Type 0 where
+  pub fits : count ≤ want
+  pub there : count ≤ length (drop at file)
+  pub is : take count buffer ≡ take count (drop at file)
+  pub ended : count ≡ 0 → length file ≤ at
+
+abbrev pub PieceOf : Option (List ℕ) → ℕ → ℕ → List ℕ → Got → Type 0
+PieceOf None at want buffer got.Absent = Unit {0}
+PieceOf None at want buffer (got.Count count) = ⊥
+PieceOf (Some file) at want buffer got.Absent = ⊥
+PieceOf (Some file) at want buffer (got.Count count) = IsPiece file at want buffer count
+
+abbrev pub GivesPiece : Option Files → List ℕ → ℕ → ℕ → List ℕ → Result Got DeviceRefusal → Type 0
+GivesPiece None name at want buffer answer = Unit {0}
+GivesPiece (Some files) name at want buffer (Err _) = Unit {0}
+GivesPiece (Some files) name at want buffer (Ok found) = PieceOf (get files name) at want buffer found
+
+-- what a reader that is done with is handed on as
+abbrev pub Concludes : Reading → ℕ → Result ReadImage DeviceRefusal → Type 0
+Concludes (Taking stream) used answer = (place : ℕ) × (answer ≡ Ok (read.Refused place Truncated)) × Refused stream place Truncated
+Concludes (Ended image) used answer = answer ≡ Ok (read.Image image used)
+Concludes (Failed (refusal.At place why)) used answer = answer ≡ Ok (read.Refused place why)
+Concludes (Failed refusal.NoMemory) used answer = answer ≡ Err device.NoMemory
+
+-- the reader has taken the front of the file up to the place
+abbrev pub FrontOf : Option (List ℕ) → List ℕ → ℕ → Type 0
+FrontOf None taken at = at ≡ 0
+FrontOf (Some file) taken at = taken ≡ take at file
+
+abbrev pub SoFar : Option Files → List ℕ → List ℕ → ℕ → Type 0
+SoFar None name taken at = Unit {0}
+SoFar (Some files) name taken at = FrontOf (get files name) taken at
+
+pub record IsReading (files : Option Files) (name : List ℕ) (reader : Reading) (at : ℕ) : Type 0 where
+  pub taken : List ℕ
+  pub reader_is : reader ≡ Taking taken
+  pub long : length taken ≡ at
+  pub so_far : SoFar files name taken at

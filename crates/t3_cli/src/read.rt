@@ -1,0 +1,111 @@
+//! Reads an image's file, piece by piece.
+ghost use Rattle.std.specs.Prelude.{◌≡◌, ◌≤◌, ◌<◌, ◌-◌, ◌^◌, [], length, IfOk};
+ghost use Rattle.t3_holder.specs.FileName.{IsFileName};
+ghost use Rattle.t3_io.specs.Cause.{MovesFaults};
+ghost use Rattle.t3_io.specs.Reading.{IsAtMost};
+ghost use Rattle.t3_image_read.specs.Reader.{Taking};
+ghost use Rattle.t3_cli.specs.Reading.{ReadsImage, GivesPiece, Concludes};
+
+use std::alloc::{AllocError, Global};
+use t3_image_read::{Fed, Image, ImageReader, ReadRefusal, ReadWhy};
+use t3_io::{Depot, DeviceRefusal, Got};
+
+/// A file is read up to so many bytes: one more than an image has.
+const READ_LIMIT: u64 = 268_435_457;
+
+/// How many bytes are asked for at once.
+const PIECE: usize = 1 << 16;
+
+/// What an image's file has.
+#[derive(Debug, Drop)]
+pub(crate) enum ReadImage {
+    /// There is no such file.
+    Absent,
+    Refused { place: u32, why: ReadWhy },
+    /// An image, and how many of the file's bytes it uses.
+    Image { image: Image, used: u64 },
+}
+
+/// Reads a file from its start until its bytes are an image or are refused.
+pub(crate) fn read_image<D: Depot>(
+    alloc: Global,
+    name: &[u8],
+    depot: &mut D,
+) -> Result<ReadImage, DeviceRefusal>
+    requires name { IsFileName name.now }
+    requires faults { D.faults depot.old < 2 ^ 64 - 1 }
+    ensures read { ReadsImage (D.files depot.old) name.now result }
+    ensures files { D.files depot.new ≡ D.files depot.old }
+    ensures cause { MovesFaults (D.faults depot.old) (D.faults depot.new) result }
+{
+    let mut buf = zeroed(alloc, PIECE)?;
+    read_pieces(name, depot, ImageReader::new(alloc), &mut buf)
+}
+
+fn zeroed(alloc: Global, size: usize) -> Result<Vec<u8>, AllocError>
+    ensures { IfOk result (λ buf. length buf.items ≡ size) }
+{
+    vec![in alloc; 0; size]
+}
+
+/// Feeds the pieces of a file, each at most as long as the buffer.
+fn read_pieces<D: Depot>(
+    name: &[u8],
+    depot: &mut D,
+    mut reader: ImageReader,
+    buf: &mut [u8],
+) -> Result<ReadImage, DeviceRefusal>
+    requires name { IsFileName name.now }
+    requires faults { D.faults depot.old < 2 ^ 64 - 1 }
+    requires fresh { reader ≡ Taking [] }
+    requires room { 0 < length buf.old }
+    ensures read { ReadsImage (D.files depot.old) name.now result }
+    ensures files { D.files depot.new ≡ D.files depot.old }
+    ensures cause { MovesFaults (D.faults depot.old) (D.faults depot.new) result }
+{
+    let mut at = 0;
+    while at < READ_LIMIT {
+        let want = buf.len().min((READ_LIMIT - at) as usize);
+        match read_piece(depot, name, at, buf, want)? {
+            Got::Absent => return Ok(ReadImage::Absent),
+            Got::Count(0) => return concluded(reader, at),
+            Got::Count(count) => match reader.feed(&buf[..count]) {
+                Ok(Fed::More) => at += count as u64,
+                Ok(Fed::Done { used }) => return concluded(reader, at + used as u64),
+                Err(_) => return concluded(reader, at),
+            },
+        }
+    }
+    concluded(reader, at)
+}
+
+/// Reads at most so many bytes to the front of the buffer.
+fn read_piece<D: Depot>(
+    depot: &mut D,
+    name: &[u8],
+    at: u64,
+    buf: &mut [u8],
+    want: usize,
+) -> Result<Got, DeviceRefusal>
+    requires name { IsFileName name.now }
+    requires faults { D.faults depot.old < 2 ^ 64 - 1 }
+    requires some { 0 < want }
+    requires room { want ≤ length buf.old }
+    ensures piece { GivesPiece (D.files depot.old) name.now at want buf.new result }
+    ensures count { IfOk result (IsAtMost want) }
+    ensures files { D.files depot.new ≡ D.files depot.old }
+    ensures cause { MovesFaults (D.faults depot.old) (D.faults depot.new) result }
+{
+    depot.read_at(name, at, &mut buf[..want])
+}
+
+/// What a reader gives that takes no more, and how many bytes its image uses.
+fn concluded(reader: ImageReader, used: u64) -> Result<ReadImage, DeviceRefusal>
+    ensures { Concludes reader used result }
+{
+    match reader.finish() {
+        Ok(image) => Ok(ReadImage::Image { image, used }),
+        Err(ReadRefusal::At { place, why }) => Ok(ReadImage::Refused { place, why }),
+        Err(ReadRefusal::NoMemory) => Err(DeviceRefusal::NoMemory),
+    }
+}

@@ -1,0 +1,33 @@
+//! Shows text on a console, and makes the status of how that went.
+ghost use Rattle.std.specs.Prelude.{◌≡◌, ◌<◌, ◌-◌, ◌^◌, ◌⊎◌};
+ghost use Rattle.t3_io.specs.Cause.{MovesFaults};
+ghost use Rattle.t3_cli.specs.Showing.{ShowsAll, EndsShown};
+
+use crate::status::Status;
+use t3_io::{Console, DeviceRefusal};
+
+/// Shows a line, and answers the status that goes with it, or that of the console's failure.
+pub(crate) fn end<C: Console>(console: &mut C, line: &str, status: Status) -> Status
+    requires { C.faults console.old < 2 ^ 64 - 1 }
+    ensures shown { EndsShown (C.session console.old) (C.session console.new) line.now status result }
+    ensures cause { result ≡ Status.ConsoleFault → (C.faults console.old < C.faults console.new) ⊎ (status ≡ Status.ConsoleFault) }
+{
+    match show(console, line.as_bytes()) {
+        Ok(()) => status,
+        Err(DeviceRefusal::Fault) => Status::ConsoleFault,
+        Err(DeviceRefusal::NoMemory) => Status::NoMemory,
+    }
+}
+
+/// Shows a text whole, piece by piece as the console takes it.
+fn show<C: Console>(console: &mut C, text: &[u8]) -> Result<(), DeviceRefusal>
+    requires { C.faults console.old < 2 ^ 64 - 1 }
+    ensures shown { ShowsAll (C.session console.old) (C.session console.new) text.now result }
+    ensures cause { MovesFaults (C.faults console.old) (C.faults console.new) result }
+{
+    let mut at = 0;
+    while at < text.len() {
+        at += console.write(&text[at..])?;
+    }
+    Ok(())
+}

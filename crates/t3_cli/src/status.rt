@@ -1,0 +1,30 @@
+ghost use Rattle.std.specs.Prelude.{◌≡◌};
+ghost use Rattle.t3_cli.specs.Status.{code_of};
+
+/// How a call of the program ended. Its code is the exit status of the process.
+#[derive(Clone, Copy, Debug, PartialEq, Eq, Hash)]
+pub enum Status {
+    /// The command was carried out.
+    Done = 0,
+    /// The words are no command.
+    Usage = 1,
+    /// The named input file isn't there.
+    Absent = 2,
+    /// The input file is no image.
+    ImageRefused = 3,
+    /// The files failed.
+    DepotFault = 11,
+    /// The console failed.
+    ConsoleFault = 12,
+    /// An allocation was refused.
+    NoMemory = 13,
+}
+
+impl Status {
+    /// The exit status of the process.
+    pub fn code(self) -> u8
+        ensures { result ≡ code_of self }
+    {
+        self as u8
+    }
+}

@@ -1,0 +1,137 @@
+//! The worked images, over the devices in memory.
+use super::*;
+use std::alloc::{AllocError, Global};
+use std::test::Fail;
+use t3_io::{SureConsole, SureDepot};
+
+const USAGE: &str = "usage: t3 check or show or list or run or rewrite or asm or drill\n";
+
+/// The signature, the version, 32 reserved bytes 0 and a time of 24 spaces.
+fn header(alloc: Global) -> Result<Vec<u8>, AllocError> {
+    let mut bytes = Vec::new(alloc);
+    bytes.extend_from_slice(b"T3-image\r\n\x1a\x01\x00")?;
+    bytes.extend_from_slice(&[0; 32])?;
+    bytes.extend_from_slice(&[32; 24])?;
+    Ok(bytes)
+}
+
+/// The header and what comes behind it.
+fn image(alloc: Global, behind: &[&[u8]]) -> Result<Vec<u8>, AllocError> {
+    let mut bytes = header(alloc)?;
+    for part in behind {
+        bytes.extend_from_slice(part)?;
+    }
+    Ok(bytes)
+}
+
+/// The status and what is shown with the file `a.t3`, if there is one.
+fn outcome(alloc: Global, words: &[&str], file: Option<&[u8]>) -> Result<(Status, Vec<u8>), Fail> {
+    let mut depot = SureDepot::new(alloc);
+    if let Some(bytes) = file {
+        depot.keep(b"a.t3", bytes)?;
+    }
+    let mut console = SureConsole::new(alloc, b"")?;
+    let mut all = Vec::new(alloc);
+    for word in words {
+        all.push(String::from_str(alloc, word)?)?;
+    }
+    let status = t3_main(alloc, &all, &mut depot, &mut console);
+    Ok((status, Vec::from_slice(alloc, console.shown())?))
+}
+
+#[test]
+fn checks_the_worked_images(rt: HostRuntime) -> Result<(), Fail> {
+    let alloc = rt.alloc();
+    let end: &[u8] = b"EOF \x00\x00\x00\x00\x00\x00";
+    let cut: &[u8] = b"EOF \x00\x00\x00\x00\x00";
+    let sized_end: &[u8] = b"EOF \x01\x00\x00\x00\x00\x00\x00";
+    let kept: &[u8] = b"ZZZZ\x03\x00\x00\x00\x00\x00\x01\x02\x03";
+    let mandatory: &[u8] = b"ZZZZ\x03\x00\x00\x00\x01\x00\x01\x02\x03";
+    let too_long: &[u8] = b"OBJS\x01\x00\x00\x10\x01\x00";
+    let ten: &[u8] = &[7; 10];
+    let mut other_signature = image(alloc, &[end])?;
+    if let Some(first) = other_signature.first_mut() {
+        *first = 0x55;
+    }
+    let rows: [(Vec<u8>, &str, Status); 10] = [
+        (
+            image(alloc, &[end])?,
+            "ok blocks=1 bytes=79\n",
+            Status::Done,
+        ),
+        (
+            image(alloc, &[cut])?,
+            "refused Truncated at 69\n",
+            Status::ImageRefused,
+        ),
+        (
+            image(alloc, &[end, ten])?,
+            "ok blocks=1 bytes=79\n",
+            Status::Done,
+        ),
+        (
+            other_signature,
+            "refused Signature at 0\n",
+            Status::ImageRefused,
+        ),
+        (
+            Vec::new(alloc),
+            "refused Truncated at 0\n",
+            Status::ImageRefused,
+        ),
+        (
+            image(alloc, &[kept, end])?,
+            "ok blocks=2 bytes=92\n",
+            Status::Done,
+        ),
+        (
+            image(alloc, &[mandatory, end])?,
+            "refused UnknownMandatory at 69\n",
+            Status::ImageRefused,
+        ),
+        (
+            image(alloc, &[too_long])?,
+            "refused Unbuilt at 69\n",
+            Status::ImageRefused,
+        ),
+        (
+            image(alloc, &[sized_end])?,
+            "refused Unbuilt at 69\n",
+            Status::ImageRefused,
+        ),
+        (
+            image(alloc, &[kept])?,
+            "refused Truncated at 82\n",
+            Status::ImageRefused,
+        ),
+    ];
+    for (file, want, status) in &rows {
+        let (got, shown) = outcome(alloc, &["check", "a.t3"], Some(file))?;
+        assert_eq!(rt; shown.as_slice(), want.as_bytes());
+        assert_eq!(rt; got, *status, "{want}");
+    }
+    let (status, shown) = outcome(alloc, &["check", "x.t3"], None)?;
+    assert_eq!(rt; shown.as_slice(), b"absent x.t3\n".as_slice());
+    assert_eq!(rt; status, Status::Absent);
+    Ok(())
+}
+
+#[test]
+fn other_words_show_the_usage(rt: HostRuntime) -> Result<(), Fail> {
+    let rows: [&[&str]; 7] = [
+        &[],
+        &["check"],
+        &["check", "a.t3", "b.t3"],
+        &["check", "-a.t3"],
+        &["check", "folder/a.t3"],
+        &["--help"],
+        &["run", "a.t3", "--steps=007"],
+    ];
+    for words in &rows {
+        let (status, shown) = outcome(rt.alloc(), words, None)?;
+        assert_eq!(rt; shown.as_slice(), USAGE.as_bytes());
+        assert_eq!(rt; status, Status::Usage);
+        assert_eq!(rt; status.code(), 1);
+    }
+    Ok(())
+}

@@ -1,0 +1,67 @@
+//! The one call that the program makes.
+ghost use Rattle.std.specs.Prelude.{◌≡◌, ◌≢◌, ◌<◌, ◌-◌, ◌^◌, ◌⊎◌, List, ℕ, Option, None, IfSome, map, string_bytes};
+ghost use Rattle.t3_io.specs.Files.{Files};
+ghost use Rattle.t3_cli.specs.Command.{Asked, command};
+ghost use Rattle.t3_cli.specs.Lines.{usage_line};
+ghost use Rattle.t3_cli.specs.Outcome.{Outcome, IsResult, IsAbsent, IsNoImage, HoldBytes};
+ghost use Rattle.t3_cli.specs.Top.{Yields, Comes, IsCarriedOut, IsWhole, IsFront, Says, Told};
+
+use crate::check::check;
+use crate::command::Command;
+use crate::status::Status;
+use crate::{lines, show};
+use std::alloc::Global;
+use t3_io::{Console, Depot};
+
+/// Does all that the program does: carries out the command that the words are, over the files of a
+/// depot and a console, and answers how that ended.
+///
+/// `check IMAGE` shows `ok blocks=B bytes=U`, or why the file is no image. Words that are no command
+/// show how the program is used. Each answer but the last three comes exactly where its cause holds,
+/// and always with the whole of what is to be shown. `DepotFault` and `ConsoleFault` come only where
+/// that device counted a fault, and `NoMemory` where an allocation was refused; then a front of the
+/// right text was shown.
+pub fn t3_main<D: Depot, C: Console>(
+    alloc: Global,
+    words: &[String],
+    depot: &mut D,
+    console: &mut C,
+) -> Status
+    requires depot { D.faults depot.old < 2 ^ 64 - 1 }
+    requires console { C.faults console.old < 2 ^ 64 - 1 }
+
+    // Where no device faults and memory is there, the outcome is that of the words.
+    ensures complete { D.faults depot.new ≡ D.faults depot.old → C.faults console.new ≡ C.faults console.old → result ≢ Status.NoMemory
+        → Told (D.files depot.old) (C.session console.old) (λ files before.
+        IsWhole (command (map string_bytes words.now)) files before result (D.files depot.new) (C.session console.new)) }
+
+    // The cause of each answer.
+    ensures usage { Comes result Status.Usage (command (map string_bytes words.now) ≡ None) }
+    ensures absent { IfSome (D.files depot.old) (λ files. Comes result Status.Absent (IsAbsent (command (map string_bytes words.now)) files)) }
+    ensures image_refused { IfSome (D.files depot.old) (λ files. Comes result Status.ImageRefused (IsNoImage (command (map string_bytes words.now)) files)) }
+    ensures done { IfSome (D.files depot.old) (λ files. Comes result Status.Done (IsCarriedOut (command (map string_bytes words.now)) files)) }
+    ensures depot_fault { result ≡ Status.DepotFault → D.faults depot.old < D.faults depot.new }
+    ensures console_fault { result ≡ Status.ConsoleFault → C.faults console.old < C.faults console.new }
+
+    // An answer other than the last three comes with its whole outcome, whatever the devices did.
+    ensures whole { Told (D.files depot.old) (C.session console.old) (λ files before. ¬ Yields result →
+        IsWhole (command (map string_bytes words.now)) files before result (D.files depot.new) (C.session console.new)) }
+
+    // After one of those three, a front of it stands.
+    ensures front { Told (D.files depot.old) (C.session console.old) (λ files before. Yields result →
+        IsFront (command (map string_bytes words.now)) files before (D.files depot.new) (C.session console.new)) }
+
+    // What is shown of the usage depends on no file.
+    ensures usage_shown { result ≡ Status.Usage → IfSome (C.session console.old) (λ before. Says before (C.session console.new) usage_line) }
+{
+    match Command::parse(words) {
+        None => show::end(console, lines::USAGE, Status::Usage),
+        Some(command) => check(alloc, command.image(), depot, console),
+    }
+}
+
+/// The words give exactly one outcome with any files and input.
+pub fn one_outcome()
+    ensures some { (asked : Option Asked) (files : Files) (input : List ℕ) → HoldBytes files → (outcome : Outcome) × IsResult asked files input outcome }
+    ensures one { (asked : Option Asked) (files : Files) (input : List ℕ) (a b : Outcome) → IsResult asked files input a → IsResult asked files input b → a ≡ b }
+{}
