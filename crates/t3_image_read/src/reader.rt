@@ -105,7 +105,7 @@ impl ImageReader {
                 blocks: Placed(taker.blocks),
                 eof_flags,
             }),
-            Outcome::Failed(refusal) => Err(refusal),
+            Outcome::Failed(kept) => Err(kept),
         }
     }
 }

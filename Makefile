@@ -1,0 +1,34 @@
+# Everything here is made from this repository's own files and the kit's `rt`.
+
+PREFIX ?= /usr/local
+SOURCES := $(shell find crates -path '*/out' -prune -o -type f -print) crates.txt HANDLES
+
+.PHONY: all demo test bench install clean
+
+all: build/t3
+
+# `rt run` proves the program and each crate below it, builds it and runs it;
+# the run itself, with no words, ends in the usage line and its status.
+build/t3: $(SOURCES)
+	mkdir -p build
+	cd crates/t3_cli && rm -f out/t3_cli && { rt run || true; } && test -x out/t3_cli
+	cp crates/t3_cli/out/t3_cli $@
+
+demo: build/t3 examples/sample.t3
+	cd examples && ../build/t3 check sample.t3
+
+examples/sample.t3: examples/make.sh
+	sh examples/make.sh
+
+test:
+	.ci/run
+
+bench: build/t3
+	bench/check
+
+install: build/t3
+	install -d "$(DESTDIR)$(PREFIX)/bin"
+	install -m 755 build/t3 "$(DESTDIR)$(PREFIX)/bin/t3"
+
+clean:
+	rm -rf build
