@@ -12,7 +12,7 @@ end_name = codes "EOF "
 abbrev pub read_names : List (List ℕ)
 read_names = codes "ENTP" ∷ codes "CPDF" ∷ codes "CPPG" ∷ codes "MCLD" ∷ codes "FNSD" ∷ codes "OBJS" ∷ codes "SYMD" ∷ []
 
--- the names of the blocks that are kept and passed on unread: symbols, macros, sources, static initializers and resources
+-- the names of the blocks that are kept and passed on unread: symbols, macros, method headers, sources, static initializers and resources
 abbrev pub kept_names : List (List ℕ)
 kept_names = codes "GSYM" ∷ codes "MACR" ∷ codes "MHLS" ∷ codes "SRCF" ∷ codes "SINI" ∷ codes "MRES" ∷ []
 

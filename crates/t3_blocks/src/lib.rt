@@ -8,6 +8,8 @@ mod block;
 mod names;
 mod parse;
 mod refusal;
+#[cfg(test)]
+mod tests;
 
 pub use block::{Block, block_spelling};
 pub use names::{END_NAME, is_unknown_mandatory};

@@ -1,5 +1,5 @@
 -- What the pieces of a file give, one after the other.
-use Rattle.std.proofs.Common.{◌≡◌, ℕ, ◌+◌, ◌≤◌, List, [], ◌++◌, length, take, drop, Option, Some, None, Result, Ok, Err, refl, sym, ap, subst, ◌∙◌, arith}
+use Rattle.std.proofs.Common.{◌≡◌, ◌≢◌, ℕ, ◌+◌, ◌≤◌, List, [], ◌++◌, length, take, drop, Option, Some, None, Result, Ok, Err, refl, sym, ap, subst, ◌∙◌, arith}
 use Rattle.std.specs.FinMap.{get}
 use Rattle.std.proofs.lemmas.List.{take-append-drop, take-take, take_all, length-append, length-take-le}
 use Rattle.t3_io.specs.Files.{Files}
@@ -16,12 +16,12 @@ use Rattle.t3_image_read.specs.declared.refusal.ReadRefusal.TheVariants.{At, NoM
 use Rattle.t3_image_read.specs.declared.refusal.ReadWhy.TheVariants.{Truncated}
 use Rattle.t3_image_read.specs.ImageText.{ImageValue, text}
 use Rattle.t3_image_read.specs.Refusal.{Refused}
-use Rattle.t3_image_read.specs.Reader.{Reading, Taking, Ended, Failed, RefusesBy, EndsIn, Feeds, TakesPiece}
+use Rattle.t3_image_read.specs.Reader.{Reading, Taking, Ended, Failed, RefusesBy, EndsIn, TakesPiece}
 use Rattle.t3_image_read.proofs.Lists.{take_add}
 use Rattle.t3_cli.specs.declared.read.ReadImage.{ReadImage}
 use Rattle.t3_cli.specs.declared.read.ReadImage.TheVariants as read
 use Rattle.t3_cli.specs.Outcome.{read_bytes, read_limit}
-use Rattle.t3_cli.specs.Reading.{ReadsBytes, ReadsImage, IsPiece, PieceOf, GivesPiece, Concludes, FrontOf, SoFar, IsReading}
+use Rattle.t3_cli.specs.Reading.{ReadsBytes, ReadsImage, IsPiece, PieceOf, GivesPiece, Concludes, FrontOf, SoFar, HasRead, used_of, Uses}
 
 -- ---- one file
 
@@ -66,83 +66,108 @@ refused_of (Some file) taken buffer at want count place why so_far piece near re
     let whole : (taken ++ take count buffer) ++ drop (at + count) (read_bytes file) ≡ read_bytes file = ap (λ t. t ++ drop (at + count) (read_bytes file)) (front_and_piece file taken buffer at want count so_far piece) ∙ sym (front_of_read file (at + count) (omega arith)) in
     subst (λ s. Refused s place why) whole (refuses.1 (drop (at + count) (read_bytes file)))
 
-cut_of : (o : Option (List ℕ)) (taken buffer : List ℕ) (at want : ℕ) (place : ℕ) → FrontOf o taken at → PieceOf o at want buffer (got.Count 0) → at ≤ read_limit → Refused taken place Truncated → ReadsBytes o (read.Refused place Truncated)
-cut_of None taken buffer at want place so_far piece near refused = absurd piece
-cut_of (Some file) taken buffer at want place so_far piece near refused = subst (λ s. Refused s place Truncated) (so_far ∙ whole_file file at near (piece.ended refl)) refused
-
-limit_of : (o : Option (List ℕ)) (taken : List ℕ) (at place : ℕ) → FrontOf o taken at → at ≡ read_limit → Refused taken place Truncated → ReadsBytes o (read.Refused place Truncated)
-limit_of None taken at place so_far limit refused = absurd (omega (arith, so_far))
-limit_of (Some file) taken at place so_far limit refused = subst (λ s. Refused s place Truncated) (so_far ∙ ap (λ n. take n file) limit) refused
-
 -- ---- the device's files, where it tells them
 
-taking : (a b : List ℕ) (piece : List ℕ) (answer : _) (after : Reading) (reader : Reading) → reader ≡ Taking a → Feeds reader piece answer after → TakesPiece a piece answer after
-taking a b piece answer after reader is feeds = subst (λ r. Feeds r piece answer after) is feeds
-
-pub begins_reading : (files : Option Files) (name : List ℕ) (reader : Reading) → reader ≡ Taking [] → IsReading files name reader 0
-begins_reading None name reader is = record { taken = []; reader_is = is; long = refl; so_far = tt }
-begins_reading (Some files) name reader is = record { taken = []; reader_is = is; long = refl; so_far = front_none (get files name) }
+pub begins_reading : (files : Option Files) (name : List ℕ) (reader : Reading) → reader ≡ Taking [] → HasRead files name reader 0 0
+begins_reading files name reader is = subst (λ r. HasRead files name r 0 0) (sym is) (refl, refl, none_so_far files)
   where
     front_none : (o : Option (List ℕ)) → FrontOf o [] 0
     front_none None = refl
     front_none (Some file) = refl
 
+    none_so_far : (files : Option Files) → SoFar files name [] 0
+    none_so_far None = tt
+    none_so_far (Some files) = front_none (get files name)
+
 so_far_more : (files : Option Files) (name taken buffer : List ℕ) (at want count : ℕ) → SoFar files name taken at → GivesPiece files name at want buffer (Ok (got.Count count)) → SoFar files name (taken ++ take count buffer) (at + count)
 so_far_more None name taken buffer at want count so_far piece = tt
 so_far_more (Some files) name taken buffer at want count so_far piece = more_of (get files name) taken buffer at want count so_far piece
 
-pub reads_more : (files : Option Files) (name buffer : List ℕ) (reader after : Reading) (at want count : ℕ) → IsReading files name reader at → GivesPiece files name at want buffer (Ok (got.Count count)) → count ≤ length buffer
-    → Feeds reader (take count buffer) (Ok More) after → IsReading files name after (at + count)
-reads_more files name buffer reader after at want count reading piece there feeds =
-    let took = subst (λ r. Feeds r (take count buffer) (Ok More) after) reading.reader_is feeds in
-    record {
-      taken = reading.taken ++ take count buffer;
-      reader_is = took.0;
-      long = omega (arith, reading.long, length-append reading.taken (take count buffer), length-take-le count buffer there);
-      so_far = so_far_more files name reading.taken buffer at want count reading.so_far piece;
-    }
-
 -- the answer is that of the file where the device tells it
-told : (files : Option Files) (name : List ℕ) (found : ReadImage) (answer : Result ReadImage DeviceRefusal) → answer ≡ Ok found → ((all : Files) → files ≡ Some all → ReadsBytes (get all name) found) → ReadsImage files name answer
-told None name found answer is reads = tt
-told (Some files) name found answer is reads = subst (λ a. ReadsImage (Some files) name a) (sym is) (reads files refl)
+told : (files : Option Files) (name : List ℕ) (found : ReadImage) → ((all : Files) → files ≡ Some all → ReadsBytes (get all name) found) → ReadsImage files name (Ok found)
+told None name found reads = tt
+told (Some files) name found reads = reads files refl
 
-wanting : (files : Option Files) (name : List ℕ) (answer : Result ReadImage DeviceRefusal) → answer ≡ Err device.NoMemory → ReadsImage files name answer
-wanting None name answer is = tt
-wanting (Some files) name answer is = subst (λ a. ReadsImage (Some files) name a) (sym is) tt
+-- what a piece adds to what is known, where the reader was taking
+taking_more : (files : Option Files) (name taken buffer : List ℕ) (after : Reading) (at want count : ℕ) (answer : Result Fed ReadRefusal) → length taken ≡ at → SoFar files name taken at → GivesPiece files name at want buffer (Ok (got.Count count)) → count ≤ length buffer → at + want ≤ read_limit
+    → TakesPiece taken (take count buffer) answer after → HasRead files name after (at + count) (at + used_of count answer)
+taking_more files name taken buffer after at want count (Ok More) long so_far piece there near took =
+    subst (λ r. HasRead files name r (at + count) (at + count)) (sym took.0) (refl, omega (arith, long, length-append taken (take count buffer), length-take-le count buffer there), so_far_more files name taken buffer at want count so_far piece)
+taking_more files name taken buffer after at want count (Ok (Done used)) long so_far piece there near (image, is, ends) =
+    subst (λ r. HasRead files name r (at + count) (at + used)) (sym is) (
+    told files name (read.Image image (at + used)) (λ all e.
+    done_of (get all name) taken buffer at want count used image (subst (λ f. SoFar f name taken at) e so_far) (subst (λ f. GivesPiece f name at want buffer (Ok (got.Count count))) e piece) long there near ends)
+    )
+taking_more files name taken buffer after at want count (Err (At place why)) long so_far piece there near took =
+    subst (λ r. HasRead files name r (at + count) (at + 0)) (sym took.0) (
+    told files name (read.Refused place why) (λ all e.
+    refused_of (get all name) taken buffer at want count place why (subst (λ f. SoFar f name taken at) e so_far) (subst (λ f. GivesPiece f name at want buffer (Ok (got.Count count))) e piece) near took.1)
+    )
+taking_more files name taken buffer after at want count (Err NoMemory) long so_far piece there near took = subst (λ r. HasRead files name r (at + count) (at + 0)) (sym took.0) tt
 
-pub reads_done : (files : Option Files) (name buffer : List ℕ) (reader after : Reading) (at want count used : ℕ) (answer : Result ReadImage DeviceRefusal) → IsReading files name reader at → GivesPiece files name at want buffer (Ok (got.Count count)) → count ≤ length buffer → at + want ≤ read_limit
-    → Feeds reader (take count buffer) (Ok (Done used)) after → Concludes after (at + used) answer → ReadsImage files name answer
-reads_done files name buffer reader after at want count used answer reading piece there near feeds concludes =
-    let took = subst (λ r. Feeds r (take count buffer) (Ok (Done used)) after) reading.reader_is feeds in
-    let is = subst (λ r. Concludes r (at + used) answer) took.1 concludes in
-    told files name (read.Image took.0 (at + used)) answer is (λ all e.
-    done_of (get all name) reading.taken buffer at want count used took.0 (subst (λ f. SoFar f name reading.taken at) e reading.so_far) (subst (λ f. GivesPiece f name at want buffer (Ok (got.Count count))) e piece) reading.long there near took.2)
+pub reads_more : (files : Option Files) (name buffer : List ℕ) (reader after : Reading) (at want count used more : ℕ) → HasRead files name reader at used → GivesPiece files name at want buffer (Ok (got.Count count)) → count ≤ length buffer → at + want ≤ read_limit
+    → Uses reader (take count buffer) more after → HasRead files name after (at + count) (used + more)
+reads_more files name buffer (Taking taken) after at want count used more has piece there near uses =
+    let size : used_of (length (take count buffer)) uses.answer ≡ used_of count uses.answer = ap (λ n. used_of n uses.answer) (length-take-le count buffer there) in
+    subst (λ n. HasRead files name after (at + count) n) ((λ i. sym has.0 i + sym (uses.used_is ∙ size) i)) (taking_more files name taken buffer after at want count uses.answer has.1 has.2 piece there near uses.feeds)
+reads_more files name buffer (Ended image) after at want count used more has piece there near uses =
+    let none : more ≡ 0 = uses.used_is ∙ ap (λ a. used_of (length (take count buffer)) a) uses.feeds.0 in
+    subst (λ r. HasRead files name r (at + count) (used + more)) (sym uses.feeds.1) (subst (λ n. ReadsImage files name (Ok (read.Image image n))) (omega (arith, none)) has)
+reads_more files name buffer (Failed (At place why)) after at want count used more has piece there near uses = subst (λ r. HasRead files name r (at + count) (used + more)) (sym uses.feeds.1) has
+reads_more files name buffer (Failed NoMemory) after at want count used more has piece there near uses = subst (λ r. HasRead files name r (at + count) (used + more)) (sym uses.feeds.1) tt
 
-pub reads_refused : (files : Option Files) (name buffer : List ℕ) (reader after : Reading) (at want count : ℕ) (refusal : ReadRefusal) (answer : Result ReadImage DeviceRefusal) → IsReading files name reader at → GivesPiece files name at want buffer (Ok (got.Count count)) → at + want ≤ read_limit
-    → Feeds reader (take count buffer) (Err refusal) after → Concludes after at answer → ReadsImage files name answer
-reads_refused files name buffer reader after at want count (At place why) answer reading piece near feeds concludes =
-    let took = subst (λ r. Feeds r (take count buffer) (Err (At place why)) after) reading.reader_is feeds in
-    let is = subst (λ r. Concludes r at answer) took.0 concludes in
-    told files name (read.Refused place why) answer is (λ all e.
-    refused_of (get all name) reading.taken buffer at want count place why (subst (λ f. SoFar f name reading.taken at) e reading.so_far) (subst (λ f. GivesPiece f name at want buffer (Ok (got.Count count))) e piece) near took.1)
-reads_refused files name buffer reader after at want count NoMemory answer reading piece near feeds concludes =
-    let took = subst (λ r. Feeds r (take count buffer) (Err NoMemory) after) reading.reader_is feeds in
-    wanting files name answer (subst (λ r. Concludes r at answer) took.0 concludes)
+-- ---- what a reader is concluded with
 
-pub reads_cut : (files : Option Files) (name buffer : List ℕ) (reader : Reading) (at want : ℕ) (answer : Result ReadImage DeviceRefusal) → IsReading files name reader at → GivesPiece files name at want buffer (Ok (got.Count 0)) → at ≤ read_limit
-    → Concludes reader at answer → ReadsImage files name answer
-reads_cut files name buffer reader at want answer reading piece near concludes =
-    let is = subst (λ r. Concludes r at answer) reading.reader_is concludes in
-    told files name (read.Refused is.0 Truncated) answer is.1 (λ all e.
-    cut_of (get all name) reading.taken buffer at want is.0 (subst (λ f. SoFar f name reading.taken at) e reading.so_far) (subst (λ f. GivesPiece f name at want buffer (Ok (got.Count 0))) e piece) near is.2)
+-- the file ended at the place, or the limit stands there
+abbrev IsEndOf : Option (List ℕ) → ℕ → Type 0
+IsEndOf None at = at ≢ 0
+IsEndOf (Some file) at = take at file ≡ read_bytes file
 
-pub reads_limit : (files : Option Files) (name : List ℕ) (reader : Reading) (at : ℕ) (answer : Result ReadImage DeviceRefusal) → IsReading files name reader at → at ≡ read_limit
-    → Concludes reader at answer → ReadsImage files name answer
-reads_limit files name reader at answer reading limit concludes =
-    let is = subst (λ r. Concludes r at answer) reading.reader_is concludes in
-    told files name (read.Refused is.0 Truncated) answer is.1 (λ all e.
-    limit_of (get all name) reading.taken at is.0 (subst (λ f. SoFar f name reading.taken at) e reading.so_far) limit is.2)
+abbrev IsEnd : Option Files → List ℕ → ℕ → Type 0
+IsEnd None name at = Unit {0}
+IsEnd (Some files) name at = IsEndOf (get files name) at
+
+cut_of : (o : Option (List ℕ)) (taken : List ℕ) (at place : ℕ) → FrontOf o taken at → IsEndOf o at → Refused taken place Truncated → ReadsBytes o (read.Refused place Truncated)
+cut_of None taken at place so_far ended refused = absurd (ended so_far)
+cut_of (Some file) taken at place so_far ended refused = subst (λ s. Refused s place Truncated) (so_far ∙ ended) refused
+
+concludes_at : (files : Option Files) (name : List ℕ) (reader : Reading) (at used : ℕ) (answer : Result ReadImage DeviceRefusal) → HasRead files name reader at used → IsEnd files name at → Concludes reader used answer → ReadsImage files name answer
+concludes_at files name (Taking taken) at used answer has ended concludes =
+    subst (λ a. ReadsImage files name a) (sym concludes.1) (
+    told files name (read.Refused concludes.0 Truncated) (λ all e.
+    cut_of (get all name) taken at concludes.0 (subst (λ f. SoFar f name taken at) e has.2) (subst (λ f. IsEnd f name at) e ended) concludes.2)
+    )
+concludes_at files name (Ended image) at used answer has ended concludes = subst (λ a. ReadsImage files name a) (sym concludes) has
+concludes_at files name (Failed (At place why)) at used answer has ended concludes = subst (λ a. ReadsImage files name a) (sym concludes) has
+concludes_at files name (Failed NoMemory) at used answer has ended concludes = subst (λ a. ReadsImage files name a) (sym concludes) (wanting files)
+  where
+    wanting : (files : Option Files) → ReadsImage files name (Err device.NoMemory)
+    wanting None = tt
+    wanting (Some files) = tt
+
+pub reads_ended : (files : Option Files) (name buffer : List ℕ) (reader : Reading) (at want used : ℕ) (answer : Result ReadImage DeviceRefusal) → HasRead files name reader at used → GivesPiece files name at want buffer (Ok (got.Count 0)) → at ≤ read_limit
+    → Concludes reader used answer → ReadsImage files name answer
+reads_ended files name buffer reader at want used answer has piece near concludes = concludes_at files name reader at used answer has (ended files piece) concludes
+  where
+    ended_of : (o : Option (List ℕ)) → PieceOf o at want buffer (got.Count 0) → IsEndOf o at
+    ended_of None piece = absurd piece
+    ended_of (Some file) piece = whole_file file at near (piece.ended refl)
+
+    ended : (files : Option Files) → GivesPiece files name at want buffer (Ok (got.Count 0)) → IsEnd files name at
+    ended None piece = tt
+    ended (Some files) piece = ended_of (get files name) piece
+
+pub reads_limit : (files : Option Files) (name : List ℕ) (reader : Reading) (at used : ℕ) (answer : Result ReadImage DeviceRefusal) → HasRead files name reader at used → at ≡ read_limit
+    → Concludes reader used answer → ReadsImage files name answer
+reads_limit files name reader at used answer has limit concludes = concludes_at files name reader at used answer has (ended files) concludes
+  where
+    ended_of : (o : Option (List ℕ)) → IsEndOf o at
+    ended_of None = λ none. absurd (omega (arith, limit, none))
+    ended_of (Some file) = ap (λ n. take n file) limit
+
+    ended : (files : Option Files) → IsEnd files name at
+    ended None = tt
+    ended (Some files) = ended_of (get files name)
 
 absent_of : (o : Option (List ℕ)) (buffer : List ℕ) (at want : ℕ) → PieceOf o at want buffer got.Absent → ReadsBytes o read.Absent
 absent_of None buffer at want piece = tt
@@ -170,6 +195,3 @@ count_within want count gave is within = subst (λ x. IsAtMost want x) is within
 pub refused_device : (files : Option Files) (name : List ℕ) (refusal : DeviceRefusal) (answer : Result ReadImage DeviceRefusal) → answer ≡ Err refusal → ReadsImage files name answer
 refused_device None name refusal answer is = tt
 refused_device (Some files) name refusal answer is = subst (λ a. ReadsImage (Some files) name a) (sym is) tt
-
-pub fed_is : (reader after : Reading) (piece : List ℕ) (gave fed : Fed) → gave ≡ fed → Feeds reader piece (Ok gave) after → Feeds reader piece (Ok fed) after
-fed_is reader after piece gave fed is feeds = subst (λ f. Feeds reader piece (Ok f) after) is feeds

@@ -17,7 +17,7 @@ use Rattle.t3_cli.specs.declared.status.Status.TheVariants.{Done, Usage, Absent,
 use Rattle.t3_cli.specs.Command.{Asked, Check}
 use Rattle.t3_cli.specs.Lines.{usage_line, refused_line, ok_line}
 use Rattle.t3_cli.specs.Outcome.{Outcome, IsResult, Checks, IsRejected, IsChecked, IsNoImage, HoldBytes, not_there, read_bytes, read_limit}
-use Rattle.t3_cli.specs.Top.{Yields, Comes, IsCarriedOut, Says, IsWhole, IsFront, LeavesFiles, Told}
+use Rattle.t3_cli.specs.Top.{CutsShort, Comes, IsCarriedOut, Says, SaysSome, SaysFront, IsWhole, IsFront, LeavesFiles, Told}
 use Rattle.t3_cli.specs.Reading.{ReadsBytes, ReadsImage}
 use Rattle.t3_cli.specs.Showing.{IsCutShort, EndsShown}
 use Rattle.t3_cli.specs.Checking.{Reports, GivesBytes, GivesStatus, Stands}
@@ -58,12 +58,17 @@ checks_reported name (Some file) (read.Image image used) status line files reads
     let shown = says.1 ∙ ap (ok_line (length image.blocks + 1)) reads.used_is in
     inr (record { image = image; behind = reads.behind; valid = reads.valid; begins = reads.begins; is = λ i. reported (says.0 i) (shown i) files })
 
+append_nothing : (xs : List ℕ) → xs ≡ xs ++ []
+append_nothing [] = refl
+append_nothing (x ∷ xs) = ap (λ t. x ∷ t) (append_nothing xs)
+
 -- nothing of the input is taken
-says_shown : (before : Session) (after : Option Session) (said : List ℕ) → after ≡ Some (showing before said) → Says before after said
-says_shown before after said is = record { session = showing before said; tells = is; shown = refl; input = record { taken = []; is = refl; within = omega arith } }
+says_shown : (asked : Option Asked) (before : Session) (after : Option Session) (said : List ℕ) → after ≡ Some (showing before said) → Says asked before after said
+says_shown None before after said is = record { session = showing before said; tells = is; shown = refl; input = refl }
+says_shown (Some (Check name)) before after said is = record { session = showing before said; tells = is; shown = refl; input = refl }
 
 -- a status that a failing console leaves is one that cuts short
-pub yields_cut : (status : Status) → IsCutShort status → Yields status
+pub yields_cut : (status : Status) → IsCutShort status → CutsShort status
 yields_cut ConsoleFault cut = tt
 yields_cut NoMemory cut = tt
 yields_cut DepotFault cut = tt
@@ -74,17 +79,17 @@ yields_cut ImageRefused cut = absurd cut
 
 -- a line that goes with the outcome, shown whole or in front
 pub stands_shown : (asked : Option Asked) (files : Files) (before : Session) (status answer : Status) (line : List ℕ) (left : Option Files) (after : Option Session) → IsResult asked files before.left (reported status line files)
-    → ((outcome : Outcome) → LeavesFiles asked files outcome left) → left ≡ Some files → EndsShown (Some before) after line status answer → Stands asked files before answer left after
+    → LeavesFiles asked files left → left ≡ Some files → EndsShown (Some before) after line status answer → Stands asked files before answer left after
 stands_shown asked files before status answer line left after result leaves same (inl whole) =
-    inl (record { outcome = reported status line files; result = result; status = whole.0; files_are = same; says = says_shown before after line whole.1 })
+    inl (record { outcome = reported status line files; result = result; status = whole.0; files_are = same; says = says_shown asked before after line whole.1 })
 stands_shown asked files before status answer line left after result leaves same (inr cut) =
     inr (
       yields_cut answer cut.0,
       record {
         said = cut.1.said;
-        says = says_shown before after cut.1.said cut.1.shown;
+        says = says_shown asked before after cut.1.said cut.1.shown;
         front = λ outcome is. (cut.1.unsaid, ap (λ (o : Outcome). o.shown) (one_outcome asked files before.left outcome (reported status line files) is result) ∙ cut.1.is);
-        files_are = λ outcome is. leaves outcome;
+        files_are = leaves;
       },
     )
 
@@ -93,10 +98,10 @@ pub check_stands : (all : Option Files) (session : Option Session) (name : List 
 check_stands None session name found status answer line left after reads same says ends = tt
 check_stands (Some files) None name found status answer line left after reads same says ends = tt
 check_stands (Some files) (Some before) name found status answer line left after reads same says ends =
-    stands_shown (Some (Check name)) files before status answer line left after (checks_reported name (get files name) found status line files reads says) (λ outcome. same) same ends
+    stands_shown (Some (Check name)) files before status answer line left after (checks_reported name (get files name) found status line files reads says) same same ends
 
 -- nothing is shown where the call was cut short before
-pub nothing_shown : (all : Option Files) (session : Option Session) (name : List ℕ) (answer : Status) (left : Option Files) → Yields answer → left ≡ all → Told all session (λ files before. Stands (Some (Check name)) files before answer left session)
+pub nothing_shown : (all : Option Files) (session : Option Session) (name : List ℕ) (answer : Status) (left : Option Files) → CutsShort answer → left ≡ all → Told all session (λ files before. Stands (Some (Check name)) files before answer left session)
 nothing_shown None session name answer left yields same = tt
 nothing_shown (Some files) None name answer left yields same = tt
 nothing_shown (Some files) (Some before) name answer left yields same =
@@ -104,15 +109,11 @@ nothing_shown (Some files) (Some before) name answer left yields same =
       yields,
       record {
         said = [];
-        says = says_shown before (Some before) [] (λ i. Some (record before { shown = append_nothing before.shown i }));
+        says = says_shown (Some (Check name)) before (Some before) [] (λ i. Some (record before { shown = append_nothing before.shown i }));
         front = λ outcome is. (outcome.shown, refl);
-        files_are = λ outcome is. same;
+        files_are = same;
       },
     )
-  where
-    append_nothing : (xs : List ℕ) → xs ≡ xs ++ []
-    append_nothing [] = refl
-    append_nothing (x ∷ xs) = ap (λ t. x ∷ t) (append_nothing xs)
 
 -- ---- the status by the files alone
 
@@ -125,7 +126,7 @@ gives_reported name (Some file) (read.Refused place why) status line reads says 
 gives_reported name (Some file) (read.Image image used) status line reads says = inr (says.0, (image, reads.behind, reads.valid, reads.begins))
 
 -- what is shown ends with the status that goes with it, or cut short
-pub ends_status : (session after : Option Session) (line : List ℕ) (status answer : Status) → EndsShown session after line status answer → (answer ≡ status) ⊎ Yields answer
+pub ends_status : (session after : Option Session) (line : List ℕ) (status answer : Status) → EndsShown session after line status answer → (answer ≡ status) ⊎ CutsShort answer
 ends_status None after line status answer (inl same) = inl same
 ends_status None after line status answer (inr cut) = inr (yields_cut answer cut)
 ends_status (Some before) after line status answer (inl same) = inl same.0
@@ -145,35 +146,35 @@ check_status (Some files) session after name found status answer line reads says
 pub usage_stands : (all : Option Files) (session after : Option Session) (answer : Status) (left : Option Files) → left ≡ all → EndsShown session after usage_line Usage answer → Told all session (λ files before. Stands None files before answer left after)
 usage_stands None session after answer left same ends = tt
 usage_stands (Some files) None after answer left same ends = tt
-usage_stands (Some files) (Some before) after answer left same ends = stands_shown None files before Usage answer usage_line left after refl (λ outcome. same) same ends
+usage_stands (Some files) (Some before) after answer left same ends = stands_shown None files before Usage answer usage_line left after refl same same ends
 
 -- a result is no call that was cut short
-check_no_yield : (bytes : List ℕ) (files : Files) (outcome : Outcome) → IsRejected bytes files outcome ⊎ IsChecked bytes files outcome → Yields outcome.status → ⊥
-check_no_yield bytes files outcome (inl x) yields = subst (λ (o : Outcome). Yields o.status) x.is yields
-check_no_yield bytes files outcome (inr x) yields = subst (λ (o : Outcome). Yields o.status) x.is yields
+check_no_yield : (bytes : List ℕ) (files : Files) (outcome : Outcome) → IsRejected bytes files outcome ⊎ IsChecked bytes files outcome → CutsShort outcome.status → ⊥
+check_no_yield bytes files outcome (inl x) yields = subst (λ (o : Outcome). CutsShort o.status) x.is yields
+check_no_yield bytes files outcome (inr x) yields = subst (λ (o : Outcome). CutsShort o.status) x.is yields
 
-file_no_yield : (name : List ℕ) (o : Option (List ℕ)) (files : Files) (outcome : Outcome) → Checks name o files outcome → Yields outcome.status → ⊥
-file_no_yield name None files outcome is yields = subst (λ (o : Outcome). Yields o.status) is yields
+file_no_yield : (name : List ℕ) (o : Option (List ℕ)) (files : Files) (outcome : Outcome) → Checks name o files outcome → CutsShort outcome.status → ⊥
+file_no_yield name None files outcome is yields = subst (λ (o : Outcome). CutsShort o.status) is yields
 file_no_yield name (Some file) files outcome is yields = check_no_yield (read_bytes file) files outcome is yields
 
-result_no_yield : (asked : Option Asked) (files : Files) (input : List ℕ) (outcome : Outcome) → IsResult asked files input outcome → Yields outcome.status → ⊥
-result_no_yield None files input outcome is yields = subst (λ (o : Outcome). Yields o.status) is yields
+result_no_yield : (asked : Option Asked) (files : Files) (input : List ℕ) (outcome : Outcome) → IsResult asked files input outcome → CutsShort outcome.status → ⊥
+result_no_yield None files input outcome is yields = subst (λ (o : Outcome). CutsShort o.status) is yields
 result_no_yield (Some (Check name)) files input outcome is yields = file_no_yield name (get files name) files outcome is yields
 
-pub whole_of : (asked : Option Asked) (all : Option Files) (session after : Option Session) (answer : Status) (left : Option Files) → Told all session (λ files before. Stands asked files before answer left after) → Told all session (λ files before. ¬ Yields answer → IsWhole asked files before answer left after)
+pub whole_of : (asked : Option Asked) (all : Option Files) (session after : Option Session) (answer : Status) (left : Option Files) → Told all session (λ files before. Stands asked files before answer left after) → Told all session (λ files before. ¬ CutsShort answer → IsWhole asked files before answer left after)
 whole_of asked None session after answer left told = tt
 whole_of asked (Some files) None after answer left told = tt
 whole_of asked (Some files) (Some before) after answer left (inl whole) = λ not. whole
 whole_of asked (Some files) (Some before) after answer left (inr front) = λ not. absurd (not front.0)
 
-pub front_of : (asked : Option Asked) (all : Option Files) (session after : Option Session) (answer : Status) (left : Option Files) → Told all session (λ files before. Stands asked files before answer left after) → Told all session (λ files before. Yields answer → IsFront asked files before left after)
+pub front_of : (asked : Option Asked) (all : Option Files) (session after : Option Session) (answer : Status) (left : Option Files) → Told all session (λ files before. Stands asked files before answer left after) → Told all session (λ files before. CutsShort answer → IsFront asked files before left after)
 front_of asked None session after answer left told = tt
 front_of asked (Some files) None after answer left told = tt
-front_of asked (Some files) (Some before) after answer left (inl whole) = λ yields. absurd (result_no_yield asked files before.left whole.outcome whole.result (subst Yields whole.status yields))
+front_of asked (Some files) (Some before) after answer left (inl whole) = λ yields. absurd (result_no_yield asked files before.left whole.outcome whole.result (subst CutsShort whole.status yields))
 front_of asked (Some files) (Some before) after answer left (inr front) = λ yields. front.1
 
 -- an answer that none of the three causes has isn't one of the three
-pub not_yields : (answer : Status) → (answer ≡ DepotFault → ⊥) → (answer ≡ ConsoleFault → ⊥) → (answer ≡ NoMemory → ⊥) → ¬ Yields answer
+pub not_yields : (answer : Status) → (answer ≡ DepotFault → ⊥) → (answer ≡ ConsoleFault → ⊥) → (answer ≡ NoMemory → ⊥) → ¬ CutsShort answer
 not_yields DepotFault no_depot no_console memory yields = no_depot refl
 not_yields ConsoleFault no_depot no_console memory yields = no_console refl
 not_yields NoMemory no_depot no_console memory yields = memory refl
@@ -182,14 +183,33 @@ not_yields Usage no_depot no_console memory yields = yields
 not_yields Absent no_depot no_console memory yields = yields
 not_yields ImageRefused no_depot no_console memory yields = yields
 
-pub told_whole : (asked : Option Asked) (all : Option Files) (session after : Option Session) (answer : Status) (left : Option Files) → ¬ Yields answer → Told all session (λ files before. ¬ Yields answer → IsWhole asked files before answer left after) → Told all session (λ files before. IsWhole asked files before answer left after)
+pub told_whole : (asked : Option Asked) (all : Option Files) (session after : Option Session) (answer : Status) (left : Option Files) → ¬ CutsShort answer → Told all session (λ files before. ¬ CutsShort answer → IsWhole asked files before answer left after) → Told all session (λ files before. IsWhole asked files before answer left after)
 told_whole asked None session after answer left not told = tt
 told_whole asked (Some files) None after answer left not told = tt
 told_whole asked (Some files) (Some before) after answer left not told = told not
 
-pub usage_says : (session after : Option Session) (answer : Status) → EndsShown session after usage_line Usage answer → answer ≡ Usage → IfSome session (λ before. Says before after usage_line)
+-- where a line was shown, or a front of it, so the console tells
+shown_front : (asked : Option Asked) (before : Session) (after : Option Session) (line : List ℕ) (status answer : Status) → EndsShown (Some before) after line status answer → SaysFront asked before after line
+shown_front asked before after line status answer (inl whole) = record { said = line; unsaid = []; says = says_shown asked before after line whole.1; is = append_nothing line }
+shown_front asked before after line status answer (inr cut) = record { said = cut.1.said; unsaid = cut.1.unsaid; says = says_shown asked before after cut.1.said cut.1.shown; is = cut.1.is }
+
+pub some_shown : (asked : Option Asked) (session after : Option Session) (line : List ℕ) (status answer : Status) → EndsShown session after line status answer → IfSome session (λ before. SaysSome asked before after)
+some_shown asked None after line status answer ends = tt
+some_shown asked (Some before) after line status answer ends =
+    let front = shown_front asked before after line status answer ends in
+    record { said = front.said; says = front.says }
+
+pub none_shown : (asked : Option Asked) (session : Option Session) → IfSome session (λ before. SaysSome asked before session)
+none_shown asked None = tt
+none_shown asked (Some before) = record { said = []; says = says_shown asked before (Some before) [] (λ i. Some (record before { shown = append_nothing before.shown i })) }
+
+pub usage_front : (session after : Option Session) (answer : Status) → EndsShown session after usage_line Usage answer → IfSome session (λ before. SaysFront None before after usage_line)
+usage_front None after answer ends = tt
+usage_front (Some before) after answer ends = shown_front None before after usage_line Usage answer ends
+
+pub usage_says : (session after : Option Session) (answer : Status) → EndsShown session after usage_line Usage answer → answer ≡ Usage → IfSome session (λ before. Says None before after usage_line)
 usage_says None after answer ends is = tt
-usage_says (Some before) after answer (inl whole) is = says_shown before after usage_line whole.1
+usage_says (Some before) after answer (inl whole) is = says_shown None before after usage_line whole.1
 usage_says (Some before) after answer (inr cut) is = absurd (subst (λ s. IsCutShort s) is cut.0)
 
 -- ---- the causes
@@ -219,7 +239,7 @@ refused_comes name (Some files) answer (inl gives) = record {
   always = λ cause. inl (always_refused name files (get files name) answer refl gives cause);
 }
 refused_comes name (Some files) answer (inr yields) = record {
-  only = λ is. absurd (subst Yields is yields);
+  only = λ is. absurd (subst CutsShort is yields);
   always = λ cause. inr yields;
 }
 
@@ -246,7 +266,7 @@ done_comes name (Some files) answer (inl gives) = record {
   always = λ cause. inl (always_done name files (get files name) answer refl gives cause);
 }
 done_comes name (Some files) answer (inr yields) = record {
-  only = λ is. absurd (subst Yields is yields);
+  only = λ is. absurd (subst CutsShort is yields);
   always = λ cause. inr yields;
 }
 

@@ -11,7 +11,7 @@ use Rattle.t3_cli.specs.declared.status.Status.TheVariants.{Done, Usage, Absent,
 use Rattle.t3_cli.specs.Command.{Asked, Check}
 use Rattle.t3_cli.specs.Lines.{absent_line, refused_line, ok_line}
 use Rattle.t3_cli.specs.Outcome.{read_bytes}
-use Rattle.t3_cli.specs.Top.{Yields, IsWhole, IsFront}
+use Rattle.t3_cli.specs.Top.{CutsShort, IsWhole, IsFront}
 
 -- the status and the line of what was read
 abbrev pub Reports : List ℕ → ReadImage → Status → List ℕ → Type 0
@@ -31,8 +31,8 @@ Gives (Some (Check name)) files status = GivesBytes (get files name) status
 -- the status is that of the files, or the call was cut short
 abbrev pub GivesStatus : Option Asked → Option Files → Status → Type 0
 GivesStatus asked None answer = Unit {0}
-GivesStatus asked (Some files) answer = Gives asked files answer ⊎ Yields answer
+GivesStatus asked (Some files) answer = Gives asked files answer ⊎ CutsShort answer
 
 -- the whole result stands, or a front of it where the call was cut short
 abbrev pub Stands : Option Asked → Files → Session → Status → Option Files → Option Session → Type 0
-Stands asked files before answer left after = IsWhole asked files before answer left after ⊎ (Yields answer × IsFront asked files before left after)
+Stands asked files before answer left after = IsWhole asked files before answer left after ⊎ (CutsShort answer × IsFront asked files before left after)

@@ -12,7 +12,7 @@ pub data Asked : Type 0 where
 abbrev pub view : Command → Asked
 view (words.Check image) = Check image.now
 
--- a command's name, and the names that it takes
+-- the command that the words are, if they are one
 abbrev pub command : List (List ℕ) → Option Asked
 command (verb ∷ name ∷ []) = if bytes_eq verb (codes "check") && is_file_name name then Some (Check name) else None
 command _ = None

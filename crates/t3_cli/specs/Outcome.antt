@@ -17,7 +17,7 @@ pub record Outcome : Type 0 where
   pub shown : List ℕ
   pub files : Files
 
--- a file is read whole, or up to the first byte that no image has
+-- so much of a file is read: one byte more than an image may have
 abbrev pub read_limit : ℕ
 read_limit = 268435457
 

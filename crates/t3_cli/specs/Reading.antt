@@ -6,12 +6,15 @@ use Rattle.t3_io.specs.declared.depot.Got.{Got}
 use Rattle.t3_io.specs.declared.depot.Got.TheVariants as got
 use Rattle.t3_io.specs.declared.refusal.DeviceRefusal.{DeviceRefusal}
 use Rattle.t3_io.specs.declared.refusal.DeviceRefusal.TheVariants as device
+use Rattle.t3_image_read.specs.declared.reader.Fed.{Fed}
+use Rattle.t3_image_read.specs.declared.reader.Fed.TheVariants.{More, Done}
+use Rattle.t3_image_read.specs.declared.refusal.ReadRefusal.{ReadRefusal}
 use Rattle.t3_image_read.specs.declared.refusal.ReadRefusal.TheVariants as refusal
 use Rattle.t3_image_read.specs.declared.refusal.ReadWhy.TheVariants.{Truncated}
 use Rattle.t3_image_read.specs.ImageText.{ImageValue, text}
 use Rattle.t3_image_read.specs.Validity.{IsValid}
 use Rattle.t3_image_read.specs.Refusal.{Refused}
-use Rattle.t3_image_read.specs.Reader.{Reading, Taking, Ended, Failed}
+use Rattle.t3_image_read.specs.Reader.{Reading, Taking, Ended, Failed, Feeds}
 use Rattle.t3_cli.specs.declared.read.ReadImage.{ReadImage}
 use Rattle.t3_cli.specs.declared.read.ReadImage.TheVariants as read
 use Rattle.t3_cli.specs.Outcome.{read_bytes}
@@ -70,8 +73,20 @@ abbrev pub SoFar : Option Files → List ℕ → List ℕ → ℕ → Type 0
 SoFar None name taken at = Unit {0}
 SoFar (Some files) name taken at = FrontOf (get files name) taken at
 
-pub record IsReading (files : Option Files) (name : List ℕ) (reader : Reading) (at : ℕ) : Type 0 where
-  pub taken : List ℕ
-  pub reader_is : reader ≡ Taking taken
-  pub long : length taken ≡ at
-  pub so_far : SoFar files name taken at
+-- what is known of the file when it was read up to the place
+abbrev pub HasRead : Option Files → List ℕ → Reading → ℕ → ℕ → Type 0
+HasRead files name (Taking taken) at used = (used ≡ at) × (length taken ≡ at) × SoFar files name taken at
+HasRead files name (Ended image) at used = ReadsImage files name (Ok (read.Image image used))
+HasRead files name (Failed (refusal.At place why)) at used = ReadsImage files name (Ok (read.Refused place why))
+HasRead files name (Failed refusal.NoMemory) at used = Unit {0}
+
+-- how many bytes of a piece are of the image, by what the reader answered
+abbrev pub used_of : ℕ → Result Fed ReadRefusal → ℕ
+used_of size (Ok More) = size
+used_of size (Ok (Done used)) = used
+used_of size (Err _) = 0
+
+pub record Uses (before : Reading) (piece : List ℕ) (used : ℕ) (after : Reading) : Type 0 where
+  pub answer : Result Fed ReadRefusal
+  pub feeds : Feeds before piece answer after
+  pub used_is : used ≡ used_of (length piece) answer

@@ -1,5 +1,5 @@
 -- What the one public call promises of its answers and of the devices.
-use Rattle.std.specs.Prelude.{◌≡◌, ℕ, ◌≤◌, ◌⊎◌, List, ◌++◌, length, Option, Some, None, IsSome}
+use Rattle.std.specs.Prelude.{◌≡◌, ℕ, ◌⊎◌, List, ◌++◌, Option, Some, None, IsSome}
 use Rattle.t3_io.specs.Files.{Files}
 use Rattle.t3_io.specs.Session.{Session}
 use Rattle.t3_cli.specs.declared.status.Status.{Status}
@@ -7,17 +7,17 @@ use Rattle.t3_cli.specs.declared.status.Status.TheVariants.{DepotFault, ConsoleF
 use Rattle.t3_cli.specs.Command.{Asked, Check}
 use Rattle.t3_cli.specs.Outcome.{Outcome, IsResult, IsAbsent, IsNoImage}
 
--- the call was cut short
-abbrev pub Yields : Status → Type 0
-Yields DepotFault = Unit {0}
-Yields ConsoleFault = Unit {0}
-Yields NoMemory = Unit {0}
-Yields _ = ⊥
+-- an answer of a call that was cut short
+abbrev pub CutsShort : Status → Type 0
+CutsShort DepotFault = Unit {0}
+CutsShort ConsoleFault = Unit {0}
+CutsShort NoMemory = Unit {0}
+CutsShort _ = ⊥
 
 -- the status comes only by this cause, and wherever the cause holds unless the call was cut short
 pub record Comes (answer status : Status) (Cause : Type 0) : Type 0 where
   pub only : answer ≡ status → Cause
-  pub always : Cause → (answer ≡ status) ⊎ Yields answer
+  pub always : Cause → (answer ≡ status) ⊎ CutsShort answer
 
 -- the words are a command, and no other answer has its cause
 pub record IsCarriedOut (asked : Option Asked) (files : Files) : Type 0 where
@@ -25,18 +25,29 @@ pub record IsCarriedOut (asked : Option Asked) (files : Files) : Type 0 where
   pub there : ¬ IsAbsent asked files
   pub image : ¬ IsNoImage asked files
 
--- what was taken of the input is a front of it, within the limit
-pub record TakesInput (before after : List ℕ) : Type 0 where
-  pub taken : List ℕ
-  pub is : before ≡ taken ++ after
-  pub within : length taken ≤ 16777216
+-- what a command leaves of the input: none here takes of it
+abbrev pub LeavesInput : Option Asked → List ℕ → List ℕ → Type 0
+LeavesInput None before after = after ≡ before
+LeavesInput (Some (Check name)) before after = after ≡ before
 
 -- the console still tells what it did, and this text is what was shown more
-pub record Says (before : Session) (after : Option Session) (said : List ℕ) : Type 0 where
+pub record Says (asked : Option Asked) (before : Session) (after : Option Session) (said : List ℕ) : Type 0 where
   pub session : Session
   pub tells : after ≡ Some session
   pub shown : session.shown ≡ before.shown ++ said
-  pub input : TakesInput before.left session.left
+  pub input : LeavesInput asked before.left session.left
+
+-- it told so of some text
+pub record SaysSome (asked : Option Asked) (before : Session) (after : Option Session) : Type 0 where
+  pub said : List ℕ
+  pub says : Says asked before after said
+
+-- it told so of a front of this text
+pub record SaysFront (asked : Option Asked) (before : Session) (after : Option Session) (text : List ℕ) : Type 0 where
+  pub said : List ℕ
+  pub unsaid : List ℕ
+  pub says : Says asked before after said
+  pub is : text ≡ said ++ unsaid
 
 -- the whole result stands
 pub record IsWhole (asked : Option Asked) (files : Files) (before : Session) (answer : Status) (left : Option Files) (after : Option Session) : Type 0 where
@@ -44,19 +55,19 @@ pub record IsWhole (asked : Option Asked) (files : Files) (before : Session) (an
   pub result : IsResult asked files before.left outcome
   pub status : answer ≡ outcome.status
   pub files_are : left ≡ Some outcome.files
-  pub says : Says before after outcome.shown
+  pub says : Says asked before after outcome.shown
 
--- the files that a call leaves that was cut short: no command here puts one
-abbrev pub LeavesFiles : Option Asked → Files → Outcome → Option Files → Type 0
-LeavesFiles None files outcome left = left ≡ Some files
-LeavesFiles (Some (Check name)) files outcome left = left ≡ Some files
+-- the files that a call may leave, cut short or not: no command here puts one
+abbrev pub LeavesFiles : Option Asked → Files → Option Files → Type 0
+LeavesFiles None files left = left ≡ Some files
+LeavesFiles (Some (Check name)) files left = left ≡ Some files
 
--- a front of what would have been shown, and of the files only that which the command puts may differ
+-- a front of what would have been shown, and files that the command may leave
 pub record IsFront (asked : Option Asked) (files : Files) (before : Session) (left : Option Files) (after : Option Session) : Type 0 where
   pub said : List ℕ
-  pub says : Says before after said
+  pub says : Says asked before after said
   pub front : (outcome : Outcome) → IsResult asked files before.left outcome → (unsaid : List ℕ) × (outcome.shown ≡ said ++ unsaid)
-  pub files_are : (outcome : Outcome) → IsResult asked files before.left outcome → LeavesFiles asked files outcome left
+  pub files_are : LeavesFiles asked files left
 
 -- what holds where both devices tell what they hold
 abbrev pub Told : Option Files → Option Session → (Files → Session → Type 0) → Type 0

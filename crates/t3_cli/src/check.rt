@@ -1,8 +1,8 @@
 //! `check IMAGE`: whether a file is an image.
-ghost use Rattle.std.specs.Prelude.{◌≡◌, ◌≢◌, ◌<◌, ◌-◌, ◌^◌, Some, IfOk, string_bytes};
+ghost use Rattle.std.specs.Prelude.{◌≡◌, ◌≢◌, ◌<◌, ◌-◌, ◌^◌, Some, IfSome, IfOk, string_bytes};
 ghost use Rattle.t3_holder.specs.FileName.{IsFileName};
 ghost use Rattle.t3_cli.specs.Command.{Check};
-ghost use Rattle.t3_cli.specs.Top.{Told};
+ghost use Rattle.t3_cli.specs.Top.{SaysSome, Told};
 ghost use Rattle.t3_cli.specs.Checking.{Reports, GivesStatus, Stands};
 
 use crate::read::{ReadImage, read_image};
@@ -23,6 +23,8 @@ pub(crate) fn check<D: Depot, C: Console>(
     requires console { C.faults console.old < 2 ^ 64 - 1 }
     ensures stands { Told (D.files depot.old) (C.session console.old) (λ files before.
         Stands (Some (Check name.now)) files before result (D.files depot.new) (C.session console.new)) }
+    ensures files { D.files depot.new ≡ D.files depot.old }
+    ensures shown { IfSome (C.session console.old) (λ before. SaysSome (Some (Check name.now)) before (C.session console.new)) }
     ensures status { GivesStatus (Some (Check name.now)) (D.files depot.old) result }
     ensures no_usage { result ≢ Status.Usage }
     ensures depot_fault { result ≡ Status.DepotFault → D.faults depot.old < D.faults depot.new }

@@ -1,6 +1,6 @@
 ghost use Rattle.std.specs.Prelude.{◌≡◌};
 ghost use Rattle.std.specs.List.{list_all};
-ghost use Rattle.t3_holder.specs.FileName.{may_begin as begins, is_name_byte as is_mark, is_file_name as is_name};
+ghost use Rattle.t3_holder.specs.FileName.{may_begin as begins, is_name_byte as is_allowed, is_file_name as is_name};
 
 /// The most bytes that a name has.
 const NAME_LIMIT: usize = 64;
@@ -24,13 +24,13 @@ fn may_begin(name: &[u8]) -> bool
 
 /// Whether each byte may stand in a name.
 fn has_name_bytes(name: &[u8]) -> bool
-    ensures { result ≡ list_all is_mark name.now }
+    ensures { result ≡ list_all is_allowed name.now }
 {
     name.iter().all(|byte| is_name_byte(*byte))
 }
 
 fn is_name_byte(byte: u8) -> bool
-    ensures { result ≡ is_mark byte }
+    ensures { result ≡ is_allowed byte }
 {
     byte.is_ascii_alphanumeric() || matches!(byte, b'.' | b'_' | b'-')
 }

@@ -4,7 +4,7 @@ ghost use Rattle.t3_holder.specs.FileName.{IsFileName};
 ghost use Rattle.t3_io.specs.Cause.{MovesFaults};
 ghost use Rattle.t3_io.specs.Reading.{IsAtMost};
 ghost use Rattle.t3_image_read.specs.Reader.{Taking};
-ghost use Rattle.t3_cli.specs.Reading.{ReadsImage, GivesPiece, Concludes};
+ghost use Rattle.t3_cli.specs.Reading.{ReadsImage, GivesPiece, Uses, Concludes};
 
 use std::alloc::{AllocError, Global};
 use t3_image_read::{Fed, Image, ImageReader, ReadRefusal, ReadWhy};
@@ -26,7 +26,7 @@ pub(crate) enum ReadImage {
     Image { image: Image, used: u64 },
 }
 
-/// Reads a file from its start until its bytes are an image or are refused.
+/// Reads a file from its start to its end, or to the limit, and gives the image that it begins with.
 pub(crate) fn read_image<D: Depot>(
     alloc: Global,
     name: &[u8],
@@ -48,7 +48,8 @@ fn zeroed(alloc: Global, size: usize) -> Result<Vec<u8>, AllocError>
     vec![in alloc; 0; size]
 }
 
-/// Feeds the pieces of a file, each at most as long as the buffer.
+/// Feeds the pieces of a file, each at most as long as the buffer. A reader that has its image, or has
+/// refused, takes nothing of those that follow.
 fn read_pieces<D: Depot>(
     name: &[u8],
     depot: &mut D,
@@ -64,19 +65,31 @@ fn read_pieces<D: Depot>(
     ensures cause { MovesFaults (D.faults depot.old) (D.faults depot.new) result }
 {
     let mut at = 0;
+    let mut used = 0;
     while at < READ_LIMIT {
         let want = buf.len().min((READ_LIMIT - at) as usize);
         match read_piece(depot, name, at, buf, want)? {
             Got::Absent => return Ok(ReadImage::Absent),
-            Got::Count(0) => return concluded(reader, at),
-            Got::Count(count) => match reader.feed(&buf[..count]) {
-                Ok(Fed::More) => at += count as u64,
-                Ok(Fed::Done { used }) => return concluded(reader, at + used as u64),
-                Err(_) => return concluded(reader, at),
-            },
+            Got::Count(0) => return concluded(reader, used),
+            Got::Count(count) => {
+                used += take_piece(&mut reader, &buf[..count]) as u64;
+                at += count as u64;
+            }
         }
     }
-    concluded(reader, at)
+    concluded(reader, used)
+}
+
+/// Feeds a piece, and gives how many bytes of it the image has, as far as is known.
+fn take_piece(reader: &mut ImageReader, piece: &[u8]) -> usize
+    ensures uses { Uses reader.old piece.now result reader.new }
+    ensures within { result ≤ length piece.now }
+{
+    match reader.feed(piece) {
+        Ok(Fed::More) => piece.len(),
+        Ok(Fed::Done { used }) => used,
+        Err(_) => 0,
+    }
 }
 
 /// Reads at most so many bytes to the front of the buffer.

@@ -4,7 +4,7 @@ ghost use Rattle.t3_io.specs.Files.{Files};
 ghost use Rattle.t3_cli.specs.Command.{Asked, command};
 ghost use Rattle.t3_cli.specs.Lines.{usage_line};
 ghost use Rattle.t3_cli.specs.Outcome.{Outcome, IsResult, IsAbsent, IsNoImage, HoldBytes};
-ghost use Rattle.t3_cli.specs.Top.{Yields, Comes, IsCarriedOut, IsWhole, IsFront, Says, Told};
+ghost use Rattle.t3_cli.specs.Top.{CutsShort, Comes, IsCarriedOut, IsWhole, IsFront, LeavesFiles, Says, SaysSome, SaysFront, Told};
 
 use crate::check::check;
 use crate::command::Command;
@@ -17,8 +17,8 @@ use t3_io::{Console, Depot};
 /// depot and a console, and answers how that ended.
 ///
 /// `check IMAGE` shows `ok blocks=B bytes=U`, or why the file is no image. Words that are no command
-/// show how the program is used. Each answer but the last three comes exactly where its cause holds,
-/// and always with the whole of what is to be shown. `DepotFault` and `ConsoleFault` come only where
+/// show how the program is used. Each answer but the last three comes only where its cause holds, with
+/// the whole of what is to be shown, and where a cause holds no other comes but those three. `DepotFault` and `ConsoleFault` come only where
 /// that device counted a fault, and `NoMemory` where an allocation was refused; then a front of the
 /// right text was shown.
 pub fn t3_main<D: Depot, C: Console>(
@@ -44,15 +44,20 @@ pub fn t3_main<D: Depot, C: Console>(
     ensures console_fault { result ≡ Status.ConsoleFault → C.faults console.old < C.faults console.new }
 
     // An answer other than the last three comes with its whole outcome, whatever the devices did.
-    ensures whole { Told (D.files depot.old) (C.session console.old) (λ files before. ¬ Yields result →
+    ensures whole { Told (D.files depot.old) (C.session console.old) (λ files before. ¬ CutsShort result →
         IsWhole (command (map string_bytes words.now)) files before result (D.files depot.new) (C.session console.new)) }
 
     // After one of those three, a front of it stands.
-    ensures front { Told (D.files depot.old) (C.session console.old) (λ files before. Yields result →
+    ensures front { Told (D.files depot.old) (C.session console.old) (λ files before. CutsShort result →
         IsFront (command (map string_bytes words.now)) files before (D.files depot.new) (C.session console.new)) }
 
+    // What holds of one device alone, whatever the other tells.
+    ensures files { IfSome (D.files depot.old) (λ files. LeavesFiles (command (map string_bytes words.now)) files (D.files depot.new)) }
+    ensures input { IfSome (C.session console.old) (λ before. SaysSome (command (map string_bytes words.now)) before (C.session console.new)) }
+
     // What is shown of the usage depends on no file.
-    ensures usage_shown { result ≡ Status.Usage → IfSome (C.session console.old) (λ before. Says before (C.session console.new) usage_line) }
+    ensures usage_shown { result ≡ Status.Usage → IfSome (C.session console.old) (λ before. Says None before (C.session console.new) usage_line) }
+    ensures usage_front { command (map string_bytes words.now) ≡ None → IfSome (C.session console.old) (λ before. SaysFront None before (C.session console.new) usage_line) }
 {
     match Command::parse(words) {
         None => show::end(console, lines::USAGE, Status::Usage),
@@ -60,7 +65,7 @@ pub fn t3_main<D: Depot, C: Console>(
     }
 }
 
-/// The words give exactly one outcome with any files and input.
+/// The words give exactly one outcome with any files of bytes and any input.
 pub fn one_outcome()
     ensures some { (asked : Option Asked) (files : Files) (input : List ℕ) → HoldBytes files → (outcome : Outcome) × IsResult asked files input outcome }
     ensures one { (asked : Option Asked) (files : Files) (input : List ℕ) (a b : Outcome) → IsResult asked files input a → IsResult asked files input b → a ≡ b }

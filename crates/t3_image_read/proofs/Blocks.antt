@@ -12,7 +12,7 @@ use Rattle.t3_image_read.specs.declared.refusal.ReadWhy.{ReadWhy}
 use Rattle.t3_image_read.specs.declared.refusal.ReadWhy.TheVariants.{Signature, Version, UnknownMandatory, Truncated, Unbuilt}
 use Rattle.t3_image_read.specs.ImageText.{header_text, header_of, block_text, end_header}
 use Rattle.t3_image_read.specs.Validity.{IsHeader, IsGood, header_limit}
-use Rattle.t3_image_read.specs.Refusal.{StartsWith, PassesLimit, BlockBreaks}
+use Rattle.t3_image_read.specs.Refusal.{StartsWith, IsUnbuilt, BlockBreaks}
 use Rattle.t3_image_read.proofs.Lists.{split_same}
 use Rattle.t3_image_read.proofs.Headers.{header_same, length-header_text}
 
@@ -23,16 +23,13 @@ spellable_name (Opaque name bytes) is = is.0
 pub not_end : (block : Block) → IsSpellable block → name_of block ≡ end_name → ⊥
 not_end (Opaque name bytes) is e = is.1 e
 
-pub payload_short : (block : Block) → IsSpellable block → length (payload_of block) ≤ image_limit
-payload_short (Opaque name bytes) is = is.2
-
 same_block : (a b : Block) → name_of a ≡ name_of b → payload_of a ≡ payload_of b → a ≡ b
 same_block (Opaque n p) (Opaque m q) name payload = λ i. Opaque (name i) (payload i)
 
 pub IsHeader-header_of : (placed : PlacedBlock) → IsGood placed → IsHeader (header_of placed)
 IsHeader-header_of placed good = record {
   name = spellable_name placed.block good.spellable;
-  size = let short = payload_short placed.block good.spellable in omega arith;
+  size = good.size;
   flags = good.flags;
 }
 
@@ -74,13 +71,13 @@ known_not true e h = absurd cc
 known_not false e h = absurd cc
 
 -- a whole header within the limits, of a known name, with its whole payload behind it, breaks no rule
-pub unbroken : (count place : ℕ) (header : BlockHeader) (x : List ℕ) → IsHeader header → (PassesLimit count place header → ⊥) → is_unknown_mandatory header.name header.flags ≡ false → header.size ≤ length x
+pub unbroken : (count place : ℕ) (header : BlockHeader) (x : List ℕ) → IsHeader header → (IsUnbuilt count place header → ⊥) → is_unknown_mandatory header.name header.flags ≡ false → header.size ≤ length x
     → (why : ReadWhy) → BlockBreaks count place (header_text header ++ x) why → ⊥
 unbroken count place header x fits within known whole Signature broken = broken
 unbroken count place header x fits within known whole Version broken = broken
 unbroken count place header x fits within known whole Unbuilt (other, y, starts, passes) =
     let same = only_header header other x y fits starts in
-    within (subst (λ h. PassesLimit count place h) (sym same.0) passes)
+    within (subst (λ h. IsUnbuilt count place h) (sym same.0) passes)
 unbroken count place header x fits within known whole UnknownMandatory (other, y, starts, unknown) =
     let same = only_header header other x y fits starts in
     known_not _ known (subst (λ (h : BlockHeader). IsTrue (is_unknown_mandatory h.name h.flags)) (sym same.0) unknown)
@@ -97,7 +94,7 @@ unbroken count place header x fits within known whole Truncated (inr (other, y, 
 pub good_unbroken : (count place : ℕ) (placed : PlacedBlock) (x : List ℕ) → IsGood placed → count < header_limit → place + length (block_text placed) ≤ image_limit
     → (why : ReadWhy) → BlockBreaks count place (block_text placed ++ x) why → ⊥
 good_unbroken count place placed x good few fits why broken =
-    let within : PassesLimit count place (header_of placed) → ⊥ = λ passes. elim passes [
+    let within : IsUnbuilt count place (header_of placed) → ⊥ = λ passes. elim passes [
       | inl many ↦ absurd (omega arith)
       | inr more ↦ elim more [
         | inl is_end ↦ not_end placed.block good.spellable is_end.0
@@ -115,7 +112,7 @@ and_false false = refl
 pub end_unbroken : (count place flags : ℕ) (x : List ℕ) → flags < 2 ^ 16 → count < header_limit → place + 10 ≤ image_limit
     → (why : ReadWhy) → BlockBreaks count place (header_text (end_header flags) ++ x) why → ⊥
 end_unbroken count place flags x fits few near why broken =
-    let within : PassesLimit count place (end_header flags) → ⊥ = λ passes. elim passes [
+    let within : IsUnbuilt count place (end_header flags) → ⊥ = λ passes. elim passes [
       | inl many ↦ absurd (omega arith)
       | inr more ↦ elim more [
         | inl sized ↦ absurd (omega (arith, sized.1))

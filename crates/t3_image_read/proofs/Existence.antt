@@ -14,7 +14,7 @@ use Rattle.t3_image_read.specs.declared.refusal.ReadWhy.{ReadWhy}
 use Rattle.t3_image_read.specs.declared.refusal.ReadWhy.TheVariants.{Signature, Version, UnknownMandatory, Truncated, Unbuilt}
 use Rattle.t3_image_read.specs.ImageText.{ImageValue, signature, version, head_text, header_text, block_text, front_text, end_header, text}
 use Rattle.t3_image_read.specs.Validity.{IsHead, IsHeader, IsGood, IsFront, IsValid, header_limit}
-use Rattle.t3_image_read.specs.Refusal.{IsFirstBroken, DiffersFromSignature, HasOtherVersion, HeadBreaks, head_rules, StartsWith, PassesLimit, BlockBreaks, block_rules, head_place, IsRefused, BeginsWithImage}
+use Rattle.t3_image_read.specs.Refusal.{IsFirstBroken, DiffersFromSignature, HasOtherVersion, HeadBreaks, head_rules, StartsWith, IsUnbuilt, BlockBreaks, block_rules, head_place, IsRefused, BeginsWithImage}
 use Rattle.t3_image_read.proofs.Lists.{head_parts}
 use Rattle.t3_image_read.proofs.Headers.{some_header, header_same, length-header_text, AreBytes-drop}
 use Rattle.t3_image_read.proofs.Heads.{length-signature, head_text-append}
@@ -37,7 +37,7 @@ same_or_not (x ∷ a) (y ∷ b) =
 
 -- ---- one block
 
-passes_or_not : (count place : ℕ) (header : BlockHeader) → PassesLimit count place header ⊎ ¬ PassesLimit count place header
+passes_or_not : (count place : ℕ) (header : BlockHeader) → IsUnbuilt count place header ⊎ ¬ IsUnbuilt count place header
 passes_or_not count place header =
     elim (cases_lt count header_limit) [
       | inr many ↦ inl (inl many)
@@ -86,32 +86,32 @@ BreaksFirst count place rest = (why : ReadWhy) × IsFirstBroken (BlockBreaks cou
 -- a short rest is cut, and breaks no other rule
 pub first_short : (count place : ℕ) (rest : List ℕ) → length rest < 10 → IsFirstBroken (BlockBreaks count place rest) block_rules Truncated
 first_short count place rest short =
-    inr (no_header (PassesLimit count place) rest short, inr (no_header (λ h. IsTrue (is_unknown_mandatory h.name h.flags)) rest short, inl (refl, inl short)))
+    inr (no_header (IsUnbuilt count place) rest short, inr (no_header (λ h. IsTrue (is_unknown_mandatory h.name h.flags)) rest short, inl (refl, inl short)))
 
 -- so is a payload, behind a header that breaks no rule
-pub first_cut : (count place : ℕ) (rest : List ℕ) (header : BlockHeader) (behind : List ℕ) → StartsWith rest header behind → ¬ PassesLimit count place header → is_unknown_mandatory header.name header.flags ≡ false → length behind < header.size
+pub first_cut : (count place : ℕ) (rest : List ℕ) (header : BlockHeader) (behind : List ℕ) → StartsWith rest header behind → ¬ IsUnbuilt count place header → is_unknown_mandatory header.name header.flags ≡ false → length behind < header.size
     → IsFirstBroken (BlockBreaks count place rest) block_rules Truncated
 first_cut count place rest header behind starts within known short =
     let is_known : ¬ IsTrue (is_unknown_mandatory header.name header.flags) = λ h. absurd cc in
-    inr (not_by_header (PassesLimit count place) rest header behind starts within, inr (not_by_header (λ h. IsTrue (is_unknown_mandatory h.name h.flags)) rest header behind starts is_known, inl (refl, inr (header, behind, starts, short))))
+    inr (not_by_header (IsUnbuilt count place) rest header behind starts within, inr (not_by_header (λ h. IsTrue (is_unknown_mandatory h.name h.flags)) rest header behind starts is_known, inl (refl, inr (header, behind, starts, short))))
 
-pub first_unknown : (count place : ℕ) (rest : List ℕ) (header : BlockHeader) (behind : List ℕ) → StartsWith rest header behind → ¬ PassesLimit count place header → IsTrue (is_unknown_mandatory header.name header.flags)
+pub first_unknown : (count place : ℕ) (rest : List ℕ) (header : BlockHeader) (behind : List ℕ) → StartsWith rest header behind → ¬ IsUnbuilt count place header → IsTrue (is_unknown_mandatory header.name header.flags)
     → IsFirstBroken (BlockBreaks count place rest) block_rules UnknownMandatory
 first_unknown count place rest header behind starts within unknown =
-    inr (not_by_header (PassesLimit count place) rest header behind starts within, inl (refl, (header, behind, starts, unknown)))
+    inr (not_by_header (IsUnbuilt count place) rest header behind starts within, inl (refl, (header, behind, starts, unknown)))
 
-pub first_passes : (count place : ℕ) (rest : List ℕ) (header : BlockHeader) (behind : List ℕ) → StartsWith rest header behind → PassesLimit count place header
+pub first_passes : (count place : ℕ) (rest : List ℕ) (header : BlockHeader) (behind : List ℕ) → StartsWith rest header behind → IsUnbuilt count place header
     → IsFirstBroken (BlockBreaks count place rest) block_rules Unbuilt
 first_passes count place rest header behind starts passes = inl (refl, (header, behind, starts, passes))
 
 -- what a header says that passes no limit
-pub few_within : (count place : ℕ) (header : BlockHeader) → ¬ PassesLimit count place header → count < header_limit
+pub few_within : (count place : ℕ) (header : BlockHeader) → ¬ IsUnbuilt count place header → count < header_limit
 few_within count place header within = elim (cases_lt count header_limit) [ inl few ↦ few | inr many ↦ absurd (within (inl many)) ]
 
-pub near_within : (count place : ℕ) (header : BlockHeader) → ¬ PassesLimit count place header → place + 10 + header.size ≤ image_limit
+pub near_within : (count place : ℕ) (header : BlockHeader) → ¬ IsUnbuilt count place header → place + 10 + header.size ≤ image_limit
 near_within count place header within = elim (cases_lt image_limit (place + 10 + header.size)) [ inl far ↦ absurd (within (inr (inr far))) | inr near ↦ near ]
 
-pub empty_end : (count place : ℕ) (header : BlockHeader) → ¬ PassesLimit count place header → header.name ≡ end_name → header.size ≡ 0
+pub empty_end : (count place : ℕ) (header : BlockHeader) → ¬ IsUnbuilt count place header → header.name ≡ end_name → header.size ≡ 0
 empty_end count place header within is_end = elim (cases_lt 0 header.size) [ inl sized ↦ absurd (within (inr (inl (is_end, sized)))) | inr none ↦ omega arith ]
 
 -- the block that a header and its payload make
@@ -125,7 +125,7 @@ pub record MakesBlock (count place : ℕ) (header : BlockHeader) (payload : List
   pub few : count < header_limit
   pub near : place + length (block_text (block_made header payload)) ≤ image_limit
 
-pub makes_block : (count place : ℕ) (header : BlockHeader) (payload : List ℕ) → IsHeader header → ¬ PassesLimit count place header → is_unknown_mandatory header.name header.flags ≡ false → header.name ≢ end_name → length payload ≡ header.size
+pub makes_block : (count place : ℕ) (header : BlockHeader) (payload : List ℕ) → IsHeader header → ¬ IsUnbuilt count place header → is_unknown_mandatory header.name header.flags ≡ false → header.name ≢ end_name → length payload ≡ header.size
     → MakesBlock count place header payload
 unfolding block_text
 makes_block count place header payload fits within known not_end long =
@@ -133,13 +133,13 @@ makes_block count place header payload fits within known not_end long =
     let same : BlockHeader = record { name = header.name; size = length payload; flags = header.flags } in
     let same_is : same ≡ header = λ i. record { name = header.name; size = long i; flags = header.flags } in
     record {
-      good = record { spellable = (fits.name, not_end, omega arith); flags = fits.flags; known = known };
+      good = record { spellable = (fits.name, not_end); size = omega (arith, fits.size); flags = fits.flags; known = known };
       is = ap (λ h. header_text h ++ payload) same_is;
       few = few_within count place header within;
       near = omega (arith, ap (λ h. length (header_text h ++ payload)) same_is, length-append (header_text header) payload, length-header_text header fits);
     }
 
-block_or_end : (count place : ℕ) (rest : List ℕ) (header : BlockHeader) (behind : List ℕ) → StartsWith rest header behind → ¬ PassesLimit count place header → is_unknown_mandatory header.name header.flags ≡ false → header.size ≤ length behind
+block_or_end : (count place : ℕ) (rest : List ℕ) (header : BlockHeader) (behind : List ℕ) → StartsWith rest header behind → ¬ IsUnbuilt count place header → is_unknown_mandatory header.name header.flags ≡ false → header.size ≤ length behind
     → GoodBlock count place rest ⊎ TheEnd count place rest
 block_or_end count place rest header behind starts within known whole =
     elim (same_or_not header.name end_name) [

@@ -143,6 +143,7 @@ payload_settles head blocks block header place payload front place_is open_ long
     let size : length (block_text placed) ≡ 10 + header.size = ap length is ∙ omega (arith, length-append (header_text header) payload, length-header_text header open_.fits) in
     let good : IsGood placed = record {
       spellable = spells.spellable;
+      size = omega (arith, ap length spells.payload_is, open_.fits.size);
       flags = open_.fits.flags;
       known = ap (λ name. is_unknown_mandatory name header.flags) spells.name_is ∙ open_.allowed.known;
     } in

@@ -45,9 +45,21 @@ pub record StartsWith (rest : List ℕ) (header : BlockHeader) (behind : List �
   pub fits : IsHeader header
   pub is : rest ≡ header_text header ++ behind
 
--- the block is one more than there may be, an end with a payload, or one that ends behind the limit
-abbrev pub PassesLimit : ℕ → ℕ → BlockHeader → Type 0
-PassesLimit count place header = (header_limit ≤ count) ⊎ (((header.name ≡ end_name) × (0 < header.size)) ⊎ (image_limit < place + 10 + header.size))
+-- behind so many blocks, this is one more than there may be
+abbrev pub IsOneTooMany : ℕ → Type 0
+IsOneTooMany count = header_limit ≤ count
+
+-- an end with a payload
+abbrev pub IsLoadedEnd : BlockHeader → Type 0
+IsLoadedEnd header = (header.name ≡ end_name) × (0 < header.size)
+
+-- the block ends behind the greatest image
+abbrev pub EndsTooLate : ℕ → BlockHeader → Type 0
+EndsTooLate place header = image_limit < place + 10 + header.size
+
+-- the block is none that may stand here, whatever its payload
+abbrev pub IsUnbuilt : ℕ → ℕ → BlockHeader → Type 0
+IsUnbuilt count place header = IsOneTooMany count ⊎ (IsLoadedEnd header ⊎ EndsTooLate place header)
 
 -- no whole block header stands here, or not all of its payload
 abbrev pub IsCut : List ℕ → Type 0
@@ -59,7 +71,7 @@ block_rules = Unbuilt ∷ UnknownMandatory ∷ Truncated ∷ []
 
 -- behind so many blocks, at this place, the rest of the stream breaks a rule
 abbrev pub BlockBreaks : ℕ → ℕ → List ℕ → ReadWhy → Type 0
-BlockBreaks count place rest Unbuilt = (header : BlockHeader) × (behind : List ℕ) × StartsWith rest header behind × PassesLimit count place header
+BlockBreaks count place rest Unbuilt = (header : BlockHeader) × (behind : List ℕ) × StartsWith rest header behind × IsUnbuilt count place header
 BlockBreaks count place rest UnknownMandatory = (header : BlockHeader) × (behind : List ℕ) × StartsWith rest header behind × IsTrue (is_unknown_mandatory header.name header.flags)
 BlockBreaks count place rest Truncated = IsCut rest
 BlockBreaks count place rest Signature = ⊥

@@ -1,8 +1,8 @@
--- Which images are valid, and which fronts of them.
+-- Which images are valid, and what good blocks may stand one after the other.
 use Rattle.std.specs.Prelude.{◌≡◌, ℕ, ◌^◌, ◌<◌, ◌≤◌, false, List, length}
 use Rattle.std.specs.List.{AllByRecursion}
 use Rattle.t3_blocks.specs.BlockName.{is_unknown_mandatory}
-use Rattle.t3_blocks.specs.Spelling.{IsSpellable, name_of, image_limit}
+use Rattle.t3_blocks.specs.Spelling.{IsSpellable, name_of, payload_of, image_limit}
 use Rattle.t3_image_read.specs.ImageText.{ImageValue, front_text, text}
 use Rattle.t3_image_read.specs.declared.header.BlockHeader.{BlockHeader}
 use Rattle.t3_image_read.specs.declared.image.Head.{Head}
@@ -23,9 +23,10 @@ pub record IsHeader (header : BlockHeader) : Type 0 where
   pub size : header.size < 2 ^ 32
   pub flags : header.flags < 2 ^ 16
 
--- a payload spells the block, and if it is mandatory its name means something
+-- a payload spells the block, the parts of its header fit their fields, and if it is mandatory its name means something
 pub record IsGood (placed : PlacedBlock) : Type 0 where
   pub spellable : IsSpellable placed.block
+  pub size : length (payload_of placed.block) < 2 ^ 32
   pub flags : placed.flags < 2 ^ 16
   pub known : is_unknown_mandatory (name_of placed.block) placed.flags ≡ false
 

@@ -2,7 +2,7 @@
 ghost use Rattle.std.specs.Prelude.{◌≡◌, ◌↔◌, length, IsTrue};
 ghost use Rattle.t3_image_read.specs.ImageText.{head_text, header_text};
 ghost use Rattle.t3_image_read.specs.Validity.{IsHead, IsHeader};
-ghost use Rattle.t3_image_read.specs.Refusal.{DiffersFromSignature, HasOtherVersion, PassesLimit};
+ghost use Rattle.t3_image_read.specs.Refusal.{DiffersFromSignature, HasOtherVersion, IsUnbuilt};
 ghost use Rattle.t3_image_read.specs.Faults.{HeadFault, HeaderFault, IsGoodSoFar};
 
 use crate::image::Head;
@@ -90,9 +90,9 @@ pub(crate) fn read_head(bytes: &[u8]) -> Head
     Head { reserved, stamp }
 }
 
-/// Whether a block at a place, behind so many others, passes a limit.
-fn passes_limit(count: usize, place: u32, header: BlockHeader) -> bool
-    ensures { IsTrue result ↔ PassesLimit count place header }
+/// Whether a block at a place, behind so many others, is none that may stand there.
+fn is_unbuilt(count: usize, place: u32, header: BlockHeader) -> bool
+    ensures { IsTrue result ↔ IsUnbuilt count place header }
 {
     let end = u64::from(place) + HEADER_SIZE as u64 + u64::from(header.size);
     count >= HEADER_LIMIT
@@ -104,7 +104,7 @@ fn passes_limit(count: usize, place: u32, header: BlockHeader) -> bool
 pub(crate) fn header_fault(count: usize, place: u32, header: BlockHeader) -> Option<ReadWhy>
     ensures { HeaderFault count place header result }
 {
-    if passes_limit(count, place, header) {
+    if is_unbuilt(count, place, header) {
         return Some(ReadWhy::Unbuilt);
     }
     if is_unknown_mandatory(header.name, header.flags) {

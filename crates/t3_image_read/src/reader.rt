@@ -3,10 +3,10 @@ ghost use Rattle.std.specs.Prelude.{◌≡◌, ◌≢◌, ◌≤◌, ℕ, ◌⊎
 ghost use Rattle.t3_image_read.specs.ImageText.{ImageValue, text};
 ghost use Rattle.t3_image_read.specs.Validity.{IsValid};
 ghost use Rattle.t3_image_read.specs.Refusal.{Refused};
-ghost use Rattle.t3_image_read.specs.Reader.{Taking as IsTaking, Feeds, Finishes, EndsIn};
+ghost use Rattle.t3_image_read.specs.Reader.{Taking as TakingOf, Feeds, Finishes, EndsIn};
 ghost use Rattle.t3_image_read.specs.Taking.{Concludes};
 ghost use Rattle.t3_image_read.specs.declared.refusal.ReadWhy.{ReadWhy as Why};
-ghost use Rattle.t3_image_read.specs.declared.refusal.ReadWhy.TheVariants.{Truncated as IsTruncated};
+ghost use Rattle.t3_image_read.specs.declared.refusal.ReadWhy.TheVariants.{Truncated as ForBeingCut};
 
 use crate::image::{Image, Placed};
 use crate::refusal::{ReadRefusal, ReadWhy};
@@ -53,7 +53,7 @@ impl Model for ImageReader {
 impl ImageReader {
     /// A reader that has taken nothing. It takes no memory.
     pub fn new(alloc: Global) -> ImageReader
-        ensures { result ≡ IsTaking [] }
+        ensures { result ≡ TakingOf [] }
     {
         ImageReader {
             taker: Taker::new(alloc),
@@ -70,11 +70,11 @@ impl ImageReader {
         ensures feeds { Feeds self.old piece.now result self.new }
 
         // The other direction of each answer, want of memory aside.
-        ensures done { (before : List ℕ) (used : ℕ) (image : ImageValue) → self.old ≡ IsTaking before → EndsIn before piece.now used image
+        ensures done { (before : List ℕ) (used : ℕ) (image : ImageValue) → self.old ≡ TakingOf before → EndsIn before piece.now used image
             → (result ≡ Ok (Fed.Done used)) ⊎ (result ≡ Err ReadRefusal.NoMemory) }
-        ensures refuses { (before : List ℕ) (place : ℕ) (why : Why) → self.old ≡ IsTaking before → Refused (before ++ piece.now) place why → why ≢ IsTruncated
+        ensures refuses { (before : List ℕ) (place : ℕ) (why : Why) → self.old ≡ TakingOf before → Refused (before ++ piece.now) place why → why ≢ ForBeingCut
             → (result ≡ Err (ReadRefusal.At place why)) ⊎ (result ≡ Err ReadRefusal.NoMemory) }
-        ensures more { (before : List ℕ) (place : ℕ) → self.old ≡ IsTaking before → Refused (before ++ piece.now) place IsTruncated
+        ensures more { (before : List ℕ) (place : ℕ) → self.old ≡ TakingOf before → Refused (before ++ piece.now) place ForBeingCut
             → (result ≡ Ok Fed.More) ⊎ (result ≡ Err ReadRefusal.NoMemory) }
     {
         match self.outcome {

@@ -15,8 +15,8 @@ pub enum ReadWhy {
     UnknownMandatory = 5,
     /// The stream ends before the header, or a block, is whole.
     Truncated = 8,
-    /// A block passes a limit: it is one too many, an end with a payload, or reaches past the greatest
-    /// image.
+    /// A block is one too many, an end with a payload, or ends behind the greatest image. One answer
+    /// stands for the three until each has its own.
     Unbuilt = 9,
 }
 

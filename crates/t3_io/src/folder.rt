@@ -11,7 +11,7 @@ use std::marker::Model;
 use std::rt::Files;
 
 /// The files of the present folder, as the system has them. Contracts see the count of faults, and
-/// no content. It takes no memory.
+/// no content. Making one takes no memory.
 #[derive(Drop)]
 pub struct FolderDepot<'r, R: Files> {
     rt: &'r R,

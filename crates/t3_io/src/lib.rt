@@ -1,7 +1,7 @@
 //! The outside of `t3`: files in a folder and a console, as traits, and what implements them.
 //!
 //! [`Depot`] and [`Console`] say what a device tells of itself and what each call does to it. The sure
-//! devices keep all in memory and never fail. [`FolderDepot`] and [`StdConsole`] are the real folder
+//! devices keep all in memory and never fault. [`FolderDepot`] and [`StdConsole`] are the real folder
 //! and the real streams: they tell no content, so what a program promises of its devices rests, for
 //! them, on the premise that the system gives and takes the true bytes.
 #![tactic(auto)]

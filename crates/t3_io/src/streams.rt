@@ -8,8 +8,8 @@ use crate::refusal::DeviceRefusal;
 use std::io::{self, ErrorKind};
 use std::marker::Model;
 
-/// Standard input and standard output. Contracts see the count of faults, and no content. It takes no
-/// memory. A write that takes nothing of a piece counts as a fault.
+/// Standard input and standard output. Contracts see the count of faults, and no content. Making
+/// one takes no memory. A write that takes nothing of a piece counts as a fault.
 #[derive(Drop)]
 pub struct StdConsole<'r, R: Input + Print> {
     rt: &'r R,

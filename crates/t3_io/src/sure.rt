@@ -1,4 +1,4 @@
-//! Devices that keep all in memory and never fail.
+//! Devices that keep all in memory and never fault.
 ghost use Rattle.std.specs.Prelude.{◌≡◌, [], IfOk, OnOk, OnErr};
 ghost use Rattle.std.specs.Option.{option_copied};
 ghost use Rattle.std.specs.FinMap as map;

@@ -1,8 +1,9 @@
-use Rattle.std.proofs.Common.{Ok, subst}
+use Rattle.std.proofs.Common.{Some, Ok, subst}
 use Rattle.std.specs.Prelude.{string_bytes}
+use Rattle.t3_cli.specs.Command.{Check}
 use Rattle.t3_cli.specs.Reading.{ReadsImage}
 use Rattle.t3_cli.specs.Showing.{EndsShown}
-use Rattle.t3_cli.proofs.Outcomes.{check_stands, check_status, nothing_shown}
+use Rattle.t3_cli.proofs.Outcomes.{check_stands, check_status, nothing_shown, some_shown, none_shown}
 use Rattle.t3_cli.proofs.check.check.Goals as goal
 
 pub returns-in-Ok-report-clause-stands : goal.returns-in-Ok-report-clause-stands
@@ -31,3 +32,15 @@ returns-in-Err-Fault-clause-stands g c = nothing_shown (g.D.Depot.files c.args.d
 
 pub returns-clause-stands : goal.returns-clause-stands
 returns-clause-stands g c = nothing_shown (g.D.Depot.files c.args.depot.now) (g.C.Console.session c.args.console.now) c.args.name.now _ (g.D.Depot.files c.read_image.new.depot) tt c.read_image.ensures.files
+
+pub returns-in-Ok-report-clause-shown : goal.returns-in-Ok-report-clause-shown
+returns-in-Ok-report-clause-shown g c = some_shown (Some (Check c.args.name.now)) (g.C.Console.session c.args.console.now) (g.C.Console.session c.end.new.console) _ c.in-Ok-report.status c.end.result c.end.ensures.shown
+
+pub returns-in-Ok-clause-shown : goal.returns-in-Ok-clause-shown
+returns-in-Ok-clause-shown g c = none_shown (Some (Check c.args.name.now)) (g.C.Console.session c.args.console.now)
+
+pub returns-in-Err-Fault-clause-shown : goal.returns-in-Err-Fault-clause-shown
+returns-in-Err-Fault-clause-shown g c = none_shown (Some (Check c.args.name.now)) (g.C.Console.session c.args.console.now)
+
+pub returns-clause-shown : goal.returns-clause-shown
+returns-clause-shown g c = none_shown (Some (Check c.args.name.now)) (g.C.Console.session c.args.console.now)
