@@ -1,2 +1,4 @@
 pub mod BlockName
+pub mod Malformed
+pub mod Parsing
 pub mod Spelling

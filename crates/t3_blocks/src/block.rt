@@ -1,18 +1,74 @@
-ghost use Rattle.std.specs.Prelude.{◌≡◌, ℕ, List};
+ghost use Rattle.std.specs.Prelude.{◌≡◌, ◌≢◌, ℕ, ◌⊎◌, List, length};
+ghost use Rattle.t3_holder.specs.NumberText.{AreBytes};
+ghost use Rattle.t3_blocks.specs.BlockName.{end_name};
 ghost use Rattle.t3_blocks.specs.Spelling.{Spells};
+ghost use Rattle.t3_blocks.specs.Malformed.{IsMalformed};
 ghost use Rattle.t3_blocks.specs.declared.block.Block.{Block as AnyBlock};
 
+use std::marker::Model;
 use t3_holder::Bytes;
 
-/// What a block says, apart from its flags.
+/// What a block says, apart from its flags. The layouts are those of the chapter on the image format.
 #[derive(Debug, Drop)]
 pub enum Block {
-    /// A block that is kept as bytes and passed on unread. Its name isn't `EOF `.
-    Opaque { name: [u8; 4], bytes: Bytes },
+    /// `ENTP`: where the story begins, and the sizes of headers in its code.
+    Entry {
+        /// The code address of the first method.
+        code: u32,
+        /// How many bytes a method's header has.
+        method_size: u16,
+        /// How many bytes an entry of an exception table has.
+        exception_size: u16,
+        /// The sizes and the version of debug records.
+        debug: [u16; 4],
+        /// What follows is kept.
+        tail: Bytes,
+    },
+    /// `CPDF`: how many pages a pool has, and how many bytes a page has at most.
+    PoolDef {
+        pool: u16,
+        count: u32,
+        size: u32,
+    },
+    /// `CPPG`: a page of a pool. In the image each byte is exclusive-ored with the mask; here the bytes
+    /// are those of the pool.
+    Page {
+        pool: u16,
+        index: u32,
+        mask: u8,
+        bytes: Bytes,
+    },
+    /// `FNSD`: the names of the sets of built-in functions, in the order of their indices.
+    Functions {
+        names: Names,
+    },
+    /// A block that is kept as bytes and passed on unread. Its name is that of no kind above, and isn't
+    /// `EOF `.
+    Opaque {
+        name: [u8; 4],
+        bytes: Bytes,
+    },
 }
 
-/// A block has at most one name and one payload, and these spell no other block.
+/// A list of names of at most 255 bytes. Contracts see the list.
+#[derive(Debug, Drop)]
+pub struct Names(pub Vec<Bytes>);
+
+impl Model for Names {
+    ghost use Rattle.std.specs.Prelude.{List, ℕ};
+
+    ghost Value = { List (List ℕ) };
+
+    ghost view = { λ n. n.0.items };
+}
+
+/// A block has at most one name and one payload, and these spell no other block. Bytes under a name
+/// spell a block, or are malformed behind exactly so many items.
 pub fn block_spelling()
     ensures one_payload { (block : AnyBlock) (m n p q : List ℕ) → Spells block m p → Spells block n q → (m ≡ n) × (p ≡ q) }
     ensures one_block { (a b : AnyBlock) (name payload : List ℕ) → Spells a name payload → Spells b name payload → a ≡ b }
+    ensures some { (name payload : List ℕ) → length name ≡ 4 → name ≢ end_name → AreBytes payload
+        → ((block : AnyBlock) × Spells block name payload) ⊎ ((items : ℕ) × IsMalformed name payload items) }
+    ensures not_both { (block : AnyBlock) (name payload : List ℕ) (items : ℕ) → Spells block name payload → ¬ IsMalformed name payload items }
+    ensures one_count { (name payload : List ℕ) (m n : ℕ) → IsMalformed name payload m → IsMalformed name payload n → m ≡ n }
 {}

@@ -5,13 +5,16 @@
 #![tactic(auto)]
 
 mod block;
+mod functions;
+mod heads;
+mod kind;
 mod names;
 mod parse;
 mod refusal;
 #[cfg(test)]
 mod tests;
 
-pub use block::{Block, block_spelling};
+pub use block::{Block, Names, block_spelling};
 pub use names::{END_NAME, is_unknown_mandatory};
 pub use parse::{IMAGE_LIMIT, parse_block, take_block};
 pub use refusal::BlockRefusal;

@@ -7,7 +7,7 @@ pub const END_NAME: [u8; 4] = *b"EOF ";
 /// The names that mean something here: the end, the blocks that are read, and those that are kept
 /// unread on purpose. Only these may be mandatory.
 const KNOWN_NAMES: [[u8; 4]; 14] = [
-    END_NAME, *b"ENTP", *b"CPDF", *b"CPPG", *b"MCLD", *b"FNSD", *b"OBJS", *b"SYMD", *b"GSYM",
+    END_NAME, *b"ENTP", *b"CPDF", *b"CPPG", *b"FNSD", *b"MCLD", *b"OBJS", *b"SYMD", *b"GSYM",
     *b"MACR", *b"MHLS", *b"SRCF", *b"SINI", *b"MRES",
 ];
 

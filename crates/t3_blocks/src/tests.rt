@@ -1,50 +1,176 @@
-//! What names, flags and payloads give, taken either way.
+//! What names, flags and payloads give: a block, or why there is none.
 use super::*;
-use std::alloc::AllocError;
+use std::alloc::{AllocError, Global};
 use std::process::Abort;
 use std::test::Fail;
 use t3_holder::Bytes;
 
+/// A name, flags and a payload, and what they give.
+type Row = (&'static [u8; 4], u16, &'static [u8], &'static str);
+
+/// Tries a row with a payload that lies in a buffer, and with one that is handed in.
+fn check(rt: &impl Abort, alloc: Global, row: Row) -> Result<(), Fail> {
+    let (name, flags, payload, wanted) = row;
+    assert!(rt; *name != END_NAME);
+    assert!(rt; payload.len() < 64);
+    let copied = parse_block(alloc, *name, flags, payload);
+    let shown = format!(in alloc; "{copied:?}")?;
+    assert_eq!(rt; shown.as_str(), wanted);
+    let owned = Bytes(Vec::from_slice(alloc, payload)?);
+    let taken = take_block(alloc, *name, flags, owned);
+    let shown = format!(in alloc; "{taken:?}")?;
+    assert_eq!(rt; shown.as_str(), wanted);
+    Ok(())
+}
+
+// Kept as bytes, or refused where a name without meaning is mandatory.
 #[test]
-fn takes_payloads_apart(rt: HostRuntime) -> Result<(), Fail> {
-    let kept: [([u8; 4], u16, &[u8]); 5] = [
-        (*b"ZZZZ", 0, b"\x01\x02\x03"),
-        (*b"ZZZZ", 0xFFFE, b""),
-        (*b"ENTP", 1, b"\x00"),
-        (*b"SYMD", 0, b""),
-        (*b"MRES", 1, b"\xFF\x00"),
+fn keeps_payloads_without_a_layout(rt: HostRuntime) -> Result<(), Fail> {
+    let rows: [Row; 5] = [
+        (
+            b"ZZZZ",
+            0,
+            b"\x01\x02",
+            "Ok(Opaque { name: [90, 90, 90, 90], bytes: Bytes([1, 2]) })",
+        ),
+        (
+            b"ZZZZ",
+            0xFFFE,
+            b"",
+            "Ok(Opaque { name: [90, 90, 90, 90], bytes: Bytes([]) })",
+        ),
+        (
+            b"SYMD",
+            1,
+            b"\x05",
+            "Ok(Opaque { name: [83, 89, 77, 68], bytes: Bytes([5]) })",
+        ),
+        (b"ZZZZ", 1, b"", "Err(UnknownMandatory)"),
+        (b"entp", 3, b"", "Err(UnknownMandatory)"),
     ];
-    for (name, flags, payload) in kept {
-        let copied = parse_block(rt.alloc(), name, flags, payload)?;
-        check(&rt, &copied, name, payload)?;
-        let taken = take_block(name, flags, Bytes(Vec::from_slice(rt.alloc(), payload)?))?;
-        check(&rt, &taken, name, payload)?;
+    for row in rows {
+        check(&rt, rt.alloc(), row)?;
     }
     Ok(())
 }
 
-fn check(rt: &impl Abort, block: &Block, wanted: [u8; 4], payload: &[u8]) -> Result<(), Fail> {
-    let Block::Opaque { name, bytes } = block;
-    assert_eq!(rt; *name, wanted);
-    assert_eq!(rt; bytes.0.as_slice(), payload);
+// A head of 16 bytes, and what follows it.
+#[test]
+fn takes_entry_points_apart(rt: HostRuntime) -> Result<(), Fail> {
+    let rows: [Row; 4] = [
+        (
+            b"ENTP",
+            1,
+            b"\x01\x02\x00\x00\x0A\x00\x0B\x00\x01\x00\x02\x00\x03\x00\x04\x01",
+            "Ok(Entry { code: 513, method_size: 10, exception_size: 11, debug: [1, 2, 3, 260], tail: Bytes([]) })",
+        ),
+        (
+            b"ENTP",
+            0,
+            b"\x00\x00\x00\x80\x0A\x00\x0A\x00\x00\x00\x00\x00\x00\x00\x00\x00\x07\x08",
+            "Ok(Entry { code: 2147483648, method_size: 10, exception_size: 10, debug: [0, 0, 0, 0], tail: Bytes([7, 8]) })",
+        ),
+        (b"ENTP", 1, b"", "Err(Malformed { items: 0 })"),
+        (b"ENTP", 1, &[0; 15], "Err(Malformed { items: 0 })"),
+    ];
+    for row in rows {
+        check(&rt, rt.alloc(), row)?;
+    }
     Ok(())
 }
 
+// A head of 10 bytes, and nothing behind it.
 #[test]
-fn refuses_unknown_mandatory_blocks(rt: HostRuntime) -> Result<(), Fail> {
-    let refused = Some(BlockRefusal::UnknownMandatory);
-    for (name, flags) in [
-        (*b"ZZZZ", 1),
-        (*b"ZZZZ", 3),
-        (*b"entp", 1),
-        (*b"EOF\x00", 0xFFFF),
-    ] {
-        assert_eq!(rt;
-            parse_block(rt.alloc(), name, flags, b"\x01").err(),
-            refused
-        );
-        let payload = Bytes(Vec::new(rt.alloc()));
-        assert_eq!(rt; take_block(name, flags, payload).err(), refused);
+fn takes_pool_definitions_apart(rt: HostRuntime) -> Result<(), Fail> {
+    let rows: [Row; 3] = [
+        (
+            b"CPDF",
+            1,
+            b"\x01\x00\x02\x00\x00\x00\x00\x10\x00\x00",
+            "Ok(PoolDef { pool: 1, count: 2, size: 4096 })",
+        ),
+        (b"CPDF", 1, &[0; 9], "Err(Malformed { items: 0 })"),
+        (b"CPDF", 1, &[0; 11], "Err(Malformed { items: 0 })"),
+    ];
+    for row in rows {
+        check(&rt, rt.alloc(), row)?;
+    }
+    Ok(())
+}
+
+// A head of 7 bytes, and a page under a mask.
+#[test]
+fn takes_pages_apart(rt: HostRuntime) -> Result<(), Fail> {
+    let rows: [Row; 4] = [
+        (
+            b"CPPG",
+            1,
+            b"\x02\x00\x03\x00\x00\x00\xFF\xAB\x0D",
+            "Ok(Page { pool: 2, index: 3, mask: 255, bytes: Bytes([84, 242]) })",
+        ),
+        (
+            b"CPPG",
+            1,
+            b"\x01\x00\x00\x00\x00\x00\x5A",
+            "Ok(Page { pool: 1, index: 0, mask: 90, bytes: Bytes([]) })",
+        ),
+        (
+            b"CPPG",
+            0,
+            b"\x01\x00\x00\x00\x00\x01\x00\x01",
+            "Ok(Page { pool: 1, index: 16777216, mask: 0, bytes: Bytes([1]) })",
+        ),
+        (b"CPPG", 1, &[0; 6], "Err(Malformed { items: 0 })"),
+    ];
+    for row in rows {
+        check(&rt, rt.alloc(), row)?;
+    }
+    Ok(())
+}
+
+// A count, and so many names behind their lengths.
+#[test]
+fn takes_function_sets_apart(rt: HostRuntime) -> Result<(), Fail> {
+    let rows: [Row; 11] = [
+        (
+            b"FNSD",
+            1,
+            b"\x00\x00",
+            "Ok(Functions { names: Names([]) })",
+        ),
+        (
+            b"FNSD",
+            1,
+            b"\x02\x00\x02ab\x00",
+            "Ok(Functions { names: Names([Bytes([97, 98]), Bytes([])]) })",
+        ),
+        (b"FNSD", 1, b"", "Err(Malformed { items: 0 })"),
+        (b"FNSD", 1, b"\x01", "Err(Malformed { items: 0 })"),
+        (b"FNSD", 1, b"\x00\x00\x00", "Err(Malformed { items: 0 })"),
+        (b"FNSD", 1, b"\x01\x00", "Err(Malformed { items: 0 })"),
+        (b"FNSD", 1, b"\x01\x00\x03ab", "Err(Malformed { items: 0 })"),
+        (b"FNSD", 1, b"\x02\x00\x02ab", "Err(Malformed { items: 1 })"),
+        (
+            b"FNSD",
+            1,
+            b"\x02\x00\x02ab\x02c",
+            "Err(Malformed { items: 1 })",
+        ),
+        (
+            b"FNSD",
+            1,
+            b"\x01\x00\x02abc",
+            "Err(Malformed { items: 1 })",
+        ),
+        (
+            b"FNSD",
+            1,
+            b"\xFF\xFF\x00\x00\x00",
+            "Err(Malformed { items: 3 })",
+        ),
+    ];
+    for row in rows {
+        check(&rt, rt.alloc(), row)?;
     }
     Ok(())
 }

@@ -7,7 +7,7 @@ use Rattle.t3_io.specs.Session.{Session, showing}
 use Rattle.t3_image_read.specs.ImageText.{ImageValue, text}
 use Rattle.t3_image_read.specs.Refusal.{Refused, IsRefused, BeginsWithImage}
 use Rattle.t3_holder.specs.NumberText.{AreBytes}
-use Rattle.t3_image_read.proofs.Headers.{AreBytes-take}
+use Rattle.t3_blocks.proofs.Lists.{AreBytes-take}
 use Rattle.t3_image_read.proofs.Existence.{image_or_refused}
 use Rattle.t3_image_read.proofs.Uniqueness.{one_image, one_refusal, not_both}
 use Rattle.t3_cli.specs.declared.read.ReadImage.{ReadImage}

@@ -1,6 +1,6 @@
 //! The lines that are shown.
 ghost use Rattle.std.specs.Prelude.{◌≡◌, IfOk, string_bytes};
-ghost use Rattle.t3_cli.specs.Lines.{absent_line, refused_line, ok_line, why_name as name_of};
+ghost use Rattle.t3_cli.specs.Lines.{absent_line, refused_line, ok_line, why_name as name_of, items_of};
 
 use std::alloc::{AllocError, Global};
 use t3_image_read::ReadWhy;
@@ -19,7 +19,20 @@ pub(crate) fn refused(alloc: Global, place: u32, why: ReadWhy) -> Result<String,
     ensures { IfOk result (λ line. string_bytes line ≡ refused_line why place) }
 {
     let name = why_name(why);
-    format!(in alloc; "refused {name} at {place}\n")
+    match items(why) {
+        Some(items) => format!(in alloc; "refused {name} at {place} items={items}\n"),
+        None => format!(in alloc; "refused {name} at {place}\n"),
+    }
+}
+
+/// How many items spell of a payload that is malformed.
+fn items(why: ReadWhy) -> Option<u32>
+    ensures { result ≡ items_of why }
+{
+    match why {
+        ReadWhy::Malformed { items } => Some(items),
+        _ => None,
+    }
 }
 
 /// The line of an image with so many blocks, its end among them, that uses so many bytes.
@@ -36,6 +49,7 @@ fn why_name(why: ReadWhy) -> &'static str
         ReadWhy::Signature => "Signature",
         ReadWhy::Version => "Version",
         ReadWhy::UnknownMandatory => "UnknownMandatory",
+        ReadWhy::Malformed { .. } => "Malformed",
         ReadWhy::Truncated => "Truncated",
         ReadWhy::Unbuilt => "Unbuilt",
     }

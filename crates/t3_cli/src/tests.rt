@@ -116,6 +116,61 @@ fn checks_the_worked_images(rt: HostRuntime) -> Result<(), Fail> {
     Ok(())
 }
 
+/// The line that `check` shows of the header, these parts and the end.
+fn checked(alloc: Global, parts: &[&[u8]]) -> Result<Vec<u8>, Fail> {
+    let mut bytes = image(alloc, parts)?;
+    bytes.extend_from_slice(b"EOF \x00\x00\x00\x00\x00\x00")?;
+    let (_, shown) = outcome(alloc, &["check", "a.t3"], Some(&bytes))?;
+    Ok(shown)
+}
+
+#[test]
+fn checks_the_blocks_of_a_running_image(rt: HostRuntime) -> Result<(), Fail> {
+    let entry =
+        b"ENTP\x10\x00\x00\x00\x01\x00\x00\x00\x00\x00\x0A\x00\x0A\x00\x00\x00\x00\x00\x00\x00\x00\x00";
+    let pool = b"CPDF\x0A\x00\x00\x00\x01\x00\x01\x00\x01\x00\x00\x00\x40\x00\x00\x00";
+    let functions = b"FNSD\x11\x00\x00\x00\x01\x00\x01\x00\x0Etads-io/030007";
+    let page = b"CPPG\x17\x00\x00\x00\x01\x00\x01\x00\x00\x00\x00\x00\x00";
+    let code = b"\x00\x00\x00\x00\x02\x00\x00\x00\x00\x00\x03\x2A\xB1\x01\x00\x51";
+    let shown = checked(rt.alloc(), &[entry, pool, functions, page, code])?;
+    assert_eq!(rt; shown.as_slice(), b"ok blocks=5 bytes=185\n".as_slice());
+    let rows: [(&[u8], &str); 7] = [
+        (
+            b"ENTP\x01\x00\x00\x00\x00\x00\x00",
+            "refused Malformed at 69 items=0\n",
+        ),
+        (
+            b"CPDF\x0B\x00\x00\x00\x00\x00\x01\x00\x01\x00\x00\x00\x40\x00\x00\x00\x00",
+            "refused Malformed at 69 items=0\n",
+        ),
+        (
+            b"CPPG\x06\x00\x00\x00\x00\x00\x01\x00\x00\x00\x00\x00",
+            "refused Malformed at 69 items=0\n",
+        ),
+        (
+            b"CPPG\x09\x00\x00\x00\x00\x00\x01\x00\x00\x00\x00\x00\xFF\xAB\x0D",
+            "ok blocks=2 bytes=98\n",
+        ),
+        (
+            b"FNSD\x05\x00\x00\x00\x00\x00\x02\x00\x02ab",
+            "refused Malformed at 69 items=1\n",
+        ),
+        (
+            b"FNSD\x06\x00\x00\x00\x00\x00\x01\x00\x02abc",
+            "refused Malformed at 69 items=1\n",
+        ),
+        (
+            b"FNSD\x05\x00\x00\x00\x00\x00\x01\x00\x03ab",
+            "refused Malformed at 69 items=0\n",
+        ),
+    ];
+    for (block, wanted) in rows {
+        let shown = checked(rt.alloc(), &[block])?;
+        assert_eq!(rt; shown.as_slice(), wanted.as_bytes());
+    }
+    Ok(())
+}
+
 #[test]
 fn other_words_show_the_usage(rt: HostRuntime) -> Result<(), Fail> {
     let rows: [&[&str]; 7] = [

@@ -3,28 +3,46 @@ use Rattle.std.proofs.Common.{◌≡◌, ℕ, ◌+◌, ◌^◌, ◌<◌, ◌≤�
 use Rattle.std.specs.Prelude.{IsTrue}
 use Rattle.std.proofs.lemmas.List.{length-append}
 use Rattle.t3_blocks.specs.declared.block.Block.{Block}
-use Rattle.t3_blocks.specs.declared.block.Block.TheVariants.{Opaque}
+use Rattle.t3_blocks.specs.declared.block.Block.TheVariants.{Entry, PoolDef, Page, Functions, Opaque}
 use Rattle.t3_blocks.specs.BlockName.{end_name, is_mandatory, is_unknown_mandatory}
-use Rattle.t3_blocks.specs.Spelling.{IsSpellable, name_of, payload_of, image_limit}
+use Rattle.t3_blocks.specs.Spelling.{Spells, IsSpellable, name_of, payload_of, image_limit}
+use Rattle.t3_blocks.specs.Malformed.{IsMalformed}
+use Rattle.t3_blocks.proofs.Laws.{same_block, not_both}
+use Rattle.t3_blocks.proofs.Inversion.{differ}
 use Rattle.t3_image_read.specs.declared.header.BlockHeader.{BlockHeader}
 use Rattle.t3_image_read.specs.declared.image.PlacedBlock.{PlacedBlock}
 use Rattle.t3_image_read.specs.declared.refusal.ReadWhy.{ReadWhy}
-use Rattle.t3_image_read.specs.declared.refusal.ReadWhy.TheVariants.{Signature, Version, UnknownMandatory, Truncated, Unbuilt}
+use Rattle.t3_image_read.specs.declared.refusal.ReadWhy.TheVariants.{Signature, Version, UnknownMandatory, Malformed, Truncated, Unbuilt}
 use Rattle.t3_image_read.specs.ImageText.{header_text, header_of, block_text, end_header}
 use Rattle.t3_image_read.specs.Validity.{IsHeader, IsGood, header_limit}
 use Rattle.t3_image_read.specs.Refusal.{StartsWith, IsUnbuilt, BlockBreaks}
-use Rattle.t3_image_read.proofs.Lists.{split_same}
+use Rattle.t3_blocks.proofs.Lists.{split_same}
 use Rattle.t3_image_read.proofs.Headers.{header_same, length-header_text}
 
 -- what the words about one block say
 pub spellable_name : (block : Block) → IsSpellable block → length (name_of block) ≡ 4
+spellable_name (Entry a b c d e) is = refl
+spellable_name (PoolDef a b c) is = refl
+spellable_name (Page a b c d) is = refl
+spellable_name (Functions a) is = refl
 spellable_name (Opaque name bytes) is = is.0
 
 pub not_end : (block : Block) → IsSpellable block → name_of block ≡ end_name → ⊥
-not_end (Opaque name bytes) is e = is.1 e
+not_end (Entry a b c d t) is name = let e : 78 ≡ 79 = differ _ _ 1 name in absurd (omega (arith, e))
+not_end (PoolDef a b c) is name = let e : 67 ≡ 69 = differ _ _ 0 name in absurd (omega (arith, e))
+not_end (Page a b c d) is name = let e : 67 ≡ 69 = differ _ _ 0 name in absurd (omega (arith, e))
+not_end (Functions a) is name = let e : 70 ≡ 69 = differ _ _ 0 name in absurd (omega (arith, e))
+not_end (Opaque own bytes) is e = is.1 e
 
-same_block : (a b : Block) → name_of a ≡ name_of b → payload_of a ≡ payload_of b → a ≡ b
-same_block (Opaque n p) (Opaque m q) name payload = λ i. Opaque (name i) (payload i)
+-- the end is no block that is malformed
+pub end_not_malformed : (payload : List ℕ) (items : ℕ) → IsMalformed end_name payload items → ⊥
+end_not_malformed payload items (inl (inl entry, none, spells)) = let e : 79 ≡ 78 = differ _ _ 1 entry in absurd (omega (arith, e))
+end_not_malformed payload items (inl (inr (inl pool), none, spells)) = let e : 69 ≡ 67 = differ _ _ 0 pool in absurd (omega (arith, e))
+end_not_malformed payload items (inl (inr (inr page), none, spells)) = let e : 69 ≡ 67 = differ _ _ 0 page in absurd (omega (arith, e))
+end_not_malformed payload items (inr (functions, broken)) = let e : 69 ≡ 70 = differ _ _ 0 functions in absurd (omega (arith, e))
+
+spells_itself : (block : Block) → IsSpellable block → Spells block (name_of block) (payload_of block)
+spells_itself block spellable = record { spellable = spellable; name_is = refl; payload_is = refl }
 
 pub IsHeader-header_of : (placed : PlacedBlock) → IsGood placed → IsHeader (header_of placed)
 IsHeader-header_of placed good = record {
@@ -52,7 +70,9 @@ block_same a b x y good_a good_b e =
     let heads = header_same (header_of a) (header_of b) _ _ (IsHeader-header_of a good_a) (IsHeader-header_of b good_b) (sym (block_text-append a x) ∙ e ∙ block_text-append b y) in
     let long : length (payload_of a.block) ≡ length (payload_of b.block) = ap (λ (h : BlockHeader). h.size) heads.0 in
     let payloads = split_same (payload_of a.block) (payload_of b.block) x y long heads.1 in
-    let block = same_block a.block b.block (ap (λ (h : BlockHeader). h.name) heads.0) payloads.0 in
+    let name : name_of a.block ≡ name_of b.block = ap (λ (h : BlockHeader). h.name) heads.0 in
+    let spells_b = spells_itself b.block good_b.spellable in
+    let block = same_block a.block b.block (name_of a.block) (payload_of a.block) (spells_itself a.block good_a.spellable) (record { spellable = spells_b.spellable; name_is = sym name; payload_is = sym payloads.0 }) in
     let flags : a.flags ≡ b.flags = ap (λ (h : BlockHeader). h.flags) heads.0 in
     ((λ i. record { flags = flags i; block = block i }), payloads.1)
 
@@ -72,19 +92,22 @@ known_not false e h = absurd cc
 
 -- a whole header within the limits, of a known name, with its whole payload behind it, breaks no rule
 pub unbroken : (count place : ℕ) (header : BlockHeader) (x : List ℕ) → IsHeader header → (IsUnbuilt count place header → ⊥) → is_unknown_mandatory header.name header.flags ≡ false → header.size ≤ length x
-    → (why : ReadWhy) → BlockBreaks count place (header_text header ++ x) why → ⊥
-unbroken count place header x fits within known whole Signature broken = broken
-unbroken count place header x fits within known whole Version broken = broken
-unbroken count place header x fits within known whole Unbuilt (other, y, starts, passes) =
+    → ((payload y : List ℕ) (items : ℕ) → x ≡ payload ++ y → length payload ≡ header.size → IsMalformed header.name payload items → ⊥) → (why : ReadWhy) → BlockBreaks count place (header_text header ++ x) why → ⊥
+unbroken count place header x fits within known whole spelled Signature broken = broken
+unbroken count place header x fits within known whole spelled Version broken = broken
+unbroken count place header x fits within known whole spelled Unbuilt (other, y, starts, passes) =
     let same = only_header header other x y fits starts in
     within (subst (λ h. IsUnbuilt count place h) (sym same.0) passes)
-unbroken count place header x fits within known whole UnknownMandatory (other, y, starts, unknown) =
+unbroken count place header x fits within known whole spelled UnknownMandatory (other, y, starts, unknown) =
     let same = only_header header other x y fits starts in
     known_not _ known (subst (λ (h : BlockHeader). IsTrue (is_unknown_mandatory h.name h.flags)) (sym same.0) unknown)
-unbroken count place header x fits within known whole Truncated (inl short) =
+unbroken count place header x fits within known whole spelled (Malformed items) nothing =
+    let same = only_header header nothing.header x (nothing.payload ++ nothing.behind) fits nothing.starts in
+    spelled nothing.payload nothing.behind items same.1 (nothing.whole ∙ sym (ap (λ (h : BlockHeader). h.size) same.0)) (subst (λ (h : BlockHeader). IsMalformed h.name nothing.payload items) (sym same.0) nothing.malformed)
+unbroken count place header x fits within known whole spelled Truncated (inl short) =
     let long = length-header_text header fits in
     absurd (omega (arith, length-append (header_text header) x))
-unbroken count place header x fits within known whole Truncated (inr (other, y, starts, short)) =
+unbroken count place header x fits within known whole spelled Truncated (inr (other, y, starts, short)) =
     let same = only_header header other x y fits starts in
     let size : header.size ≡ other.size = ap (λ (h : BlockHeader). h.size) same.0 in
     let behind : length x ≡ length y = ap length same.1 in
@@ -102,7 +125,10 @@ good_unbroken count place placed x good few fits why broken =
       ]
     ] in
     let whole : length (payload_of placed.block) ≤ length (payload_of placed.block ++ x) = omega (arith, length-append (payload_of placed.block) x) in
-    unbroken count place (header_of placed) (payload_of placed.block ++ x) (IsHeader-header_of placed good) within good.known whole why (subst (λ r. BlockBreaks count place r why) (block_text-append placed x) broken)
+    let spelled : (payload y : List ℕ) (items : ℕ) → payload_of placed.block ++ x ≡ payload ++ y → length payload ≡ length (payload_of placed.block) → IsMalformed (name_of placed.block) payload items → ⊥ = λ payload y items e long malformed.
+    let same = split_same (payload_of placed.block) payload x y (sym long) e in
+    not_both placed.block (name_of placed.block) payload items (record { spellable = good.spellable; name_is = refl; payload_is = same.0 }) malformed in
+    unbroken count place (header_of placed) (payload_of placed.block ++ x) (IsHeader-header_of placed good) within good.known whole spelled why (subst (λ r. BlockBreaks count place r why) (block_text-append placed x) broken)
 
 and_false : (b : Bool) → (b && false) ≡ false
 and_false true = refl
@@ -119,4 +145,4 @@ end_unbroken count place flags x fits few near why broken =
         | inr far ↦ absurd (omega arith)
       ]
     ] in
-    unbroken count place (end_header flags) x (IsHeader-end_header flags fits) within (and_false (is_mandatory flags)) (omega arith) why broken
+    unbroken count place (end_header flags) x (IsHeader-end_header flags fits) within (and_false (is_mandatory flags)) (omega arith) (λ payload y items e long malformed. end_not_malformed payload items malformed) why broken

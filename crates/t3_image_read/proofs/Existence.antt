@@ -4,36 +4,27 @@ use Rattle.std.specs.Prelude.{IsTrue}
 use Rattle.std.proofs.lemmas.Bool.{cases_lt, cases_eq, cases_Bool}
 use Rattle.std.proofs.lemmas.List.{length-append, length-take, length-drop, take-append-drop, get_or-take, ext_get_or}
 use Rattle.t3_holder.specs.NumberText.{little_endian, AreBytes}
-use Rattle.t3_blocks.specs.declared.block.Block.TheVariants.{Opaque}
+use Rattle.t3_blocks.specs.declared.block.Block.{Block}
 use Rattle.t3_blocks.specs.BlockName.{end_name, is_unknown_mandatory}
-use Rattle.t3_blocks.specs.Spelling.{image_limit}
+use Rattle.t3_blocks.specs.Spelling.{Spells, image_limit}
+use Rattle.t3_blocks.specs.Malformed.{IsMalformed}
+use Rattle.t3_blocks.proofs.Decided.{decided}
 use Rattle.t3_image_read.specs.declared.header.BlockHeader.{BlockHeader}
 use Rattle.t3_image_read.specs.declared.image.Head.{Head}
 use Rattle.t3_image_read.specs.declared.image.PlacedBlock.{PlacedBlock}
 use Rattle.t3_image_read.specs.declared.refusal.ReadWhy.{ReadWhy}
-use Rattle.t3_image_read.specs.declared.refusal.ReadWhy.TheVariants.{Signature, Version, UnknownMandatory, Truncated, Unbuilt}
+use Rattle.t3_image_read.specs.declared.refusal.ReadWhy.TheVariants.{Signature, Version, UnknownMandatory, Malformed, Truncated, Unbuilt}
 use Rattle.t3_image_read.specs.ImageText.{ImageValue, signature, version, head_text, header_text, block_text, front_text, end_header, text}
 use Rattle.t3_image_read.specs.Validity.{IsHead, IsHeader, IsGood, IsFront, IsValid, header_limit}
-use Rattle.t3_image_read.specs.Refusal.{IsFirstBroken, DiffersFromSignature, HasOtherVersion, HeadBreaks, head_rules, StartsWith, IsUnbuilt, BlockBreaks, block_rules, head_place, IsRefused, BeginsWithImage}
+use Rattle.t3_image_read.specs.Refusal.{IsFirstBroken, DiffersFromSignature, HasOtherVersion, HeadBreaks, StartsWith, IsUnbuilt, SpellsNothing, BlockBreaks, head_place, IsRefused, BeginsWithImage}
 use Rattle.t3_image_read.proofs.Lists.{head_parts}
-use Rattle.t3_image_read.proofs.Headers.{some_header, header_same, length-header_text, AreBytes-drop}
+use Rattle.t3_blocks.proofs.Lists.{same_or_not, AreBytes-take, AreBytes-drop, AreBytes-behind}
+use Rattle.t3_image_read.proofs.Headers.{some_header, header_same, length-header_text}
 use Rattle.t3_image_read.proofs.Heads.{length-signature, head_text-append}
 use Rattle.t3_image_read.proofs.Blocks.{IsHeader-end_header, length-block_text}
+use Rattle.t3_image_read.proofs.Firsts.{first_signature, first_version, first_head_cut, block_earlier}
 use Rattle.t3_image_read.proofs.Uniqueness.{text-append}
 use Rattle.t3_image_read.proofs.Push.{front_text-push, IsFront-push, IsFront-head, front_text-head}
-
-pub same_or_not : (a b : List ℕ) → (a ≡ b) ⊎ (a ≢ b)
-same_or_not [] [] = inl refl
-same_or_not [] (y ∷ b) = inr (λ e. absurd cc)
-same_or_not (x ∷ a) [] = inr (λ e. absurd cc)
-same_or_not (x ∷ a) (y ∷ b) =
-    elim (cases_eq x y) [
-      | inl same ↦ elim (same_or_not a b) [
-        | inl rest ↦ inl cc
-        | inr differs ↦ inr (λ e. differs cc)
-      ]
-      | inr differs ↦ inr (λ e. differs cc)
-    ]
 
 -- ---- one block
 
@@ -81,28 +72,60 @@ pub record TheEnd (count place : ℕ) (rest : List ℕ) : Type 0 where
   pub near : place + 10 ≤ image_limit
 
 abbrev BreaksFirst : ℕ → ℕ → List ℕ → Type 0
-BreaksFirst count place rest = (why : ReadWhy) × IsFirstBroken (BlockBreaks count place rest) block_rules why
+BreaksFirst count place rest = (why : ReadWhy) × IsFirstBroken (BlockBreaks count place rest) why
 
 -- a short rest is cut, and breaks no other rule
-pub first_short : (count place : ℕ) (rest : List ℕ) → length rest < 10 → IsFirstBroken (BlockBreaks count place rest) block_rules Truncated
-first_short count place rest short =
-    inr (no_header (IsUnbuilt count place) rest short, inr (no_header (λ h. IsTrue (is_unknown_mandatory h.name h.flags)) rest short, inl (refl, inl short)))
+no_payload : (rest : List ℕ) → length rest < 10 → (items : ℕ) → ¬ SpellsNothing rest items
+no_payload rest short items nothing =
+    let long = length-header_text nothing.header nothing.starts.fits in
+    absurd (omega (arith, ap length nothing.starts.is, length-append (header_text nothing.header) (nothing.payload ++ nothing.behind)))
+
+pub first_short : (count place : ℕ) (rest : List ℕ) → length rest < 10 → IsFirstBroken (BlockBreaks count place rest) Truncated
+first_short count place rest short = record {
+  broken = inl short;
+  first = block_earlier count place rest 6 (λ less. no_header (IsUnbuilt count place) rest short) (λ less. no_header (λ h. IsTrue (is_unknown_mandatory h.name h.flags)) rest short) (λ less. no_payload rest short) (omega arith);
+}
 
 -- so is a payload, behind a header that breaks no rule
+not_whole : (rest : List ℕ) (header : BlockHeader) (behind : List ℕ) → StartsWith rest header behind → length behind < header.size → (items : ℕ) → ¬ SpellsNothing rest items
+not_whole rest header behind starts short items nothing =
+    let same = header_same header nothing.header behind (nothing.payload ++ nothing.behind) starts.fits nothing.starts.fits (sym starts.is ∙ nothing.starts.is) in
+    let size : header.size ≡ nothing.header.size = ap (λ (h : BlockHeader). h.size) same.0 in
+    absurd (omega (arith, ap length same.1, length-append nothing.payload nothing.behind, nothing.whole, size))
+
+not_known : (header : BlockHeader) → is_unknown_mandatory header.name header.flags ≡ false → ¬ IsTrue (is_unknown_mandatory header.name header.flags)
+not_known header known h = absurd cc
+
 pub first_cut : (count place : ℕ) (rest : List ℕ) (header : BlockHeader) (behind : List ℕ) → StartsWith rest header behind → ¬ IsUnbuilt count place header → is_unknown_mandatory header.name header.flags ≡ false → length behind < header.size
-    → IsFirstBroken (BlockBreaks count place rest) block_rules Truncated
-first_cut count place rest header behind starts within known short =
-    let is_known : ¬ IsTrue (is_unknown_mandatory header.name header.flags) = λ h. absurd cc in
-    inr (not_by_header (IsUnbuilt count place) rest header behind starts within, inr (not_by_header (λ h. IsTrue (is_unknown_mandatory h.name h.flags)) rest header behind starts is_known, inl (refl, inr (header, behind, starts, short))))
+    → IsFirstBroken (BlockBreaks count place rest) Truncated
+first_cut count place rest header behind starts within known short = record {
+  broken = inr (header, behind, starts, short);
+  first = block_earlier count place rest 6 (λ less. not_by_header (IsUnbuilt count place) rest header behind starts within) (λ less. not_by_header (λ h. IsTrue (is_unknown_mandatory h.name h.flags)) rest header behind starts (not_known header known))
+      (λ less. not_whole rest header behind starts short) (omega arith);
+}
+
+-- a whole payload that spells nothing, behind such a header
+pub first_malformed : (count place : ℕ) (rest : List ℕ) (header : BlockHeader) (payload behind : List ℕ) (items : ℕ) → StartsWith rest header (payload ++ behind) → ¬ IsUnbuilt count place header → is_unknown_mandatory header.name header.flags ≡ false → length payload ≡ header.size
+    → IsMalformed header.name payload items → IsFirstBroken (BlockBreaks count place rest) (Malformed items)
+first_malformed count place rest header payload behind items starts within known whole malformed = record {
+  broken = record { header = header; payload = payload; behind = behind; starts = starts; whole = whole; malformed = malformed };
+  first = block_earlier count place rest 5 (λ less. not_by_header (IsUnbuilt count place) rest header (payload ++ behind) starts within)
+      (λ less. not_by_header (λ h. IsTrue (is_unknown_mandatory h.name h.flags)) rest header (payload ++ behind) starts (not_known header known)) (λ less. absurd (omega arith)) (omega arith);
+}
 
 pub first_unknown : (count place : ℕ) (rest : List ℕ) (header : BlockHeader) (behind : List ℕ) → StartsWith rest header behind → ¬ IsUnbuilt count place header → IsTrue (is_unknown_mandatory header.name header.flags)
-    → IsFirstBroken (BlockBreaks count place rest) block_rules UnknownMandatory
-first_unknown count place rest header behind starts within unknown =
-    inr (not_by_header (IsUnbuilt count place) rest header behind starts within, inl (refl, (header, behind, starts, unknown)))
+    → IsFirstBroken (BlockBreaks count place rest) UnknownMandatory
+first_unknown count place rest header behind starts within unknown = record {
+  broken = (header, behind, starts, unknown);
+  first = block_earlier count place rest 4 (λ less. not_by_header (IsUnbuilt count place) rest header behind starts within) (λ less. absurd (omega arith)) (λ less. absurd (omega arith)) (omega arith);
+}
 
 pub first_passes : (count place : ℕ) (rest : List ℕ) (header : BlockHeader) (behind : List ℕ) → StartsWith rest header behind → IsUnbuilt count place header
-    → IsFirstBroken (BlockBreaks count place rest) block_rules Unbuilt
-first_passes count place rest header behind starts passes = inl (refl, (header, behind, starts, passes))
+    → IsFirstBroken (BlockBreaks count place rest) Unbuilt
+first_passes count place rest header behind starts passes = record {
+  broken = (header, behind, starts, passes);
+  first = block_earlier count place rest 3 (λ less. absurd (omega arith)) (λ less. absurd (omega arith)) (λ less. absurd (omega arith)) (omega arith);
+}
 
 -- what a header says that passes no limit
 pub few_within : (count place : ℕ) (header : BlockHeader) → ¬ IsUnbuilt count place header → count < header_limit
@@ -114,50 +137,65 @@ near_within count place header within = elim (cases_lt image_limit (place + 10 +
 pub empty_end : (count place : ℕ) (header : BlockHeader) → ¬ IsUnbuilt count place header → header.name ≡ end_name → header.size ≡ 0
 empty_end count place header within is_end = elim (cases_lt 0 header.size) [ inl sized ↦ absurd (within (inr (inl (is_end, sized)))) | inr none ↦ omega arith ]
 
--- the block that a header and its payload make
-abbrev pub block_made : BlockHeader → List ℕ → PlacedBlock
-block_made header payload = record { flags = header.flags; block = Opaque header.name payload }
-
--- a header whose payload is whole, that breaks no rule and isn't the end, begins a good block
-pub record MakesBlock (count place : ℕ) (header : BlockHeader) (payload : List ℕ) : Type 0 where
-  pub good : IsGood (block_made header payload)
-  pub is : block_text (block_made header payload) ≡ header_text header ++ payload
-  pub few : count < header_limit
-  pub near : place + length (block_text (block_made header payload)) ≤ image_limit
-
-pub makes_block : (count place : ℕ) (header : BlockHeader) (payload : List ℕ) → IsHeader header → ¬ IsUnbuilt count place header → is_unknown_mandatory header.name header.flags ≡ false → header.name ≢ end_name → length payload ≡ header.size
-    → MakesBlock count place header payload
+-- the block that a payload spells behind its header
+pub spelled_text : (header : BlockHeader) (payload : List ℕ) (block : Block) → Spells block header.name payload → length payload ≡ header.size → block_text (record { flags = header.flags; block = block }) ≡ header_text header ++ payload
 unfolding block_text
-makes_block count place header payload fits within known not_end long =
+spelled_text header payload block spells long =
+    let size = ap length spells.payload_is ∙ long in
+    λ i. header_text (record { name = spells.name_is i; size = size i; flags = header.flags }) ++ spells.payload_is i
+
+-- a header whose payload is whole and spells a block, and that breaks no rule, begins a good block
+pub record MakesBlock (count place : ℕ) (header : BlockHeader) (payload : List ℕ) (placed : PlacedBlock) : Type 0 where
+  pub good : IsGood placed
+  pub is : block_text placed ≡ header_text header ++ payload
+  pub few : count < header_limit
+  pub near : place + length (block_text placed) ≤ image_limit
+
+pub makes_block : (count place : ℕ) (header : BlockHeader) (payload : List ℕ) (block : Block) → IsHeader header → ¬ IsUnbuilt count place header → is_unknown_mandatory header.name header.flags ≡ false → length payload ≡ header.size → Spells block header.name payload
+    → MakesBlock count place header payload (record { flags = header.flags; block = block })
+makes_block count place header payload block fits within known long spells =
     let near = near_within count place header within in
-    let same : BlockHeader = record { name = header.name; size = length payload; flags = header.flags } in
-    let same_is : same ≡ header = λ i. record { name = header.name; size = long i; flags = header.flags } in
+    let is = spelled_text header payload block spells long in
     record {
-      good = record { spellable = (fits.name, not_end); size = omega (arith, fits.size); flags = fits.flags; known = known };
-      is = ap (λ h. header_text h ++ payload) same_is;
+      good = record { spellable = spells.spellable; size = omega (arith, ap length spells.payload_is, fits.size); flags = fits.flags; known = ap (λ name. is_unknown_mandatory name header.flags) spells.name_is ∙ known };
+      is = is;
       few = few_within count place header within;
-      near = omega (arith, ap (λ h. length (header_text h ++ payload)) same_is, length-append (header_text header) payload, length-header_text header fits);
+      near = omega (arith, ap length is, length-append (header_text header) payload, length-header_text header fits);
     }
 
-block_or_end : (count place : ℕ) (rest : List ℕ) (header : BlockHeader) (behind : List ℕ) → StartsWith rest header behind → ¬ IsUnbuilt count place header → is_unknown_mandatory header.name header.flags ≡ false → header.size ≤ length behind
-    → GoodBlock count place rest ⊎ TheEnd count place rest
-block_or_end count place rest header behind starts within known whole =
+the_end : (count place : ℕ) (rest : List ℕ) (header : BlockHeader) (behind : List ℕ) → StartsWith rest header behind → ¬ IsUnbuilt count place header → header.name ≡ end_name → TheEnd count place rest
+the_end count place rest header behind starts within is_end =
+    let none = empty_end count place header within is_end in
+    let near = near_within count place header within in
+    let is : header ≡ end_header header.flags = λ i. record { name = is_end i; size = none i; flags = header.flags } in
+    record { flags = header.flags; behind = behind; fits = starts.fits.flags; is = starts.is ∙ ap (λ h. header_text h ++ behind) is; few = few_within count place header within; near = omega arith }
+
+good_block : (count place : ℕ) (rest : List ℕ) (header : BlockHeader) (payload behind : List ℕ) (block : Block) → StartsWith rest header (payload ++ behind) → ¬ IsUnbuilt count place header → is_unknown_mandatory header.name header.flags ≡ false → length payload ≡ header.size
+    → Spells block header.name payload → GoodBlock count place rest
+good_block count place rest header payload behind block starts within known long spells =
+    let made = makes_block count place header payload block starts.fits within known long spells in
+    record {
+      block = record { flags = header.flags; block = block };
+      behind = behind;
+      good = made.good;
+      is = starts.is ∙ sym (append_assoc (header_text header) payload behind) ∙ ap (λ t. t ++ behind) (sym made.is);
+      few = made.few;
+      near = made.near;
+    }
+
+block_or_end : (count place : ℕ) (rest : List ℕ) (header : BlockHeader) (behind : List ℕ) → AreBytes rest → StartsWith rest header behind → ¬ IsUnbuilt count place header → is_unknown_mandatory header.name header.flags ≡ false → header.size ≤ length behind
+    → BreaksFirst count place rest ⊎ (GoodBlock count place rest ⊎ TheEnd count place rest)
+block_or_end count place rest header behind bytes starts within known whole =
+    let payload = take header.size behind in
+    let long : length payload ≡ header.size = omega (arith, length-take header.size behind) in
+    let parts : StartsWith rest header (payload ++ drop header.size behind) = subst (λ b. StartsWith rest header b) (sym (take-append-drop header.size behind)) starts in
+    let are = AreBytes-take header.size behind (AreBytes-behind (header_text header) behind (subst AreBytes starts.is bytes)) in
     elim (same_or_not header.name end_name) [
-      | inl is_end ↦
-          let none = empty_end count place header within is_end in
-          let near = near_within count place header within in
-          let is : header ≡ end_header header.flags = λ i. record { name = is_end i; size = none i; flags = header.flags } in
-          inr (record { flags = header.flags; behind = behind; fits = starts.fits.flags; is = starts.is ∙ ap (λ h. header_text h ++ behind) is; few = few_within count place header within; near = omega arith })
-      | inr other ↦
-          let made = makes_block count place header (take header.size behind) starts.fits within known other (omega (arith, length-take header.size behind)) in
-          inl (record {
-            block = block_made header (take header.size behind);
-            behind = drop header.size behind;
-            good = made.good;
-            is = starts.is ∙ ap (λ b. header_text header ++ b) (sym (take-append-drop header.size behind)) ∙ sym (append_assoc (header_text header) (take header.size behind) (drop header.size behind)) ∙ ap (λ t. t ++ drop header.size behind) (sym made.is);
-            few = made.few;
-            near = made.near;
-          })
+      | inl is_end ↦ inr (inr (the_end count place rest header behind starts within is_end))
+      | inr other ↦ elim (decided header.name payload starts.fits.name other are) [
+        | inl spelled ↦ inr (inl (good_block count place rest header payload (drop header.size behind) spelled.0 parts within known long spelled.1))
+        | inr broken ↦ inl (Malformed broken.0, first_malformed count place rest header payload (drop header.size behind) broken.0 parts within known long broken.1)
+      ]
     ]
 
 what_stands : (count place : ℕ) (rest : List ℕ) → AreBytes rest → BreaksFirst count place rest ⊎ (GoodBlock count place rest ⊎ TheEnd count place rest)
@@ -174,7 +212,7 @@ what_stands count place rest bytes =
               | inl unknown ↦ inl (UnknownMandatory, first_unknown count place rest header behind found.2 within unknown)
               | inr known ↦ elim (cases_lt (length behind) header.size) [
                 | inl short ↦ inl (Truncated, first_cut count place rest header behind found.2 within known short)
-                | inr whole ↦ inr (block_or_end count place rest header behind found.2 within known whole)
+                | inr whole ↦ block_or_end count place rest header behind bytes found.2 within known whole
               ]
             ]
           ]
@@ -229,16 +267,16 @@ version_or_not stream =
     ]
 
 -- what the header is: refused, or good
-head_stands : (stream : List ℕ) → ((why : ReadWhy) × IsFirstBroken (HeadBreaks stream) head_rules why) ⊎ ((head : Head) × IsHead head × (stream ≡ head_text head ++ drop 69 stream))
+head_stands : (stream : List ℕ) → ((why : ReadWhy) × IsFirstBroken (HeadBreaks stream) why) ⊎ ((head : Head) × IsHead head × (stream ≡ head_text head ++ drop 69 stream))
 head_stands stream =
     elim (signature_or_not stream) [
-      | inl differs ↦ inl (Signature, inl (refl, differs))
+      | inl differs ↦ inl (Signature, first_signature stream differs)
       | inr same ↦ elim (version_or_not stream) [
-        | inl other ↦ inl (Version, inr (same, inl (refl, other)))
+        | inl other ↦ inl (Version, first_version stream same other)
         | inr right ↦ elim (cases_lt (length stream) 69) [
           | inl short ↦ elim (same_or_not (take 2 (drop 11 stream)) (little_endian 2 version)) [
-            | inl is ↦ inl (Truncated, inr (same, inr ((λ other. other.1 is), inl (refl, short))))
-            | inr not ↦ inl (Truncated, inr (same, inr ((λ other. not (right other.0)), inl (refl, short))))
+            | inl is ↦ inl (Truncated, first_head_cut stream same (λ other. other.1 is) short)
+            | inr not ↦ inl (Truncated, first_head_cut stream same (λ other. not (right other.0)) short)
           ]
           | inr long ↦ let found = some_head stream (is_signature stream (omega arith) same) (right (omega arith)) long in inr (head_made stream, found.0, found.1)
         ]
@@ -246,10 +284,6 @@ head_stands stream =
     ]
 
 -- ---- the stream
-
-AreBytes-behind : (a b : List ℕ) → AreBytes (a ++ b) → AreBytes b
-AreBytes-behind [] b bytes = bytes
-AreBytes-behind (x ∷ a) b bytes = AreBytes-behind a b bytes.1
 
 -- the end behind a good front ends a valid image
 pub valid_image : (head : Head) (blocks : List PlacedBlock) (flags : ℕ) → IsFront head blocks → flags < 2 ^ 16 → length blocks < header_limit → length (front_text head blocks) + 10 ≤ image_limit → IsValid (record { head = head; blocks = blocks; eof_flags = flags })

@@ -11,8 +11,9 @@ use Rattle.t3_image_read.specs.ImageText.{signature, version, head_text}
 use Rattle.t3_image_read.specs.Validity.{IsHead}
 use Rattle.t3_image_read.specs.Refusal.{DiffersFromSignature, HasOtherVersion}
 use Rattle.t3_image_read.specs.Faults.{IsGoodSoFar}
+use Rattle.t3_blocks.proofs.Lists.{same_or_not}
 use Rattle.t3_image_read.proofs.Heads.{length-signature}
-use Rattle.t3_image_read.proofs.Existence.{first_difference, some_head, head_made, is_signature, same_or_not}
+use Rattle.t3_image_read.proofs.Existence.{first_difference, some_head, head_made, is_signature}
 
 -- what the test of the first bytes says
 pub signature_test : (s : List ℕ) (n : ℕ) (r : Bool) → n ≡ min (length s) 11 → r ≡ not (bytes_eq (take n s) (take n signature)) → (IsTrue r → DiffersFromSignature s) × (DiffersFromSignature s → IsTrue r)

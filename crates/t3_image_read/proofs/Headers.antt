@@ -1,13 +1,14 @@
 -- A block header is told from its bytes.
-use Rattle.std.proofs.Common.{◌≡◌, ℕ, zero, suc, ◌+◌, ◌^◌, ◌<◌, ◌≤◌, List, [], ◌∷◌, ◌++◌, length, get_or, take, drop, refl, sym, ap, ◌∙◌, append_assoc, arith}
-use Rattle.std.proofs.lemmas.List.{append-nil, drop_all, length-append, length-take, length-drop}
-use Rattle.t3_holder.specs.NumberText.{little_endian, value_of, AreBytes}
-use Rattle.t3_holder.proofs.Numbers.{length-little_endian, little_endian-value_of, same_number, four_at}
+use Rattle.std.proofs.Common.{◌≡◌, ℕ, ◌≤◌, List, [], ◌∷◌, ◌++◌, length, get_or, take, drop, refl, sym, ap, ◌∙◌, append_assoc, arith}
+use Rattle.std.proofs.lemmas.List.{append-nil, drop_all, length-append, length-take}
+use Rattle.t3_holder.specs.NumberText.{little_endian, AreBytes}
+use Rattle.t3_holder.proofs.Numbers.{length-little_endian, same_number, four_at}
 use Rattle.t3_image_read.specs.declared.header.BlockHeader.{BlockHeader}
 use Rattle.t3_image_read.specs.ImageText.{header_text}
 use Rattle.t3_image_read.specs.Validity.{IsHeader}
 use Rattle.t3_image_read.specs.Refusal.{StartsWith}
-use Rattle.t3_image_read.proofs.Lists.{split_same, four_four_two}
+use Rattle.t3_blocks.proofs.Lists.{split_same, says}
+use Rattle.t3_image_read.proofs.Lists.{four_four_two}
 
 pub length-header_text : (h : BlockHeader) → IsHeader h → length (header_text h) ≡ 10
 unfolding header_text
@@ -33,32 +34,6 @@ header_same h k x y fits_h fits_k e =
 pub header_text-parts : (name : List ℕ) (size flags : ℕ) (bytes : List ℕ) → take 4 bytes ≡ name → take 4 (drop 4 bytes) ≡ little_endian 4 size → take 2 (drop 8 bytes) ≡ little_endian 2 flags → header_text (record { name = name; size = size; flags = flags }) ++ drop 10 bytes ≡ bytes
 header_text-parts name size flags bytes is_name is_size is_flags =
     regroup (record { name = name; size = size; flags = flags }) (drop 10 bytes) ∙ rw (← is_name, ← is_size, ← is_flags) (four_four_two bytes)
-
-pub AreBytes-take : (n : ℕ) (bytes : List ℕ) → AreBytes bytes → AreBytes (take n bytes)
-AreBytes-take zero bytes all = tt
-AreBytes-take (suc n) [] all = tt
-AreBytes-take (suc n) (b ∷ bytes) all = (all.0, AreBytes-take n bytes all.1)
-
-pub AreBytes-drop : (n : ℕ) (bytes : List ℕ) → AreBytes bytes → AreBytes (drop n bytes)
-AreBytes-drop zero bytes all = all
-AreBytes-drop (suc n) [] all = tt
-AreBytes-drop (suc n) (b ∷ bytes) all = AreBytes-drop n bytes all.1
-
-value_fits : (width : ℕ) (bytes : List ℕ) → AreBytes bytes → length bytes ≡ width → value_of bytes < 256 ^ width
-value_fits zero [] all long = omega arith
-value_fits (suc width) [] all long = absurd (omega arith)
-value_fits zero (b ∷ bytes) all long = absurd (omega arith)
-value_fits (suc width) (b ∷ bytes) all long =
-    let rest = value_fits width bytes all.1 (omega arith) in
-    omega (arith, all.0)
-
--- the number that some of the bytes say, and its text
-says : (width from : ℕ) (bytes : List ℕ) → AreBytes bytes → from + width ≤ length bytes → (n : ℕ) × (n < 256 ^ width) × (take width (drop from bytes) ≡ little_endian width n)
-says width from bytes all le =
-    let part = take width (drop from bytes) in
-    let are = AreBytes-take width (drop from bytes) (AreBytes-drop from bytes all) in
-    let long : length part ≡ width = omega (arith, length-take width (drop from bytes), length-drop from bytes) in
-    (value_of part, value_fits width part are long, sym (little_endian-value_of part are) ∙ ap (λ w. little_endian w (value_of part)) long)
 
 -- what a reader of the ten bytes makes of them
 pub header_text-read : (bytes : List ℕ) (size flags : ℕ) → length bytes ≡ 10 → take 4 (drop 4 bytes) ≡ little_endian 4 size → take 2 (drop 8 bytes) ≡ little_endian 2 flags

@@ -5,11 +5,11 @@ use Rattle.t3_holder.specs.NumberText.{little_endian}
 use Rattle.t3_holder.proofs.Numbers.{length-little_endian}
 use Rattle.t3_image_read.specs.declared.image.Head.{Head}
 use Rattle.t3_image_read.specs.declared.refusal.ReadWhy.{ReadWhy}
-use Rattle.t3_image_read.specs.declared.refusal.ReadWhy.TheVariants.{Signature, Version, UnknownMandatory, Truncated, Unbuilt}
+use Rattle.t3_image_read.specs.declared.refusal.ReadWhy.TheVariants.{Signature, Version, UnknownMandatory, Malformed, Truncated, Unbuilt}
 use Rattle.t3_image_read.specs.ImageText.{signature, version, head_text}
 use Rattle.t3_image_read.specs.Validity.{IsHead}
 use Rattle.t3_image_read.specs.Refusal.{HeadBreaks}
-use Rattle.t3_image_read.proofs.Lists.{split_same}
+use Rattle.t3_blocks.proofs.Lists.{split_same}
 
 pub length-signature : length signature ≡ 11
 unfolding signature
@@ -42,3 +42,4 @@ head_unbroken h x is Version (there, differs) =
 head_unbroken h x is Truncated short = let long = length-head_text h is in absurd (omega (arith, length-append (head_text h) x))
 head_unbroken h x is UnknownMandatory broken = broken
 head_unbroken h x is Unbuilt broken = broken
+head_unbroken h x is (Malformed items) broken = broken

@@ -1,8 +1,8 @@
 -- One more good block behind a good front.
 use Rattle.std.proofs.Common.{◌≡◌, ◌+◌, ◌<◌, ◌≤◌, List, [], ◌∷◌, ◌++◌, length, sym, ap, arith}
-use Rattle.std.specs.List.{AllByRecursion}
 use Rattle.std.proofs.lemmas.List.{length-append, length_push, append-nil, flat_map_more}
 use Rattle.t3_blocks.specs.Spelling.{image_limit}
+use Rattle.t3_blocks.proofs.Lists.{AllByRecursion-push}
 use Rattle.t3_image_read.specs.declared.image.Head.{Head}
 use Rattle.t3_image_read.specs.declared.image.PlacedBlock.{PlacedBlock}
 use Rattle.t3_image_read.specs.ImageText.{head_text, block_text, front_text}
@@ -12,10 +12,6 @@ use Rattle.t3_image_read.proofs.Heads.{length-head_text}
 pub front_text-push : (h : Head) (bs : List PlacedBlock) (b : PlacedBlock) → front_text h (bs ++ b ∷ []) ≡ front_text h bs ++ block_text b
 unfolding front_text
 front_text-push h bs b = sym (flat_map_more block_text (head_text h) bs b)
-
-AllByRecursion-push : {X : Type 0} (P : X → Type 0) (xs : List X) (y : X) → AllByRecursion P xs → P y → AllByRecursion P (xs ++ y ∷ [])
-AllByRecursion-push P [] y all here = (here, tt)
-AllByRecursion-push P (x ∷ xs) y all here = (all.0, AllByRecursion-push P xs y all.1 here)
 
 pub IsFront-push : (h : Head) (bs : List PlacedBlock) (b : PlacedBlock) → IsFront h bs → IsGood b → length bs < header_limit → length (front_text h bs) + length (block_text b) ≤ image_limit → IsFront h (bs ++ b ∷ [])
 IsFront-push h bs b front good few near = record {

@@ -5,26 +5,28 @@ use Rattle.std.specs.Global.{Vec}
 use Rattle.t3_blocks.specs.declared.block.Block.{Block}
 use Rattle.t3_blocks.specs.BlockName.{end_name, is_unknown_mandatory}
 use Rattle.t3_blocks.specs.Spelling.{Spells}
+use Rattle.t3_blocks.specs.Malformed.{IsMalformed}
 use Rattle.t3_image_read.specs.declared.header.BlockHeader.{BlockHeader}
 use Rattle.t3_image_read.specs.declared.image.Head.{Head}
 use Rattle.t3_image_read.specs.declared.image.PlacedBlock.{PlacedBlock}
 use Rattle.t3_image_read.specs.declared.refusal.ReadRefusal.{ReadRefusal}
 use Rattle.t3_image_read.specs.declared.refusal.ReadRefusal.TheVariants.{At, NoMemory}
 use Rattle.t3_image_read.specs.declared.refusal.ReadWhy.{ReadWhy}
-use Rattle.t3_image_read.specs.declared.refusal.ReadWhy.TheVariants.{Signature, Version, UnknownMandatory, Truncated, Unbuilt}
+use Rattle.t3_image_read.specs.declared.refusal.ReadWhy.TheVariants.{Signature, Version, UnknownMandatory, Malformed, Truncated, Unbuilt}
 use Rattle.t3_image_read.specs.declared.taker.Part.{Part}
 use Rattle.t3_image_read.specs.declared.taker.Part.TheVariants.{InHead, InHeader, InPayload}
 use Rattle.t3_image_read.specs.declared.taker.Taker.{Taker}
 use Rattle.t3_image_read.specs.ImageText.{head_text, header_text, block_text, front_text, end_header, text}
 use Rattle.t3_image_read.specs.Validity.{IsHead, IsHeader, IsGood, IsFront, IsValid}
-use Rattle.t3_image_read.specs.Refusal.{IsFirstBroken, head_place, BlockBreaks, block_rules, Refused}
+use Rattle.t3_image_read.specs.Refusal.{IsFirstBroken, head_place, BlockBreaks, Refused}
 use Rattle.t3_image_read.specs.Faults.{HeadFault, IsAllowed, HeaderFault}
 use Rattle.t3_image_read.specs.Reader.{RefusesBy}
 use Rattle.t3_image_read.specs.Taking.{size_of, begun, taken, AtBlock, IsOpen, AtPart, HoldsGood, IsSound, image_of, Holds}
 use Rattle.t3_image_read.proofs.Headers.{length-header_text}
 use Rattle.t3_image_read.proofs.Heads.{length-head_text}
 use Rattle.t3_image_read.proofs.HeadFaults.{differs-append, good-append, other-append}
-use Rattle.t3_image_read.proofs.Existence.{first_short, first_cut, first_unknown, first_passes, few_within, near_within, empty_end, valid_image}
+use Rattle.t3_image_read.proofs.Firsts.{first_signature, first_version, first_head_cut}
+use Rattle.t3_image_read.proofs.Existence.{first_short, first_cut, first_malformed, first_unknown, first_passes, spelled_text, few_within, near_within, empty_end, valid_image}
 use Rattle.t3_image_read.proofs.Push.{front_text-push, front_text-head, IsFront-push, IsFront-head}
 
 -- ---- what is known of a part by its name
@@ -56,17 +58,18 @@ RefusesBy-append s more (At place why) refuses = (refuses.0, λ behind. subst (�
 RefusesBy-append s more NoMemory refuses = tt
 
 pub head_refused : (held : List ℕ) (why : ReadWhy) → HeadFault held (Some why) → RefusesBy held (At (head_place why) why)
-head_refused held Signature fault = ((λ e. absurd cc), λ more. inl (record { first = inl (refl, differs-append held more fault); place_is = refl }))
+head_refused held Signature fault = ((λ e. absurd cc), λ more. inl (record { first = first_signature (held ++ more) (differs-append held more fault); place_is = refl }))
 head_refused held Version fault =
     let long = fault.1.0 in
-    ((λ e. absurd cc), λ more. inl (record { first = inr (good-append held more (omega arith) fault.0, inl (refl, other-append held more fault.1)); place_is = refl }))
+    ((λ e. absurd cc), λ more. inl (record { first = first_version (held ++ more) (good-append held more (omega arith) fault.0) (other-append held more fault.1); place_is = refl }))
 head_refused held UnknownMandatory fault = absurd fault
 head_refused held Truncated fault = absurd fault
 head_refused held Unbuilt fault = absurd fault
+head_refused held (Malformed items) fault = absurd fault
 
 -- behind a good front a header that breaks a rule is refused
 at_header : (head : Head) (blocks : List PlacedBlock) (place : ℕ) (header : BlockHeader) (held : List ℕ) (why : ReadWhy) → IsFront head blocks → place ≡ length (front_text head blocks) → header_text header ≡ held
-    → ((more : List ℕ) → IsFirstBroken (BlockBreaks (length blocks) place (header_text header ++ more)) block_rules why) → (more : List ℕ) → Refused ((front_text head blocks ++ held) ++ more) place why
+    → ((more : List ℕ) → IsFirstBroken (BlockBreaks (length blocks) place (header_text header ++ more)) why) → (more : List ℕ) → Refused ((front_text head blocks ++ held) ++ more) place why
 at_header head blocks place header held why front place_is is first more =
     inr (record {
       head = head;
@@ -87,6 +90,7 @@ header_refused head blocks place header held UnknownMandatory front place_is fit
 header_refused head blocks place header held Signature front place_is fits is fault = absurd fault
 header_refused head blocks place header held Version front place_is fits is fault = absurd fault
 header_refused head blocks place header held Truncated front place_is fits is fault = absurd fault
+header_refused head blocks place header held (Malformed items) front place_is fits is fault = absurd fault
 
 -- ---- whole parts
 
@@ -127,11 +131,21 @@ pub record PayloadSettles (head : Head) (blocks : List PlacedBlock) (placed : Pl
   pub place_is : place + (10 + header.size) ≡ length (front_text head (blocks ++ placed ∷ []))
   pub is : front_text head (blocks ++ placed ∷ []) ≡ (front_text head blocks ++ header_text header) ++ payload
 
-spelled_text : (header : BlockHeader) (payload : List ℕ) (block : Block) → Spells block header.name payload → length payload ≡ header.size → block_text (record { flags = header.flags; block = block }) ≡ header_text header ++ payload
-unfolding block_text
-spelled_text header payload block spells long =
-    let size = ap length spells.payload_is ∙ long in
-    λ i. header_text (record { name = spells.name_is i; size = size i; flags = header.flags }) ++ spells.payload_is i
+-- a payload that spells nothing is refused, whatever comes behind
+pub payload_refused : (head : Head) (blocks : List PlacedBlock) (header : BlockHeader) (place : ℕ) (payload : List ℕ) (items : ℕ) → IsFront head blocks → place ≡ length (front_text head blocks) → IsOpen (length blocks) place header → length payload ≡ header.size → IsMalformed header.name payload items
+    → RefusesBy ((front_text head blocks ++ header_text header) ++ payload) (At place (Malformed items))
+payload_refused head blocks header place payload items front place_is open_ long malformed = (
+  (λ e. absurd cc),
+  λ more. inr (record {
+    head = head;
+    blocks = blocks;
+    rest = header_text header ++ (payload ++ more);
+    front = front;
+    stream_is = append_assoc (front_text head blocks ++ header_text header) payload more ∙ append_assoc (front_text head blocks) (header_text header) (payload ++ more);
+    place_is = place_is;
+    first = first_malformed _ _ _ header payload more items (record { fits = open_.fits; is = refl }) open_.allowed.within open_.allowed.known long malformed;
+  }),
+)
 
 pub payload_settles : (head : Head) (blocks : List PlacedBlock) (block : Block) (header : BlockHeader) (place : ℕ) (payload : List ℕ) → IsFront head blocks → place ≡ length (front_text head blocks) → IsOpen (length blocks) place header → length payload ≡ header.size → Spells block header.name payload
     → PayloadSettles head blocks (record { flags = header.flags; block = block }) header place payload
@@ -158,7 +172,7 @@ payload_settles head blocks block header place payload front place_is open_ long
 
 pub cut_there : (part : Part) (t : Taker) → AtPart part t → HoldsGood part t.held.items → length t.held.items < size_of part → Refused (begun part t ++ t.held.items) t.place Truncated
 cut_there InHead t at good short =
-    inl (record { first = inr (good.signature, inr (good.version, inl (refl, short))); place_is = at.1 })
+    inl (record { first = first_head_cut t.held.items good.signature good.version short; place_is = at.1 })
 cut_there InHeader t at good short =
     inr (record { head = t.head; blocks = t.blocks.items; rest = t.held.items; front = at.front; stream_is = refl; place_is = at.place_is; first = first_short _ _ t.held.items short })
 cut_there (InPayload header) t at good short =

@@ -1,5 +1,5 @@
 -- A stream begins with one valid image's text, or is refused at one place by one rule.
-use Rattle.std.proofs.Common.{◌≡◌, ℕ, ◌+◌, List, [], ◌∷◌, ◌++◌, length, sym, ap, subst, ◌∙◌, inl, inr, append_assoc, arith}
+use Rattle.std.proofs.Common.{◌≡◌, ℕ, ◌+◌, List, [], ◌++◌, length, sym, ap, subst, ◌∙◌, inl, inr, append_assoc, arith}
 use Rattle.std.specs.List.{flat_map}
 use Rattle.std.proofs.lemmas.List.{length-append, append-nil}
 use Rattle.t3_image_read.specs.declared.header.BlockHeader.{BlockHeader}
@@ -8,23 +8,12 @@ use Rattle.t3_image_read.specs.declared.image.PlacedBlock.{PlacedBlock}
 use Rattle.t3_image_read.specs.declared.refusal.ReadWhy.{ReadWhy}
 use Rattle.t3_image_read.specs.ImageText.{ImageValue, head_text, header_text, block_text, front_text, end_header, text}
 use Rattle.t3_image_read.specs.Validity.{IsHead, IsFront, IsValid}
-use Rattle.t3_image_read.specs.Refusal.{IsFirstBroken, HeadBreaks, head_rules, head_place, BlockBreaks, block_rules, RefusedAtBlock, Refused}
+use Rattle.t3_image_read.specs.Refusal.{IsFirstBroken, HeadBreaks, head_place, BlockBreaks, RefusedAtBlock, Refused}
 use Rattle.t3_image_read.proofs.Headers.{header_same, length-header_text}
 use Rattle.t3_image_read.proofs.Heads.{head_same, head_unbroken, length-head_text}
 use Rattle.t3_image_read.proofs.Blocks.{IsHeader-end_header, end_unbroken}
+use Rattle.t3_image_read.proofs.Firsts.{head_first_unique, block_first_unique}
 use Rattle.t3_image_read.proofs.Fronts.{Stops, Stops-broken, Stops-end, same_blocks}
-
-pub first_is_broken : (Breaks : ReadWhy → Type 0) (rules : List ReadWhy) (why : ReadWhy) → IsFirstBroken Breaks rules why → Breaks why
-first_is_broken Breaks [] why first = absurd first
-first_is_broken Breaks (rule ∷ rules) why (inl here) = subst Breaks (sym here.0) here.1
-first_is_broken Breaks (rule ∷ rules) why (inr later) = first_is_broken Breaks rules why later.1
-
-first_unique : (Breaks : ReadWhy → Type 0) (rules : List ReadWhy) (v w : ReadWhy) → IsFirstBroken Breaks rules v → IsFirstBroken Breaks rules w → v ≡ w
-first_unique Breaks [] v w first_v first_w = absurd first_v
-first_unique Breaks (rule ∷ rules) v w (inl a) (inl b) = a.0 ∙ sym b.0
-first_unique Breaks (rule ∷ rules) v w (inl a) (inr b) = absurd (b.0 a.1)
-first_unique Breaks (rule ∷ rules) v w (inr a) (inl b) = absurd (a.0 b.1)
-first_unique Breaks (rule ∷ rules) v w (inr a) (inr b) = first_unique Breaks rules v w a.1 b.1
 
 pub front_text-append : (h : Head) (bs : List PlacedBlock) (x : List ℕ) → front_text h bs ++ x ≡ head_text h ++ (flat_map block_text bs ++ x)
 unfolding front_text
@@ -81,12 +70,12 @@ pub no_prefix : (a b : ImageValue) (x : List ℕ) → IsValid a → IsValid b �
 no_prefix a b x valid_a valid_b e = (one_image a b x [] valid_a valid_b (sym e ∙ sym (append-nil (text b)))).1
 
 broken_there : (stream : List ℕ) (place : ℕ) (why : ReadWhy) (r : RefusedAtBlock stream place why) → BlockBreaks (length r.blocks) (length (front_text r.head r.blocks)) r.rest why
-broken_there stream place why r = subst (λ p. BlockBreaks (length r.blocks) p r.rest why) r.place_is (first_is_broken (BlockBreaks (length r.blocks) place r.rest) block_rules why r.first)
+broken_there stream place why r = subst (λ p. BlockBreaks (length r.blocks) p r.rest why) r.place_is r.first.broken
 
 pub not_both : (image : ImageValue) (behind : List ℕ) (place : ℕ) (why : ReadWhy) → IsValid image → Refused (text image ++ behind) place why → ⊥
 not_both image behind place why valid (inl refused) =
     let rest = flat_map block_text image.blocks ++ (header_text (end_header image.eof_flags) ++ behind) in
-    let broken = first_is_broken (HeadBreaks (text image ++ behind)) head_rules why refused.first in
+    let broken = refused.first.broken in
     head_unbroken image.head rest valid.head why (subst (λ s. HeadBreaks s why) (text-append image behind ∙ front_text-append image.head image.blocks _) broken)
 not_both image behind place why valid (inr refused) =
     let broken = broken_there _ place why refused in
@@ -99,14 +88,14 @@ not_both image behind place why valid (inr refused) =
 
 pub one_refusal : (stream : List ℕ) (p q : ℕ) (v w : ReadWhy) → Refused stream p v → Refused stream q w → (p ≡ q) × (v ≡ w)
 one_refusal stream p q v w (inl a) (inl b) =
-    let same = first_unique (HeadBreaks stream) head_rules v w a.first b.first in
+    let same = head_first_unique stream v w a.first b.first in
     (a.place_is ∙ ap head_place same ∙ sym b.place_is, same)
 one_refusal stream p q v w (inl a) (inr b) =
-    absurd (head_unbroken b.head _ b.front.head v (subst (λ s. HeadBreaks s v) (b.stream_is ∙ front_text-append b.head b.blocks b.rest) (first_is_broken (HeadBreaks stream) head_rules v a.first)))
+    absurd (head_unbroken b.head _ b.front.head v (subst (λ s. HeadBreaks s v) (b.stream_is ∙ front_text-append b.head b.blocks b.rest) a.first.broken))
 one_refusal stream p q v w (inr a) (inl b) =
-    absurd (head_unbroken a.head _ a.front.head w (subst (λ s. HeadBreaks s w) (a.stream_is ∙ front_text-append a.head a.blocks a.rest) (first_is_broken (HeadBreaks stream) head_rules w b.first)))
+    absurd (head_unbroken a.head _ a.front.head w (subst (λ s. HeadBreaks s w) (a.stream_is ∙ front_text-append a.head a.blocks a.rest) b.first.broken))
 one_refusal stream p q v w (inr a) (inr b) =
     let fronts = same_front a.head b.head a.blocks b.blocks a.rest b.rest a.front b.front (Stops-broken _ _ a.rest v (broken_there stream p v a)) (Stops-broken _ _ b.rest w (broken_there stream q w b)) (sym a.stream_is ∙ b.stream_is) in
     let place : p ≡ q = a.place_is ∙ (λ i. length (front_text (fronts.0 i) (fronts.1.0 i))) ∙ sym b.place_is in
-    let first_w : IsFirstBroken (BlockBreaks (length a.blocks) p a.rest) block_rules w = subst (λ r. IsFirstBroken (BlockBreaks (length a.blocks) p r) block_rules w) (sym fronts.1.1) (subst (λ (bs : List PlacedBlock). IsFirstBroken (BlockBreaks (length bs) p b.rest) block_rules w) (sym fronts.1.0) (subst (λ n. IsFirstBroken (BlockBreaks (length b.blocks) n b.rest) block_rules w) (sym place) b.first)) in
-    (place, first_unique (BlockBreaks (length a.blocks) p a.rest) block_rules v w a.first first_w)
+    let first_w : IsFirstBroken (BlockBreaks (length a.blocks) p a.rest) w = subst (λ r. IsFirstBroken (BlockBreaks (length a.blocks) p r) w) (sym fronts.1.1) (subst (λ (bs : List PlacedBlock). IsFirstBroken (BlockBreaks (length bs) p b.rest) w) (sym fronts.1.0) (subst (λ n. IsFirstBroken (BlockBreaks (length b.blocks) n b.rest) w) (sym place) b.first)) in
+    (place, block_first_unique (length a.blocks) p a.rest v w a.first first_w)

@@ -3,7 +3,7 @@ use Rattle.std.specs.Prelude.{◌≡◌, ℕ, false, IsTrue, List, Option, Some,
 use Rattle.t3_blocks.specs.BlockName.{is_unknown_mandatory}
 use Rattle.t3_image_read.specs.declared.header.BlockHeader.{BlockHeader}
 use Rattle.t3_image_read.specs.declared.refusal.ReadWhy.{ReadWhy}
-use Rattle.t3_image_read.specs.declared.refusal.ReadWhy.TheVariants.{Signature, Version, UnknownMandatory, Truncated, Unbuilt}
+use Rattle.t3_image_read.specs.declared.refusal.ReadWhy.TheVariants.{Signature, Version, UnknownMandatory, Malformed, Truncated, Unbuilt}
 use Rattle.t3_image_read.specs.Refusal.{DiffersFromSignature, HasOtherVersion, IsUnbuilt}
 
 -- nothing of the header is wrong so far
@@ -18,6 +18,7 @@ HeadFault bytes (Some Version) = ¬ DiffersFromSignature bytes × HasOtherVersio
 HeadFault bytes (Some UnknownMandatory) = ⊥
 HeadFault bytes (Some Truncated) = ⊥
 HeadFault bytes (Some Unbuilt) = ⊥
+HeadFault bytes (Some (Malformed items)) = ⊥
 
 -- a header that breaks no rule
 pub record IsAllowed (count place : ℕ) (header : BlockHeader) : Type 0 where
@@ -31,3 +32,4 @@ HeaderFault count place header (Some UnknownMandatory) = ¬ IsUnbuilt count plac
 HeaderFault count place header (Some Signature) = ⊥
 HeaderFault count place header (Some Version) = ⊥
 HeaderFault count place header (Some Truncated) = ⊥
+HeaderFault count place header (Some (Malformed items)) = ⊥

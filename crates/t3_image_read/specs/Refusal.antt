@@ -1,20 +1,30 @@
 -- At which place, and by which rule, a stream is refused.
-use Rattle.std.specs.Prelude.{◌≡◌, ◌≢◌, ℕ, ◌+◌, ◌<◌, ◌≤◌, ◌⊎◌, List, [], ◌∷◌, ◌++◌, length, take, drop, slice_index, IsTrue}
+use Rattle.std.specs.Prelude.{◌≡◌, ◌≢◌, ℕ, ◌+◌, ◌<◌, ◌≤◌, ◌⊎◌, List, ◌++◌, length, take, drop, slice_index, IsTrue}
 use Rattle.t3_holder.specs.NumberText.{little_endian}
 use Rattle.t3_blocks.specs.BlockName.{end_name, is_unknown_mandatory}
 use Rattle.t3_blocks.specs.Spelling.{image_limit}
+use Rattle.t3_blocks.specs.Malformed.{IsMalformed}
 use Rattle.t3_image_read.specs.ImageText.{ImageValue, signature, version, header_text, front_text, text}
 use Rattle.t3_image_read.specs.Validity.{IsHeader, IsFront, IsValid, header_limit}
 use Rattle.t3_image_read.specs.declared.header.BlockHeader.{BlockHeader}
 use Rattle.t3_image_read.specs.declared.image.Head.{Head}
 use Rattle.t3_image_read.specs.declared.image.PlacedBlock.{PlacedBlock}
 use Rattle.t3_image_read.specs.declared.refusal.ReadWhy.{ReadWhy}
-use Rattle.t3_image_read.specs.declared.refusal.ReadWhy.TheVariants.{Signature, Version, UnknownMandatory, Truncated, Unbuilt}
+use Rattle.t3_image_read.specs.declared.refusal.ReadWhy.TheVariants.{Signature, Version, UnknownMandatory, Malformed, Truncated, Unbuilt}
 
--- of these rules in their order, this one is the first that is broken
-abbrev pub IsFirstBroken : (ReadWhy → Type 0) → List ReadWhy → ReadWhy → Type 0
-IsFirstBroken Breaks [] why = ⊥
-IsFirstBroken Breaks (rule ∷ rules) why = ((why ≡ rule) × Breaks rule) ⊎ (¬ Breaks rule × IsFirstBroken Breaks rules why)
+-- the order in which the rules are tried
+abbrev pub order : ReadWhy → ℕ
+order Signature = 1
+order Version = 2
+order Unbuilt = 3
+order UnknownMandatory = 4
+order (Malformed items) = 5
+order Truncated = 6
+
+-- this rule is broken, and none before it
+pub record IsFirstBroken (Breaks : ReadWhy → Type 0) (why : ReadWhy) : Type 0 where
+  pub broken : Breaks why
+  pub first : (earlier : ReadWhy) → order earlier < order why → ¬ Breaks earlier
 
 -- one of the first 11 bytes that are there differs
 abbrev pub DiffersFromSignature : List ℕ → Type 0
@@ -24,16 +34,14 @@ DiffersFromSignature stream = (i : ℕ) × (i < 11) × (i < length stream) × (s
 abbrev pub HasOtherVersion : List ℕ → Type 0
 HasOtherVersion stream = (13 ≤ length stream) × (take 2 (drop 11 stream) ≢ little_endian 2 version)
 
--- the rules of the header, in their order
-abbrev pub head_rules : List ReadWhy
-head_rules = Signature ∷ Version ∷ Truncated ∷ []
-
+-- the header breaks a rule
 abbrev pub HeadBreaks : List ℕ → ReadWhy → Type 0
 HeadBreaks stream Signature = DiffersFromSignature stream
 HeadBreaks stream Version = HasOtherVersion stream
 HeadBreaks stream Truncated = length stream < 69
 HeadBreaks stream UnknownMandatory = ⊥
 HeadBreaks stream Unbuilt = ⊥
+HeadBreaks stream (Malformed items) = ⊥
 
 -- where a header is refused by a rule: only the version has a place of its own
 abbrev pub head_place : ReadWhy → ℕ
@@ -65,21 +73,27 @@ IsUnbuilt count place header = IsOneTooMany count ⊎ (IsLoadedEnd header ⊎ En
 abbrev pub IsCut : List ℕ → Type 0
 IsCut rest = (length rest < 10) ⊎ ((header : BlockHeader) × (behind : List ℕ) × StartsWith rest header behind × (length behind < header.size))
 
--- the rules of a block, in their order
-abbrev pub block_rules : List ReadWhy
-block_rules = Unbuilt ∷ UnknownMandatory ∷ Truncated ∷ []
+-- the payload is there whole, and no block has it under its name; so many of its items spell
+pub record SpellsNothing (rest : List ℕ) (items : ℕ) : Type 0 where
+  pub header : BlockHeader
+  pub payload : List ℕ
+  pub behind : List ℕ
+  pub starts : StartsWith rest header (payload ++ behind)
+  pub whole : length payload ≡ header.size
+  pub malformed : IsMalformed header.name payload items
 
 -- behind so many blocks, at this place, the rest of the stream breaks a rule
 abbrev pub BlockBreaks : ℕ → ℕ → List ℕ → ReadWhy → Type 0
 BlockBreaks count place rest Unbuilt = (header : BlockHeader) × (behind : List ℕ) × StartsWith rest header behind × IsUnbuilt count place header
 BlockBreaks count place rest UnknownMandatory = (header : BlockHeader) × (behind : List ℕ) × StartsWith rest header behind × IsTrue (is_unknown_mandatory header.name header.flags)
+BlockBreaks count place rest (Malformed items) = SpellsNothing rest items
 BlockBreaks count place rest Truncated = IsCut rest
 BlockBreaks count place rest Signature = ⊥
 BlockBreaks count place rest Version = ⊥
 
 -- the header is refused
 pub record RefusedInHead (stream : List ℕ) (place : ℕ) (why : ReadWhy) : Type 0 where
-  pub first : IsFirstBroken (HeadBreaks stream) head_rules why
+  pub first : IsFirstBroken (HeadBreaks stream) why
   pub place_is : place ≡ head_place why
 
 -- a good header and whole good blocks end at the place, and what comes behind is refused
@@ -90,7 +104,7 @@ pub record RefusedAtBlock (stream : List ℕ) (place : ℕ) (why : ReadWhy) : Ty
   pub front : IsFront head blocks
   pub stream_is : stream ≡ front_text head blocks ++ rest
   pub place_is : place ≡ length (front_text head blocks)
-  pub first : IsFirstBroken (BlockBreaks (length blocks) place rest) block_rules why
+  pub first : IsFirstBroken (BlockBreaks (length blocks) place rest) why
 
 abbrev pub Refused : List ℕ → ℕ → ReadWhy → Type 0
 Refused stream place why = RefusedInHead stream place why ⊎ RefusedAtBlock stream place why

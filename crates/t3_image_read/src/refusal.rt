@@ -1,23 +1,43 @@
 ghost use Rattle.std.specs.Prelude.{◌≡◌};
+ghost use Rattle.t3_image_read.specs.Numbers.{number_of};
 ghost use Rattle.t3_image_read.specs.declared.refusal.ReadRefusal.TheVariants.{NoMemory as Wanting};
 
 use std::alloc::{AllocError, AllocFailed};
 use thiserror::Error;
 
-/// The rule that a stream breaks, under its number.
+/// The rule that a stream breaks.
 #[derive(Clone, Copy, Debug, PartialEq, Eq, Hash)]
 pub enum ReadWhy {
     /// One of the first 11 bytes isn't that of the signature.
-    Signature = 1,
+    Signature,
     /// The two bytes of the version don't say 1.
-    Version = 2,
+    Version,
     /// A block is mandatory, and its name means nothing here.
-    UnknownMandatory = 5,
+    UnknownMandatory,
+    /// The payload is whole, and no block has it under its name. So many of its items spell before one
+    /// that doesn't, or before bytes that are left; 0 for a block without items.
+    Malformed { items: u32 },
     /// The stream ends before the header, or a block, is whole.
-    Truncated = 8,
+    Truncated,
     /// A block is one too many, an end with a payload, or ends behind the greatest image. One answer
     /// stands for the three until each has its own.
-    Unbuilt = 9,
+    Unbuilt,
+}
+
+impl ReadWhy {
+    /// The number of the rule.
+    pub fn number(self) -> u8
+        ensures { result ≡ number_of self }
+    {
+        match self {
+            ReadWhy::Signature => 1,
+            ReadWhy::Version => 2,
+            ReadWhy::UnknownMandatory => 5,
+            ReadWhy::Malformed { .. } => 6,
+            ReadWhy::Truncated => 8,
+            ReadWhy::Unbuilt => 9,
+        }
+    }
 }
 
 /// Why a reader gives no image.

@@ -181,8 +181,15 @@ impl Taker {
             return Ok(None);
         }
         let payload = mem::replace(&mut self.held, Vec::new(self.alloc));
-        let block = match take_block(header.name, header.flags, Bytes(payload)) {
+        let block = match take_block(self.alloc, header.name, header.flags, Bytes(payload)) {
             Ok(block) => block,
+            Err(BlockRefusal::Malformed { items }) => {
+                let why = ReadWhy::Malformed { items };
+                return Err(ReadRefusal::At {
+                    place: self.place,
+                    why,
+                });
+            }
             Err(BlockRefusal::NoMemory) => return Err(ReadRefusal::NoMemory),
             Err(BlockRefusal::UnknownMandatory) => unreachable!(),
         };

@@ -45,11 +45,43 @@ fn reads_an_image_in_pieces_of_each_length(rt: HostRuntime) -> Result<(), Fail> 
         assert_eq!(rt; image.eof_flags, 2);
         assert_eq!(rt; image.blocks.0.len(), 1);
         for placed in &image.blocks.0 {
-            let Block::Opaque { name, bytes } = &placed.block;
             assert_eq!(rt; placed.flags, 0);
-            assert_eq!(rt; *name, *b"ZZZZ");
-            assert_eq!(rt; bytes.0.as_slice(), [1, 2, 3].as_slice());
+            match &placed.block {
+                Block::Opaque { name, bytes } => {
+                    assert_eq!(rt; *name, *b"ZZZZ");
+                    assert_eq!(rt; bytes.0.as_slice(), [1, 2, 3].as_slice());
+                }
+                _ => panic!(rt; "a block without a layout is kept as bytes"),
+            }
         }
+    }
+    Ok(())
+}
+
+#[test]
+fn refuses_a_malformed_payload_in_pieces_of_each_length(rt: HostRuntime) -> Result<(), Fail> {
+    let mut bytes = image(rt.alloc(), 0)?;
+    bytes.truncate(82);
+    // Two names are due, and one is there.
+    bytes.extend_from_slice(b"FNSD\x05\x00\x00\x00\x01\x00\x02\x00\x02abEOF ")?;
+    let refusal = ReadRefusal::At {
+        place: 82,
+        why: ReadWhy::Malformed { items: 1 },
+    };
+    for length in 1..=bytes.len() {
+        let mut reader = ImageReader::new(rt.alloc());
+        let mut taken = 0usize;
+        for piece in bytes.chunks(length) {
+            taken = taken.saturating_add(piece.len());
+            // The payload ends behind 97 bytes.
+            let want = if taken < 97 {
+                Ok(Fed::More)
+            } else {
+                Err(refusal)
+            };
+            assert_eq!(rt; reader.feed(piece), want, "before {taken}, by {length}");
+        }
+        assert!(rt; reader.finish().err() == Some(refusal), "by {length}");
     }
     Ok(())
 }

@@ -1,0 +1,6 @@
+pub mod Decided
+pub mod Inversion
+pub mod Laws
+pub mod Layouts
+pub mod Lists
+pub mod NameLists
