@@ -8,11 +8,11 @@ use Rattle.std.specs.Int.{bit_at}
 abbrev pub end_name : List ℕ
 end_name = codes "EOF "
 
--- the names of the blocks whose payload has a layout
+-- the names of the blocks whose payload's layout is read here
 abbrev pub layout_names : List (List ℕ)
 layout_names = codes "ENTP" ∷ codes "CPDF" ∷ codes "CPPG" ∷ codes "FNSD" ∷ []
 
--- the names of those whose layout isn't looked at yet
+-- the names of those that have a layout which isn't read yet
 abbrev pub later_names : List (List ℕ)
 later_names = codes "MCLD" ∷ codes "OBJS" ∷ codes "SYMD" ∷ []
 

@@ -25,11 +25,12 @@ pub record BreaksList {Item : Type 0} (item_text : Item → List ℕ) (Fits : It
   pub count : length items ≡ spelled
   pub breaks : ((spelled < due) × ¬ BeginsWithItem item_text Fits rest) ⊎ ((spelled ≡ due) × (rest ≢ []))
 
--- the two bytes of the count are short, or the list behind them is broken
+-- the payload is a count in two bytes, and a body
 pub record HasCount (payload : List ℕ) (due : ℕ) (body : List ℕ) : Type 0 where
   pub fits : due < 2 ^ 16
   pub is : payload ≡ little_endian 2 due ++ body
 
+-- the two bytes of the count are short, and no item spells, or the list behind them is broken
 abbrev pub BreaksCounted : {Item : Type 0} → (Item → List ℕ) → (Item → Type 0) → List ℕ → ℕ → Type 0
 BreaksCounted item_text Fits payload spelled =
     ((length payload < 2) × (spelled ≡ 0)) ⊎ ((due : ℕ) × (body : List ℕ) × HasCount payload due body × BreaksList item_text Fits due body spelled)

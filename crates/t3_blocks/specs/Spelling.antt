@@ -45,7 +45,7 @@ payload_of (Page pool index mask bytes) = little_endian 2 pool ++ (little_endian
 payload_of (Functions names) = counted_text name_text (little_endian 2 (length names)) names
 payload_of (Opaque name bytes) = bytes
 
--- what a payload spells: the parts fit their fields, and a block of any bytes has a name of four bytes that has no layout and isn't that of the end
+-- what a payload spells: the parts fit their fields, and a block of any bytes has a name of four bytes whose layout isn't read here and that isn't the end's
 abbrev pub IsSpellable : Block → Type 0
 IsSpellable (Entry code method_size exception_size debug tail) =
     (code < 2 ^ 32) × (method_size < 2 ^ 16) × (exception_size < 2 ^ 16) × (length debug ≡ 4) × AllByRecursion (λ n. n < 2 ^ 16) debug

@@ -42,15 +42,16 @@ pub enum Block {
     Functions {
         names: Names,
     },
-    /// A block that is kept as bytes and passed on unread. Its name is that of no kind above, and isn't
-    /// `EOF `.
+    /// A block that is kept as bytes and passed on unread. Where a payload spells it, its name is that of
+    /// no kind above, and isn't `EOF `.
     Opaque {
         name: [u8; 4],
         bytes: Bytes,
     },
 }
 
-/// A list of names of at most 255 bytes. Contracts see the list.
+/// A list of names. Contracts see the list. Where a payload spells it, it has at most 65,535 names of
+/// at most 255 bytes each.
 #[derive(Debug, Drop)]
 pub struct Names(pub Vec<Bytes>);
 

@@ -19,8 +19,8 @@ pub const IMAGE_LIMIT: u32 = 268_435_456;
 /// The block that a payload spells under a name.
 ///
 /// `UnknownMandatory` exactly where the name means nothing here and the flags have bit 0x0001, and
-/// `Malformed` exactly where the name is that of a kind of which no block has this payload. What is kept
-/// of the payload is copied.
+/// `Malformed` exactly where the name is that of a kind of which no block has this payload, want of
+/// memory aside. What is kept of the payload is copied.
 pub fn parse_block(
     alloc: Global,
     name: [u8; 4],

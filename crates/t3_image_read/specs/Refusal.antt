@@ -65,7 +65,7 @@ IsLoadedEnd header = (header.name ≡ end_name) × (0 < header.size)
 abbrev pub EndsTooLate : ℕ → BlockHeader → Type 0
 EndsTooLate place header = image_limit < place + 10 + header.size
 
--- the block is none that may stand here, whatever its payload
+-- the block is one too many, an end with a payload, or ends behind the greatest image
 abbrev pub IsUnbuilt : ℕ → ℕ → BlockHeader → Type 0
 IsUnbuilt count place header = IsOneTooMany count ⊎ (IsLoadedEnd header ⊎ EndsTooLate place header)
 

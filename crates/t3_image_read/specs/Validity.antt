@@ -23,7 +23,7 @@ pub record IsHeader (header : BlockHeader) : Type 0 where
   pub size : header.size < 2 ^ 32
   pub flags : header.flags < 2 ^ 16
 
--- a payload spells the block, the parts of its header fit their fields, and if it is mandatory its name means something
+-- a payload spells the block, the parts of its header fit their fields (for the size, the limit of the whole says more), and if it is mandatory its name means something
 pub record IsGood (placed : PlacedBlock) : Type 0 where
   pub spellable : IsSpellable placed.block
   pub size : length (payload_of placed.block) < 2 ^ 32

@@ -63,9 +63,9 @@ impl ImageReader {
 
     /// Takes the next piece of the stream.
     ///
-    /// `Done` exactly where the image ends in this piece; a refusal as soon as the stream so far shows
-    /// the fault, and never for being cut; else `More`. After `Done` nothing is taken and the answer is
-    /// `Done { used: 0 }`. After a refusal the answer is that same refusal.
+    /// Want of memory aside, `Done` exactly where the image ends in this piece; a refusal as soon as the
+    /// stream so far shows the fault, and never for being cut; else `More`. After `Done` nothing is taken
+    /// and the answer is `Done { used: 0 }`. After a refusal the answer is that same refusal.
     pub fn feed(&mut self, piece: &[u8]) -> Result<Fed, ReadRefusal>
         ensures feeds { Feeds self.old piece.now result self.new }
 

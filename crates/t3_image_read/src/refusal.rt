@@ -15,7 +15,8 @@ pub enum ReadWhy {
     /// A block is mandatory, and its name means nothing here.
     UnknownMandatory,
     /// The payload is whole, and no block has it under its name. So many of its items spell before one
-    /// that doesn't, or before bytes that are left; 0 for a block without items.
+    /// that doesn't, or before bytes that are left; 0 where the count is short, and for a block without
+    /// items.
     Malformed { items: u32 },
     /// The stream ends before the header, or a block, is whole.
     Truncated,
