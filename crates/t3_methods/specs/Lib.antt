@@ -1,0 +1,5 @@
+pub mod Operands
+pub mod InstructionTable
+pub mod MethodHeader
+pub mod Answers
+pub mod Cursor

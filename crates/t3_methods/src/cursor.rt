@@ -1,0 +1,81 @@
+//! Readers of code, one for each kind of operand.
+ghost use Rattle.std.specs.Prelude.{◌≡◌};
+ghost use Rattle.t3_methods.specs.Operands.{Ubyte, Sbyte, Jump, Int4};
+ghost use Rattle.t3_methods.specs.Cursor.{TakesByte, TakesNumber, ReadsOperand, OfUbyte, OfSbyte, OfJump, OfInt4};
+
+use crate::refusal::CodeRefusal;
+use t3_holder::{u16_at, u32_at};
+use t3_pools::Pools;
+
+/// The number of the pool of code.
+const CODE: u8 = 1;
+
+/// A place in code, which goes behind what is read.
+#[derive(Debug, Drop)]
+pub(crate) struct Cursor<'p> {
+    pub(crate) pools: &'p Pools,
+    pub(crate) at: u32,
+}
+
+impl Cursor<'_> {
+    /// The next byte.
+    pub(crate) fn byte(&mut self) -> Option<u8>
+        ensures { TakesByte self.old self.new result }
+    {
+        let byte = self.pools.byte(CODE, self.at)?;
+        self.at += 1;
+        Some(byte)
+    }
+
+    /// The next two bytes as a number, lowest first.
+    pub(crate) fn two_bytes(&mut self) -> Option<u16>
+        ensures { TakesNumber 2 self.old self.new result }
+    {
+        let bytes = [self.byte()?, self.byte()?];
+        Some(u16_at(&bytes, 0))
+    }
+
+    /// The next four bytes as a number, lowest first.
+    pub(crate) fn four_bytes(&mut self) -> Option<u32>
+        ensures { TakesNumber 4 self.old self.new result }
+    {
+        let bytes = [self.byte()?, self.byte()?, self.byte()?, self.byte()?];
+        Some(u32_at(&bytes, 0))
+    }
+
+    pub(crate) fn ubyte(&mut self) -> Result<u8, CodeRefusal>
+        ensures { ReadsOperand Ubyte OfUbyte self.old self.new result }
+    {
+        match self.byte() {
+            Some(byte) => Ok(byte),
+            None => Err(CodeRefusal::Operand),
+        }
+    }
+
+    pub(crate) fn sbyte(&mut self) -> Result<i8, CodeRefusal>
+        ensures { ReadsOperand Sbyte OfSbyte self.old self.new result }
+    {
+        match self.byte() {
+            Some(bits) => Ok(bits.cast_signed()),
+            None => Err(CodeRefusal::Operand),
+        }
+    }
+
+    pub(crate) fn jump(&mut self) -> Result<i16, CodeRefusal>
+        ensures { ReadsOperand Jump OfJump self.old self.new result }
+    {
+        match self.two_bytes() {
+            Some(bits) => Ok(bits.cast_signed()),
+            None => Err(CodeRefusal::Operand),
+        }
+    }
+
+    pub(crate) fn int4(&mut self) -> Result<i32, CodeRefusal>
+        ensures { ReadsOperand Int4 OfInt4 self.old self.new result }
+    {
+        match self.four_bytes() {
+            Some(bits) => Ok(bits.cast_signed()),
+            None => Err(CodeRefusal::Operand),
+        }
+    }
+}

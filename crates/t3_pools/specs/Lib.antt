@@ -1,0 +1,4 @@
+pub mod Pool
+pub mod Building
+pub mod Finding
+pub mod Keeping
