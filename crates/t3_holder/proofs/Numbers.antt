@@ -1,6 +1,7 @@
 -- The text of a number: how long it is, that it says the number, and that no other bytes do.
 use Rattle.std.proofs.Common.{◌≡◌, ℕ, zero, suc, ◌+◌, ◌*◌, ◌/◌, ◌%◌, ◌^◌, ◌<◌, ◌≤◌, List, [], ◌∷◌, length, get_or, take, drop, refl, sym, ap, ◌∙◌, arith}
-use Rattle.std.proofs.lemmas.List.{drop_more}
+use Rattle.std.proofs.lemmas.List.{drop_more, take_all}
+use Rattle.std.specs.Int.{w16, w32, to_le_bytes}
 use Rattle.t3_holder.specs.NumberText.{little_endian, value_of, AreBytes, IsNumberText}
 
 pub length-little_endian : (width n : ℕ) → length (little_endian width n) ≡ width
@@ -32,6 +33,15 @@ little_endian-value_of (byte ∷ text) bytes =
     let high : (byte + 256 * value_of text) / 256 ≡ value_of text = omega (arith, bytes.0) in
     rw (low, high) (ap (λ (t : List ℕ). byte ∷ t) (little_endian-value_of text bytes.1))
 
+-- so many bytes say a number that fits in them
+pub value_fits : (width : ℕ) (bytes : List ℕ) → AreBytes bytes → length bytes ≡ width → value_of bytes < 256 ^ width
+value_fits zero [] all long = omega arith
+value_fits (suc width) [] all long = absurd (omega arith)
+value_fits zero (b ∷ bytes) all long = absurd (omega arith)
+value_fits (suc width) (b ∷ bytes) all long =
+    let rest = value_fits width bytes all.1 (omega arith) in
+    omega (arith, all.0)
+
 pub only_text : (width n : ℕ) (text : List ℕ) → IsNumberText width n text → text ≡ little_endian width n
 only_text width n text is = sym (little_endian-value_of text is.bytes) ∙ ap (λ (w : ℕ). little_endian w (value_of text)) is.wide ∙ ap (little_endian width) is.value
 
@@ -55,3 +65,22 @@ four_at xs i le =
     let second : i + 1 + 1 ≡ i + 2 = omega arith in
     let third : i + 2 + 1 ≡ i + 3 = omega arith in
     rw (drop_more xs i 0 (omega arith), drop_more xs (i + 1) 0 (omega arith), second, drop_more xs (i + 2) 0 (omega arith), third, drop_more xs (i + 3) 0 (omega arith)) refl
+
+pub four_parts : (xs : List ℕ) → length xs ≡ 4 → get_or xs 0 0 ∷ get_or xs 1 0 ∷ get_or xs 2 0 ∷ get_or xs 3 0 ∷ [] ≡ xs
+four_parts xs long = sym (four_at xs 0 (omega arith)) ∙ take_all 4 xs (omega arith)
+
+-- ---- the bytes of a number as the library writes them
+
+pub written_two : (n : ℕ) → to_le_bytes w16 n ≡ little_endian 2 n
+unfolding little_endian
+written_two n =
+    let second : n / 256 ^ 1 % 256 ≡ n / 256 % 256 = omega arith in
+    λ i. n % 256 ∷ second i ∷ []
+
+pub written_four : (n : ℕ) → to_le_bytes w32 n ≡ little_endian 4 n
+unfolding little_endian
+written_four n =
+    let second : n / 256 ^ 1 % 256 ≡ n / 256 % 256 = omega arith in
+    let third : n / 256 ^ 2 % 256 ≡ n / 256 / 256 % 256 = omega arith in
+    let fourth : n / 256 ^ 3 % 256 ≡ n / 256 / 256 / 256 % 256 = omega arith in
+    λ i. n % 256 ∷ second i ∷ third i ∷ fourth i ∷ []

@@ -1,2 +1,3 @@
 pub mod NumberText
+pub mod HolderText
 pub mod FileName

@@ -1,11 +1,15 @@
-//! What every other crate of `t3` shares: numbers as little-endian bytes, lists of bytes, want of
-//! memory, and the rule of file names.
+//! What every other crate of `t3` shares: numbers as little-endian bytes, data holders, lists of
+//! bytes, want of memory, and the rule of file names.
 #![tactic(auto)]
 
 mod bytes;
+mod holder;
 mod no_memory;
 mod number;
+#[cfg(test)]
+mod tests;
 
 pub use bytes::Bytes;
+pub use holder::{Holder, Raw, holder_of, holder_text, raw_bytes, raw_of, read_raw};
 pub use no_memory::NoMemory;
-pub use number::{number_text, u16_at, u32_at};
+pub use number::{number_text, u16_at, u16_bytes, u32_at, u32_bytes};

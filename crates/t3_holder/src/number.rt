@@ -18,6 +18,20 @@ pub fn u32_at(bytes: &[u8], at: usize) -> u32
     u32::from_le_bytes([bytes[at], bytes[at + 1], bytes[at + 2], bytes[at + 3]])
 }
 
+/// The two bytes of a number, lowest first.
+pub fn u16_bytes(number: u16) -> [u8; 2]
+    ensures { result ≡ little_endian 2 number }
+{
+    number.to_le_bytes()
+}
+
+/// The four bytes of a number, lowest first.
+pub fn u32_bytes(number: u32) -> [u8; 4]
+    ensures { result ≡ little_endian 4 number }
+{
+    number.to_le_bytes()
+}
+
 /// A number that fits has exactly one text of a width, which is that of no other such number.
 pub fn number_text()
     // The text is so many bytes, and byte `i` counts 256 to the power `i`.

@@ -1,0 +1,71 @@
+//! Holders that were worked out by hand.
+use super::*;
+use std::test::Fail;
+
+#[test]
+fn reads_the_worked_holders(rt: HostRuntime) -> Result<(), Fail> {
+    let rows: [([u8; 5], Raw, Option<Holder>); 6] = [
+        (
+            [0x07, 0xFF, 0xFF, 0xFF, 0xFF],
+            Raw {
+                tag: 7,
+                bits: 4_294_967_295,
+            },
+            Some(Holder::Int(-1)),
+        ),
+        (
+            [0x06, 0x05, 0x00, 0xAA, 0xBB],
+            Raw {
+                tag: 6,
+                bits: 0xBBAA_0005,
+            },
+            Some(Holder::Prop(5)),
+        ),
+        ([0x0D, 0, 0, 0, 0], Raw { tag: 13, bits: 0 }, None),
+        ([0x05, 0, 0, 0, 0], Raw { tag: 5, bits: 0 }, None),
+        (
+            [0x06, 0, 0, 1, 0],
+            Raw {
+                tag: 6,
+                bits: 0x1_0000,
+            },
+            None,
+        ),
+        (
+            [0x01, 1, 2, 3, 4],
+            Raw {
+                tag: 1,
+                bits: 0x0403_0201,
+            },
+            Some(Holder::Nil),
+        ),
+    ];
+    for (bytes, raw, holder) in &rows {
+        assert_eq!(rt; read_raw(bytes), *raw);
+        assert_eq!(rt; raw_bytes(*raw), *bytes);
+        assert_eq!(rt; holder_of(*raw), *holder);
+    }
+    Ok(())
+}
+
+#[test]
+fn gives_holders_their_bits(rt: HostRuntime) -> Result<(), Fail> {
+    let least = raw_of(Holder::Int(-2_147_483_648));
+    assert_eq!(rt;
+        least,
+        Raw {
+            tag: 7,
+            bits: 0x8000_0000
+        }
+    );
+    assert_eq!(rt;
+        raw_of(Holder::Prop(65_535)),
+        Raw {
+            tag: 6,
+            bits: 65_535
+        }
+    );
+    assert_eq!(rt; raw_of(Holder::Shown(7)), Raw { tag: 9, bits: 7 });
+    assert_eq!(rt; raw_of(Holder::True), Raw { tag: 2, bits: 0 });
+    Ok(())
+}
