@@ -50,7 +50,7 @@ read_ubyte old new n fits is goes =
     let P : List ℕ → Type 0 = HasBytes (code_of old) old.at in
     record { fits = fits; is = subst P (sym (one_byte n fits)) (is, tt); goes = goes }
 
-fits_width : (w : Width) (n : ℕ) → n < 2 ^ bits w → Fits w n
+pub fits_width : (w : Width) (n : ℕ) → n < 2 ^ bits w → Fits w n
 fits_width w n h = search rules
 
 -- a number read as signed bits, as it is handed on

@@ -18,7 +18,7 @@ length-row_text : (r : Row) → length (row_text r) ≡ suc (length (flat_map op
 unfolding row_text
 length-row_text r = refl
 
-row_stands : (code : Pool) (at opcode : ℕ) (r : Row) → get code at ≡ Some opcode → r.opcode ≡ opcode → HasBytes code (at + 1) (flat_map operand_text r.operands) → HasBytes code at (row_text r)
+pub row_stands : (code : Pool) (at opcode : ℕ) (r : Row) → get code at ≡ Some opcode → r.opcode ≡ opcode → HasBytes code (at + 1) (flat_map operand_text r.operands) → HasBytes code at (row_text r)
 unfolding row_text
 row_stands code at opcode r is same has = (is ∙ ap Some (sym same), has)
 

@@ -5,3 +5,6 @@ pub mod MethodHeaders
 pub mod Instructions
 pub mod Refusals
 pub mod Finding
+pub mod Deciding
+pub mod Known
+pub mod Lookup

@@ -1,12 +1,22 @@
-ghost use Rattle.std.specs.Prelude.{◌≡◌, ℕ};
+ghost use Rattle.std.specs.Prelude.{◌≡◌, ℕ, Result};
 ghost use Rattle.t3_pools.specs.Pool.{Pool};
+ghost use Rattle.t3_methods.specs.Answers.{FindsInstr, FindsHeader};
 ghost use Rattle.t3_methods.specs.InstructionTable.{Stands};
 ghost use Rattle.t3_methods.specs.MethodHeader.{HasHeader};
 ghost use Rattle.t3_methods.specs.declared.instr.Instr.{Instr as AnyInstr};
 ghost use Rattle.t3_methods.specs.declared.header.Header.{Header as AnyHeader};
+ghost use Rattle.t3_methods.specs.declared.refusal.CodeRefusal.{CodeRefusal as AnyRefusal};
 
 /// At one address stands at most one instruction, of one size, and at most one method header.
 pub fn one_instruction()
     ensures instr { (code : Pool) (address : ℕ) (a b : AnyInstr) (m n : ℕ) → Stands code address a m → Stands code address b n → (a ≡ b) × (m ≡ n) }
     ensures header { (code : Pool) (method : ℕ) (a b : AnyHeader) → HasHeader code method a → HasHeader code method b → a ≡ b }
+{}
+
+/// Each address gives exactly one answer: one instruction or one cause why none stands there, and one header or none.
+pub fn one_answer()
+    ensures some_instr { (code : Pool) (address : ℕ) → (found : Result (AnyInstr × ℕ) AnyRefusal) × FindsInstr code address found }
+    ensures one_instr { (code : Pool) (address : ℕ) (a b : Result (AnyInstr × ℕ) AnyRefusal) → FindsInstr code address a → FindsInstr code address b → a ≡ b }
+    ensures some_header { (code : Pool) (method : ℕ) → (found : Result AnyHeader AnyRefusal) × FindsHeader code method found }
+    ensures one_header { (code : Pool) (method : ℕ) (a b : Result AnyHeader AnyRefusal) → FindsHeader code method a → FindsHeader code method b → a ≡ b }
 {}

@@ -15,6 +15,6 @@ mod tests;
 
 pub use header::{Header, header_at};
 pub use instr::{CallCode, Instr, JumpCode, LocalCode, MakeCode, MathCode, PushCode, StackCode};
-pub use laws::one_instruction;
+pub use laws::{one_answer, one_instruction};
 pub use opcodes::instr_at;
 pub use refusal::CodeRefusal;
