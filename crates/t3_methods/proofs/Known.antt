@@ -29,6 +29,7 @@ each_row =
     ∷ of.Local Nop
     ∷ []
 
+-- one of these has the opcode
 abbrev pub any_has : ℕ → List Instr → Bool
 any_has opcode instrs = list_any (λ instr. nat_eq (row_of instr).opcode opcode) instrs
 
@@ -53,7 +54,7 @@ listed (of.Jump (Jf z)) = refl
 listed (of.Make (BuiltinA m n)) = refl
 listed (of.Local Nop) = refl
 
--- one of these has the opcode, or none has
+-- an instruction of these that has the opcode, or none has it
 sought : (opcode : ℕ) (instrs : List Instr) → IsOpcode opcode ⊎ (any_has opcode instrs ≡ false)
 sought opcode [] = inr refl
 sought opcode (instr ∷ instrs) =
@@ -127,6 +128,7 @@ two_of kind then (o ∷ os) kinds =
 abbrev pub IsRefilled : Instr → List Operand → Type 0
 IsRefilled i os = (j : Instr) × (row_of j ≡ row (row_of i).opcode os)
 
+-- a row without operands, and rows by the kinds that they have
 plain : (i : Instr) (os : List Operand) → (row_of i).operands ≡ [] → map kind_of os ≡ [] → IsRefilled i os
 plain i os none kinds = (i, λ k. row (row_of i).opcode ((none ∙ sym (no_operands os kinds)) k))
 
