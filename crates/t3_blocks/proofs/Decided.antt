@@ -1,20 +1,21 @@
 -- Every payload of bytes spells a block under its name, or is malformed.
-use Rattle.std.proofs.Common.{◌≡◌, ◌≢◌, ℕ, zero, suc, ◌+◌, ◌^◌, ◌<◌, false, List, [], ◌∷◌, ◌++◌, length, take, drop, get_or, refl, sym, ap, subst, ◌⊎◌, inl, inr, arith}
+use Rattle.std.proofs.Common.{◌≡◌, ◌≢◌, ℕ, zero, suc, ◌<◌, false, List, [], ◌∷◌, length, drop, get_or, refl, sym, subst, ◌⊎◌, inl, inr, arith}
 use Rattle.std.specs.Prelude.{codes}
 use Rattle.std.specs.List.{list_any}
 use Rattle.std.specs.Str.{bytes_eq}
 use Rattle.std.proofs.lemmas.Bool.{cases_lt, cases_eq, cases_Bool}
 use Rattle.std.proofs.lemmas.Slice.Eq.{bytes_eq-Decides}
-use Rattle.std.proofs.lemmas.List.{length-append, length-take, take-append-drop}
-use Rattle.t3_holder.specs.NumberText.{little_endian, AreBytes}
+use Rattle.t3_holder.specs.NumberText.{AreBytes}
 use Rattle.t3_blocks.specs.BlockName.{end_name, layout_names}
 use Rattle.t3_blocks.specs.declared.block.Block.{Block}
-use Rattle.t3_blocks.specs.declared.block.Block.TheVariants.{Entry, PoolDef, Page, Functions, Opaque}
-use Rattle.t3_blocks.specs.Spelling.{Spells, payload_of, masked, name_text, IsName}
-use Rattle.t3_blocks.specs.Malformed.{BeginsWithItem, IsMalformed}
-use Rattle.t3_blocks.proofs.Lists.{same_or_not, says, AreBytes-drop, AreBytes-behind}
+use Rattle.t3_blocks.specs.declared.block.Block.TheVariants.{Entry, PoolDef, Page, Functions, Metas, Objects, Symbols, Opaque}
+use Rattle.t3_blocks.specs.Spelling.{Spells, payload_of, masked, name_text, IsName, meta_text, IsMeta, size_width, static_text, IsStatic, symbol_text, IsSymbol}
+use Rattle.t3_blocks.specs.Malformed.{IsMalformed, BreaksCounted}
+use Rattle.t3_blocks.proofs.Lists.{same_or_not, says, AreBytes-drop}
+use Rattle.t3_blocks.proofs.ItemLists.{IsTried, list_or_breaks}
 use Rattle.t3_blocks.proofs.Layouts.{spells_entry, spells_pool_def, spells_page, entry_short, pool_def_other, page_short}
-use Rattle.t3_blocks.proofs.NameLists.{HasTaken, takes_more, breaks_at, breaks_behind, count_short, spells_functions}
+use Rattle.t3_blocks.proofs.Counted.{IsCounted, counted_is, counted_breaks, spells_functions, spells_metas, spells_symbols, has_head, objects_breaks, spells_objects}
+use Rattle.t3_blocks.proofs.Tried.{name_tried, meta_tried, static_tried, symbol_tried}
 
 -- what bytes under a name are
 abbrev pub IsDecided : List ℕ → List ℕ → Type 0
@@ -62,92 +63,83 @@ decided_page payload bytes =
           inl (Page pool.0 index.0 mask (masked mask (drop 7 payload)), spells_page payload pool.0 index.0 mask (masked mask (drop 7 payload)) pool.1 index.1 (byte_at payload 6 bytes) long pool.2 index.2 refl refl)
     ]
 
--- a name begins the bytes, or none
-name_or_none : (bytes : List ℕ) → AreBytes bytes → BeginsWithItem name_text IsName bytes ⊎ ¬ BeginsWithItem name_text IsName bytes
-name_or_none [] are = inr (λ begins. absurd (omega (arith, ap length begins.is)))
-name_or_none (long ∷ rest) are =
-    elim (cases_lt (length rest) long) [
-      | inl short ↦ inr (λ begins.
-          let first : long ≡ length begins.item = cc in
-          let behind : rest ≡ begins.item ++ begins.behind = cc in
-          absurd (omega (arith, first, ap length behind, length-append begins.item begins.behind)))
-      | inr whole ↦
-          let name = take long rest in
-          let size : length name ≡ long = omega (arith, length-take long rest) in
-          inl (record { item = name; behind = drop long rest; fits = omega (arith, are.0); is = λ i. sym size i ∷ sym (take-append-drop long rest) i })
-    ]
-
--- taking so many more names, all of them are taken, or one fails
-record AllTaken (due : ℕ) (body : List ℕ) : Type 0 where
-  names : List (List ℕ)
-  rest : List ℕ
-  taken : HasTaken due body names rest
-  long : length names ≡ due
-
-record OneFails (due : ℕ) (body : List ℕ) : Type 0 where
-  names : List (List ℕ)
-  rest : List ℕ
-  taken : HasTaken due body names rest
-  less : length names < due
-  none : ¬ BeginsWithItem name_text IsName rest
-
-take_names : (left due : ℕ) (body rest : List ℕ) (names : List (List ℕ)) → HasTaken due body names rest → length names + left ≡ due → AreBytes rest → AllTaken due body ⊎ OneFails due body
-take_names zero due body rest names taken long bytes = inl (record { names = names; rest = rest; taken = taken; long = omega arith })
-take_names (suc left) due body rest names taken long bytes =
-    elim (name_or_none rest bytes) [
-      | inr none ↦ inr (record { names = names; rest = rest; taken = taken; less = omega arith; none = none })
-      | inl begins ↦
-          take_names left due body begins.behind (names ++ begins.item ∷ [])
-          (takes_more due body rest begins.behind begins.item names (names ++ begins.item ∷ []) taken begins.fits begins.is (omega arith) refl)
-          (omega (arith, length-append names (begins.item ∷ [])))
-          (AreBytes-behind (name_text begins.item) begins.behind (subst AreBytes begins.is bytes))
-    ]
-
-functions_from : (payload : List ℕ) (due : ℕ) → AreBytes payload → due < 2 ^ 16 → take 2 payload ≡ little_endian 2 due → IsDecided (codes "FNSD") payload
-functions_from payload due bytes fits is =
-    elim (take_names due due (drop 2 payload) (drop 2 payload) [] (record { is = refl; fit = tt; within = omega arith }) (omega arith) (AreBytes-drop 2 payload bytes)) [
-      | inr fails ↦ inr (length fails.names, breaks_at payload fails.rest due (length fails.names) fails.names fits is fails.taken refl fails.less fails.none)
-      | inl all ↦ elim (same_or_not all.rest []) [
-        | inl none ↦ inl (Functions all.names, spells_functions payload all.rest due all.names fits is all.taken all.long none)
-        | inr left ↦ inr (due, breaks_behind payload all.rest due all.names fits is all.taken all.long left)
-      ]
+-- a counted payload is whole or breaks
+counted : {Item : Type 0} (item_text : Item → List ℕ) (Fits : Item → Type 0) → IsTried item_text Fits → (payload : List ℕ) → AreBytes payload → ((items : List Item) × IsCounted item_text Fits payload items) ⊎ ((spelled : ℕ) × BreaksCounted item_text Fits payload spelled)
+counted item_text Fits tried payload bytes =
+    elim (cases_lt (length payload) 2) [
+      | inl short ↦ inr (0, inl (short, refl))
+      | inr long ↦
+          let due = says 2 0 payload bytes (omega arith) in
+          elim (list_or_breaks item_text Fits tried due.0 (drop 2 payload) (AreBytes-drop 2 payload bytes)) [
+            | inl whole ↦ inl (whole.items, counted_is item_text Fits payload due.0 whole.items due.1 due.2 whole.fit whole.long whole.is)
+            | inr (spelled, breaks) ↦ inr (spelled, counted_breaks item_text Fits payload due.0 spelled due.1 due.2 breaks)
+          ]
     ]
 
 decided_functions : (payload : List ℕ) → AreBytes payload → IsDecided (codes "FNSD") payload
 decided_functions payload bytes =
-    elim (cases_lt (length payload) 2) [
-      | inl short ↦ inr (0, count_short payload short)
-      | inr long ↦ let due = says 2 0 payload bytes (omega arith) in functions_from payload due.0 bytes due.1 due.2
+    elim (counted name_text IsName name_tried payload bytes) [
+      | inl (names, whole) ↦ inl (Functions names, spells_functions payload names whole)
+      | inr (spelled, breaks) ↦ inr (spelled, (inr (inl (refl, breaks))))
+    ]
+
+decided_metas : (payload : List ℕ) → AreBytes payload → IsDecided (codes "MCLD") payload
+decided_metas payload bytes =
+    elim (counted meta_text IsMeta meta_tried payload bytes) [
+      | inl (metas, whole) ↦ inl (Metas metas, spells_metas payload metas whole)
+      | inr (spelled, breaks) ↦ inr (spelled, (inr (inr (inl (refl, breaks)))))
+    ]
+
+decided_symbols : (payload : List ℕ) → AreBytes payload → IsDecided (codes "SYMD") payload
+decided_symbols payload bytes =
+    elim (counted symbol_text IsSymbol symbol_tried payload bytes) [
+      | inl (symbols, whole) ↦ inl (Symbols symbols, spells_symbols payload symbols whole)
+      | inr (spelled, breaks) ↦ inr (spelled, (inr (inr (inr (inr (refl, breaks))))))
+    ]
+
+decided_objects : (payload : List ℕ) → AreBytes payload → IsDecided (codes "OBJS") payload
+decided_objects payload bytes =
+    elim (cases_lt (length payload) 6) [
+      | inl short ↦ inr (0, (inr (inr (inr (inl (refl, inl (short, refl)))))))
+      | inr long ↦
+          let due = says 2 0 payload bytes (omega arith) in
+          let metaclass = says 2 2 payload bytes (omega arith) in
+          let flags = says 2 4 payload bytes (omega arith) in
+          let head = has_head payload due.0 metaclass.0 flags.0 due.1 metaclass.1 flags.1 due.2 metaclass.2 flags.2 in
+          let width = size_width flags.0 in
+          elim (list_or_breaks (static_text width) (IsStatic width) (static_tried width) due.0 (drop 6 payload) (AreBytes-drop 6 payload bytes)) [
+            | inl whole ↦ inl (Objects metaclass.0 flags.0 whole.items, spells_objects payload due.0 metaclass.0 flags.0 whole.items head whole.fit whole.long whole.is)
+            | inr (spelled, breaks) ↦ inr (spelled, (inr (inr (inr (inl (refl, objects_breaks payload due.0 metaclass.0 flags.0 spelled head breaks))))))
+          ]
     ]
 
 decided_opaque : (name payload : List ℕ) → length name ≡ 4 → name ≢ end_name → list_any (λ known. bytes_eq known name) layout_names ≡ false → IsDecided name payload
 unfolding payload_of
 decided_opaque name payload four other plain = inl (Opaque name payload, record { spellable = (four, other, plain); name_is = refl; payload_is = refl })
 
--- the name is not that of a kind where it is none of the four
-plain_name : (name : List ℕ) → name ≢ codes "ENTP" → name ≢ codes "CPDF" → name ≢ codes "CPPG" → name ≢ codes "FNSD" → list_any (λ known. bytes_eq known name) layout_names ≡ false
-plain_name name entry pool page functions =
-    let a = differs (codes "ENTP") entry in
-    let b = differs (codes "CPDF") pool in
-    let c = differs (codes "CPPG") page in
-    let d = differs (codes "FNSD") functions in
-    rw (a, b, c, d) refl
+-- the name is that of no kind where it is none of theirs
+plain_name : (name : List ℕ) → name ≢ codes "ENTP" → name ≢ codes "CPDF" → name ≢ codes "CPPG" → name ≢ codes "FNSD" → name ≢ codes "MCLD" → name ≢ codes "OBJS" → name ≢ codes "SYMD" → list_any (λ known. bytes_eq known name) layout_names ≡ false
+plain_name name entry pool page functions metas objects symbols =
+    rw (differs (codes "ENTP") entry, differs (codes "CPDF") pool, differs (codes "CPPG") page, differs (codes "FNSD") functions, differs (codes "MCLD") metas, differs (codes "OBJS") objects, differs (codes "SYMD") symbols) refl
   where
     differs : (known : List ℕ) → name ≢ known → bytes_eq known name ≡ false
     differs known other = elim (cases_Bool (bytes_eq known name)) [ inl same ↦ absurd (other (sym ((bytes_eq-Decides known name).0 same))) | inr e ↦ e ]
 
+-- under a name, or under another
+at_name : (name known payload : List ℕ) → IsDecided known payload → (name ≢ known → IsDecided name payload) → IsDecided name payload
+at_name name known payload here other =
+    elim (same_or_not name known) [
+      | inl is ↦ subst (λ n. IsDecided n payload) (sym is) here
+      | inr not ↦ other not
+    ]
+
 pub decided : (name payload : List ℕ) → length name ≡ 4 → name ≢ end_name → AreBytes payload → IsDecided name payload
 decided name payload four other bytes =
-    elim (same_or_not name (codes "ENTP")) [
-      | inl is ↦ subst (λ n. IsDecided n payload) (sym is) (decided_entry payload bytes)
-      | inr not_entry ↦ elim (same_or_not name (codes "CPDF")) [
-        | inl is ↦ subst (λ n. IsDecided n payload) (sym is) (decided_pool_def payload bytes)
-        | inr not_pool ↦ elim (same_or_not name (codes "CPPG")) [
-          | inl is ↦ subst (λ n. IsDecided n payload) (sym is) (decided_page payload bytes)
-          | inr not_page ↦ elim (same_or_not name (codes "FNSD")) [
-            | inl is ↦ subst (λ n. IsDecided n payload) (sym is) (decided_functions payload bytes)
-            | inr not_functions ↦ decided_opaque name payload four other (plain_name name not_entry not_pool not_page not_functions)
-          ]
-        ]
-      ]
-    ]
+    at_name name (codes "ENTP") payload (decided_entry payload bytes) (λ not_entry.
+    at_name name (codes "CPDF") payload (decided_pool_def payload bytes) (λ not_pool.
+    at_name name (codes "CPPG") payload (decided_page payload bytes) (λ not_page.
+    at_name name (codes "FNSD") payload (decided_functions payload bytes) (λ not_functions.
+    at_name name (codes "MCLD") payload (decided_metas payload bytes) (λ not_metas.
+    at_name name (codes "OBJS") payload (decided_objects payload bytes) (λ not_objects.
+    at_name name (codes "SYMD") payload (decided_symbols payload bytes) (λ not_symbols.
+    decided_opaque name payload four other (plain_name name not_entry not_pool not_page not_functions not_metas not_objects not_symbols))))))))

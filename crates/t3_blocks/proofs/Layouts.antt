@@ -10,7 +10,7 @@ use Rattle.t3_blocks.proofs.Lists.{next_part, masked_twice}
 use Rattle.t3_blocks.proofs.Laws.{entry_long, pool_def_long, page_long}
 
 -- the number at a place, and the rest
-at_place : (width at n : ℕ) (xs : List ℕ) → take width (drop at xs) ≡ little_endian width n → little_endian width n ++ drop (at + width) xs ≡ drop at xs
+pub at_place : (width at n : ℕ) (xs : List ℕ) → take width (drop at xs) ≡ little_endian width n → little_endian width n ++ drop (at + width) xs ≡ drop at xs
 at_place width at n xs is = ap (λ t. t ++ drop (at + width) xs) (sym is) ∙ next_part at width xs
 
 pub spells_pool_def : (xs : List ℕ) (pool count size : ℕ) → pool < 2 ^ 16 → count < 2 ^ 32 → size < 2 ^ 32 → length xs ≡ 10 → take 2 (drop 0 xs) ≡ little_endian 2 pool → take 4 (drop 2 xs) ≡ little_endian 4 count → take 4 (drop 6 xs) ≡ little_endian 4 size

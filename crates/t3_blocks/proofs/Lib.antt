@@ -1,6 +1,12 @@
+pub mod Appending
+pub mod Counted
 pub mod Decided
 pub mod Inversion
+pub mod ItemLists
+pub mod ItemTexts
 pub mod Laws
 pub mod Layouts
 pub mod Lists
-pub mod NameLists
+pub mod MetaEntries
+pub mod Splits
+pub mod Tried

@@ -5,7 +5,7 @@ use Rattle.std.proofs.lemmas.List.{take-append-drop, drop-drop, length-take, len
 use Rattle.std.specs.List.{flat_map, AllByRecursion}
 use Rattle.std.specs.Int.Bits.{bit_xor, xor_assoc, xor_self, xor_zero_r}
 use Rattle.t3_holder.specs.NumberText.{little_endian, value_of, AreBytes}
-use Rattle.t3_holder.proofs.Numbers.{same_number, length-little_endian, little_endian-value_of}
+use Rattle.t3_holder.proofs.Numbers.{same_number, length-little_endian, little_endian-value_of, value_fits}
 use Rattle.t3_blocks.specs.Spelling.{masked, name_text}
 
 -- two ways to cut a list behind as many elements are one
@@ -56,13 +56,9 @@ pub AreBytes-behind : (a b : List ℕ) → AreBytes (a ++ b) → AreBytes b
 AreBytes-behind [] b bytes = bytes
 AreBytes-behind (x ∷ a) b bytes = AreBytes-behind a b bytes.1
 
-value_fits : (width : ℕ) (bytes : List ℕ) → AreBytes bytes → length bytes ≡ width → value_of bytes < 256 ^ width
-value_fits zero [] all long = omega arith
-value_fits (suc width) [] all long = absurd (omega arith)
-value_fits zero (b ∷ bytes) all long = absurd (omega arith)
-value_fits (suc width) (b ∷ bytes) all long =
-    let rest = value_fits width bytes all.1 (omega arith) in
-    omega (arith, all.0)
+pub AreBytes-front : (a b : List ℕ) → AreBytes (a ++ b) → AreBytes a
+AreBytes-front [] b bytes = tt
+AreBytes-front (x ∷ a) b bytes = (bytes.0, AreBytes-front a b bytes.1)
 
 -- the number that some of the bytes say, and its text
 pub says : (width from : ℕ) (bytes : List ℕ) → AreBytes bytes → from + width ≤ length bytes → (n : ℕ) × (n < 256 ^ width) × (take width (drop from bytes) ≡ little_endian width n)

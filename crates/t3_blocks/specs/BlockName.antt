@@ -10,18 +10,14 @@ end_name = codes "EOF "
 
 -- the names of the blocks whose payload's layout is read here
 abbrev pub layout_names : List (List ℕ)
-layout_names = codes "ENTP" ∷ codes "CPDF" ∷ codes "CPPG" ∷ codes "FNSD" ∷ []
-
--- the names of those that have a layout which isn't read yet
-abbrev pub later_names : List (List ℕ)
-later_names = codes "MCLD" ∷ codes "OBJS" ∷ codes "SYMD" ∷ []
+layout_names = codes "ENTP" ∷ codes "CPDF" ∷ codes "CPPG" ∷ codes "FNSD" ∷ codes "MCLD" ∷ codes "OBJS" ∷ codes "SYMD" ∷ []
 
 -- the names of the blocks that are kept and passed on unread: symbols, macros, method headers, sources, static initializers and resources
 abbrev pub kept_names : List (List ℕ)
 kept_names = codes "GSYM" ∷ codes "MACR" ∷ codes "MHLS" ∷ codes "SRCF" ∷ codes "SINI" ∷ codes "MRES" ∷ []
 
 abbrev pub is_known : List ℕ → Bool
-is_known name = list_any (λ known. bytes_eq known name) (end_name ∷ layout_names ++ later_names ++ kept_names)
+is_known name = list_any (λ known. bytes_eq known name) (end_name ∷ layout_names ++ kept_names)
 
 -- bit 0x0001 of the flags
 abbrev pub is_mandatory : ℕ → Bool

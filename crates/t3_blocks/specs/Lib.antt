@@ -1,3 +1,4 @@
+pub mod Appending
 pub mod BlockName
 pub mod Malformed
 pub mod Parsing

@@ -5,7 +5,7 @@ ghost use Rattle.t3_blocks.specs.Spelling.{Spells};
 ghost use Rattle.t3_blocks.specs.Malformed.{IsMalformed};
 ghost use Rattle.t3_blocks.specs.declared.block.Block.{Block as AnyBlock};
 
-use std::marker::Model;
+use crate::items::{Metas, Names, Statics, Symbols};
 use t3_holder::Bytes;
 
 /// What a block says, apart from its flags. The layouts are those of the chapter on the image format.
@@ -42,25 +42,29 @@ pub enum Block {
     Functions {
         names: Names,
     },
+    /// `MCLD`: the metaclasses, in the order of their indices.
+    Metas {
+        metas: Metas,
+    },
+    /// `OBJS`: objects of one metaclass.
+    Objects {
+        /// The index of the metaclass.
+        metaclass: u16,
+        /// Bit 0x0001 says that the sizes of the objects have four bytes and not two, bit 0x0002 that
+        /// the objects are transient; the others are kept.
+        flags: u16,
+        objects: Statics,
+    },
+    /// `SYMD`: names for data holders.
+    Symbols {
+        symbols: Symbols,
+    },
     /// A block that is kept as bytes and passed on unread. Where a payload spells it, its name is that of
     /// no kind above, and isn't `EOF `.
     Opaque {
         name: [u8; 4],
         bytes: Bytes,
     },
-}
-
-/// A list of names. Contracts see the list. Where a payload spells it, it has at most 65,535 names of
-/// at most 255 bytes each.
-#[derive(Debug, Drop)]
-pub struct Names(pub Vec<Bytes>);
-
-impl Model for Names {
-    ghost use Rattle.std.specs.Prelude.{List, ℕ};
-
-    ghost Value = { List (List ℕ) };
-
-    ghost view = { λ n. n.0.items };
 }
 
 /// A block has at most one name and one payload, and these spell no other block. Bytes under a name

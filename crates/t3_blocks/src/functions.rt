@@ -1,11 +1,11 @@
 //! The counted list of function sets.
-ghost use Rattle.std.specs.Prelude.{◌≡◌, ◌++◌, codes, MatchOption};
+ghost use Rattle.std.specs.Prelude.{codes};
 ghost use Rattle.t3_blocks.specs.Parsing.{Parses};
-ghost use Rattle.t3_blocks.specs.Spelling.{name_text, IsName};
-ghost use Rattle.t3_blocks.specs.Malformed.{BeginsWithItem};
 
-use crate::block::{Block, Names};
+use crate::block::Block;
+use crate::items::Names;
 use crate::refusal::BlockRefusal;
+use crate::split::split_name;
 use std::alloc::Global;
 use t3_holder::{Bytes, u16_at};
 
@@ -36,12 +36,4 @@ pub(crate) fn functions(alloc: Global, payload: &[u8]) -> Result<Block, BlockRef
     Ok(Block::Functions {
         names: Names(names),
     })
-}
-
-/// A name behind its length in one byte, and what follows it.
-fn split_name(bytes: &[u8]) -> Option<(&[u8], &[u8])>
-    ensures { MatchOption result (¬ BeginsWithItem name_text IsName bytes.now) (λ parts. IsName parts.0.now × (bytes.now ≡ name_text parts.0.now ++ parts.1.now)) }
-{
-    let (long, rest) = bytes.split_first()?;
-    rest.split_at_checked(usize::from(*long))
 }

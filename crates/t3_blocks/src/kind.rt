@@ -8,6 +8,9 @@ pub(crate) enum Kind {
     PoolDef,
     Page,
     Functions,
+    Metas,
+    Objects,
+    Symbols,
     /// The payload has no layout here.
     Opaque,
 }
@@ -22,6 +25,9 @@ impl Kind {
             b"CPDF" => Kind::PoolDef,
             b"CPPG" => Kind::Page,
             b"FNSD" => Kind::Functions,
+            b"MCLD" => Kind::Metas,
+            b"OBJS" => Kind::Objects,
+            b"SYMD" => Kind::Symbols,
             _ => Kind::Opaque,
         }
     }

@@ -8,8 +8,11 @@ use crate::block::Block;
 use crate::functions::functions;
 use crate::heads::{entry, page, pool_def};
 use crate::kind::Kind;
+use crate::metas::metas;
 use crate::names::is_unknown_mandatory;
+use crate::objects::objects;
 use crate::refusal::BlockRefusal;
+use crate::symbols::symbols;
 use std::alloc::Global;
 use t3_holder::Bytes;
 
@@ -41,6 +44,9 @@ pub fn parse_block(
         Kind::PoolDef => pool_def(payload),
         Kind::Page => page(alloc, payload),
         Kind::Functions => functions(alloc, payload),
+        Kind::Metas => metas(alloc, payload),
+        Kind::Objects => objects(alloc, payload),
+        Kind::Symbols => symbols(alloc, payload),
         Kind::Opaque => {
             let bytes = Bytes(Vec::from_slice(alloc, payload)?);
             Ok(Block::Opaque { name, bytes })

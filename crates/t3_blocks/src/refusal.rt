@@ -11,7 +11,7 @@ pub enum BlockRefusal {
     #[error("an unknown block is mandatory")]
     UnknownMandatory,
     /// The payload spells no block of its kind. So many of its items spell before one that doesn't, or
-    /// before bytes that are left; 0 where the count is short, and for a kind without items.
+    /// before bytes that are left; 0 where the head is short, and for a kind without items.
     #[error("a block is malformed behind {items} items")]
     Malformed { items: u32 },
     /// An allocation was refused.

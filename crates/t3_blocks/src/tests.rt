@@ -8,7 +8,8 @@ use t3_holder::Bytes;
 /// A name, flags and a payload, and what they give.
 type Row = (&'static [u8; 4], u16, &'static [u8], &'static str);
 
-/// Tries a row with a payload that lies in a buffer, and with one that is handed in.
+/// Tries a row with a payload that lies in a buffer, and with one that is handed in. A block is written
+/// as it was read.
 fn check(rt: &impl Abort, alloc: Global, row: Row) -> Result<(), Fail> {
     let (name, flags, payload, wanted) = row;
     assert!(rt; *name != END_NAME);
@@ -16,6 +17,11 @@ fn check(rt: &impl Abort, alloc: Global, row: Row) -> Result<(), Fail> {
     let copied = parse_block(alloc, *name, flags, payload);
     let shown = format!(in alloc; "{copied:?}")?;
     assert_eq!(rt; shown.as_str(), wanted);
+    if let Ok(block) = &copied {
+        let mut out = Vec::from_slice(alloc, b"before")?;
+        append_block(block, &mut out)?;
+        assert_eq!(rt; out.strip_prefix(b"before"), Some(payload));
+    }
     let owned = Bytes(Vec::from_slice(alloc, payload)?);
     let taken = take_block(alloc, *name, flags, owned);
     let shown = format!(in alloc; "{taken:?}")?;
@@ -40,10 +46,10 @@ fn keeps_payloads_without_a_layout(rt: HostRuntime) -> Result<(), Fail> {
             "Ok(Opaque { name: [90, 90, 90, 90], bytes: Bytes([]) })",
         ),
         (
-            b"SYMD",
+            b"MRES",
             1,
             b"\x05",
-            "Ok(Opaque { name: [83, 89, 77, 68], bytes: Bytes([5]) })",
+            "Ok(Opaque { name: [77, 82, 69, 83], bytes: Bytes([5]) })",
         ),
         (b"ZZZZ", 1, b"", "Err(UnknownMandatory)"),
         (b"entp", 3, b"", "Err(UnknownMandatory)"),
@@ -167,6 +173,123 @@ fn takes_function_sets_apart(rt: HostRuntime) -> Result<(), Fail> {
             1,
             b"\xFF\xFF\x00\x00\x00",
             "Err(Malformed { items: 3 })",
+        ),
+    ];
+    for row in rows {
+        check(&rt, rt.alloc(), row)?;
+    }
+    Ok(())
+}
+
+// A count, and so many entries behind their sizes.
+#[test]
+fn takes_metaclasses_apart(rt: HostRuntime) -> Result<(), Fail> {
+    let rows: [Row; 5] = [
+        (
+            b"MCLD",
+            1,
+            b"\x01\x00\x0C\x00\x01a\x01\x00\x03\x00\x05\x00\x07\x09",
+            "Ok(Metas { metas: Metas([Meta { name: Bytes([97]), property_size: 3, props: PropEntries([PropEntry { number: 5, extra: Bytes([7]) }]), tail: Bytes([9]) }]) })",
+        ),
+        (
+            b"MCLD",
+            1,
+            b"\x01\x00\x07\x00\x00\x00\x00\x01\x00",
+            "Ok(Metas { metas: Metas([Meta { name: Bytes([]), property_size: 1, props: PropEntries([]), tail: Bytes([]) }]) })",
+        ),
+        (
+            b"MCLD",
+            1,
+            b"\x01\x00\x08\x00\x00\x01\x00\x01\x00\x05",
+            "Err(Malformed { items: 0 })",
+        ),
+        (
+            b"MCLD",
+            1,
+            b"\x01\x00\x06\x00\x00\x00\x00\x01\x00",
+            "Err(Malformed { items: 0 })",
+        ),
+        (
+            b"MCLD",
+            1,
+            b"\x02\x00\x07\x00\x00\x00\x00\x01\x00\x08\x00\x00\x00\x00\x00\x00",
+            "Err(Malformed { items: 1 })",
+        ),
+    ];
+    for row in rows {
+        check(&rt, rt.alloc(), row)?;
+    }
+    Ok(())
+}
+
+// Six bytes, and as many objects as they say, behind sizes of two or four bytes.
+#[test]
+fn takes_objects_apart(rt: HostRuntime) -> Result<(), Fail> {
+    let rows: [Row; 5] = [
+        (
+            b"OBJS",
+            1,
+            b"\x02\x00\x03\x00\x02\x00\x07\x00\x00\x00\x01\x00\xAA\x08\x00\x00\x00\x00\x00",
+            "Ok(Objects { metaclass: 3, flags: 2, objects: Statics([Static { number: 7, bytes: Bytes([170]) }, Static { number: 8, bytes: Bytes([]) }]) })",
+        ),
+        (
+            b"OBJS",
+            1,
+            b"\x01\x00\x00\x00\x01\x00\x07\x00\x00\x00\x01\x00\x00\x00\xAA",
+            "Ok(Objects { metaclass: 0, flags: 1, objects: Statics([Static { number: 7, bytes: Bytes([170]) }]) })",
+        ),
+        (
+            b"OBJS",
+            1,
+            b"\x02\x00\x00\x00\x00\x00\x07\x00\x00\x00\x06\x00\x00\x00\x00\x00\x00\x00",
+            "Err(Malformed { items: 1 })",
+        ),
+        (
+            b"OBJS",
+            1,
+            b"\x00\x00\x00\x00\x00",
+            "Err(Malformed { items: 0 })",
+        ),
+        (
+            b"OBJS",
+            1,
+            b"\x00\x00\x00\x00\x00\x00\x00",
+            "Err(Malformed { items: 0 })",
+        ),
+    ];
+    for row in rows {
+        check(&rt, rt.alloc(), row)?;
+    }
+    Ok(())
+}
+
+// A count, and so many data holders with their names.
+#[test]
+fn takes_symbols_apart(rt: HostRuntime) -> Result<(), Fail> {
+    let rows: [Row; 4] = [
+        (
+            b"SYMD",
+            1,
+            b"\x01\x00\x06\x02\x00\xAA\xBB\x02ab",
+            "Ok(Symbols { symbols: Symbols([Symbol { raw: Raw { tag: 6, bits: 3148480514 }, name: Bytes([97, 98]) }]) })",
+        ),
+        (
+            b"SYMD",
+            1,
+            b"\x01\x00\x06\x02\x00\xAA",
+            "Err(Malformed { items: 0 })",
+        ),
+        (
+            b"SYMD",
+            1,
+            b"\x01\x00\x06\x02\x00\xAA\xBB\x02a",
+            "Err(Malformed { items: 0 })",
+        ),
+        (
+            b"SYMD",
+            1,
+            b"\x01\x00\x06\x02\x00\xAA\xBB\x00a",
+            "Err(Malformed { items: 1 })",
         ),
     ];
     for row in rows {

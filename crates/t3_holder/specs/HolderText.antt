@@ -87,6 +87,6 @@ pub record Means (raw : Raw) (holder : Holder) : Type 0 where
 abbrev pub meant_tags : List ℕ
 meant_tags = 1 ∷ 2 ∷ 5 ∷ 6 ∷ 7 ∷ 8 ∷ 9 ∷ 10 ∷ 11 ∷ 12 ∷ 15 ∷ []
 
--- the type means nothing, or it is an object or a property without a number
+-- the type means nothing, or it is an object or a property with the number 0, a property's in the low 16 bits
 abbrev pub IsNoHolder : Raw → Type 0
 IsNoHolder raw = (list_any (λ tag. tag == raw.tag) meant_tags ≡ false) ⊎ (((raw.tag ≡ 5) × (raw.bits ≡ 0)) ⊎ ((raw.tag ≡ 6) × (raw.bits % 2 ^ 16 ≡ 0)))

@@ -2,7 +2,7 @@
 use Rattle.std.specs.Prelude.{◌≡◌, ℕ, zero, suc, ◌+◌, ◌*◌, ◌/◌, ◌%◌, ◌<◌, List, [], ◌∷◌, length}
 use Rattle.std.specs.List.{AllByRecursion}
 
--- the number in so many bytes, its lowest byte first
+-- the number in so many bytes, its lowest byte first; what doesn't fit them is left out
 unfoldable pub little_endian : ℕ → ℕ → List ℕ
 little_endian zero n = []
 little_endian (suc width) n = n % 256 ∷ little_endian width (n / 256)

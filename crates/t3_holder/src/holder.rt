@@ -1,5 +1,5 @@
 //! Data holders: a type and a value, in five bytes.
-ghost use Rattle.std.specs.Prelude.{◌≡◌, ℕ, List, length, MatchOption};
+ghost use Rattle.std.specs.Prelude.{◌≡◌, ◌↔◌, ℕ, List, length, IfSome, IsNone};
 ghost use Rattle.t3_holder.specs.NumberText.{AreBytes};
 ghost use Rattle.t3_holder.specs.HolderText.{raw_text, tag_of, bits_of, IsRaw, IsHolder, IsGood, Means, IsNoHolder};
 ghost use Rattle.t3_holder.specs.declared.holder.Raw.{Raw as AnyRaw};
@@ -15,7 +15,7 @@ pub struct Raw {
     pub bits: u32,
 }
 
-/// What a holder means. The number of an object or a property is never 0.
+/// What a holder means. Of what [`holder_of`] gives, no object and no property has the number 0.
 #[derive(Clone, Copy, Debug, PartialEq, Eq, Hash)]
 pub enum Holder {
     Nil,
@@ -83,7 +83,9 @@ pub fn raw_bytes(raw: Raw) -> [u8; 5]
 /// `None` exactly where the type is none of 1, 2, 5 to 12 and 15, or an object's number is 0, or a
 /// property's, which is in the value's low two bytes.
 pub fn holder_of(raw: Raw) -> Option<Holder>
-    ensures { MatchOption result (IsNoHolder raw) (λ holder. Means raw holder) }
+    ensures means { IfSome result (λ holder. Means raw holder) }
+    ensures none { IsNone result ↔ IsNoHolder raw }
+    ensures unmeant { IsNone result → (holder : AnyHolder) → ¬ Means raw holder }
 {
     let bits = raw.bits;
     let low = (bits % 0x10000) as u16;
@@ -126,7 +128,7 @@ pub fn raw_of(holder: Holder) -> Raw
 }
 
 /// Five bytes are the text of one raw holder, which has one text. It means one holder or none, and each
-/// holder is meant by the one that `raw_of` gives.
+/// holder whose number fits, and isn't 0 where it may not be, is meant by the one that `raw_of` gives.
 pub fn holder_text()
     ensures some { (text : List ℕ) → length text ≡ 5 → AreBytes text → (raw : AnyRaw) × IsRaw raw × (raw_text raw ≡ text) }
     ensures one_raw { (a b : AnyRaw) → IsRaw a → IsRaw b → raw_text a ≡ raw_text b → a ≡ b }

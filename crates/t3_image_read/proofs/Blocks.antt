@@ -3,19 +3,19 @@ use Rattle.std.proofs.Common.{◌≡◌, ℕ, ◌+◌, ◌^◌, ◌<◌, ◌≤�
 use Rattle.std.specs.Prelude.{IsTrue}
 use Rattle.std.proofs.lemmas.List.{length-append}
 use Rattle.t3_blocks.specs.declared.block.Block.{Block}
-use Rattle.t3_blocks.specs.declared.block.Block.TheVariants.{Entry, PoolDef, Page, Functions, Opaque}
-use Rattle.t3_blocks.specs.BlockName.{end_name, is_mandatory, is_unknown_mandatory}
+use Rattle.t3_blocks.specs.declared.block.Block.TheVariants.{Entry, PoolDef, Page, Functions, Metas, Objects, Symbols, Opaque}
+use Rattle.t3_blocks.specs.BlockName.{is_mandatory, is_unknown_mandatory}
 use Rattle.t3_blocks.specs.Spelling.{Spells, IsSpellable, name_of, payload_of, image_limit}
 use Rattle.t3_blocks.specs.Malformed.{IsMalformed}
-use Rattle.t3_blocks.proofs.Laws.{same_block, not_both}
-use Rattle.t3_blocks.proofs.Inversion.{differ}
+use Rattle.t3_blocks.proofs.Laws.{same_block, not_both, not_end, end_not_malformed}
 use Rattle.t3_image_read.specs.declared.header.BlockHeader.{BlockHeader}
 use Rattle.t3_image_read.specs.declared.image.PlacedBlock.{PlacedBlock}
 use Rattle.t3_image_read.specs.declared.refusal.ReadWhy.{ReadWhy}
-use Rattle.t3_image_read.specs.declared.refusal.ReadWhy.TheVariants.{Signature, Version, UnknownMandatory, Malformed, Truncated, Unbuilt}
+use Rattle.t3_image_read.specs.declared.refusal.ReadWhy.TheVariants.{Signature, Version, TooLong, TooMany, UnknownMandatory, Malformed, EofSize, Truncated}
 use Rattle.t3_image_read.specs.ImageText.{header_text, header_of, block_text, end_header}
 use Rattle.t3_image_read.specs.Validity.{IsHeader, IsGood, header_limit}
-use Rattle.t3_image_read.specs.Refusal.{StartsWith, IsUnbuilt, BlockBreaks}
+use Rattle.t3_image_read.specs.Refusal.{StartsWith, IsLoadedEnd, EndsTooLate, BlockBreaks}
+use Rattle.t3_image_read.specs.Faults.{PassesLimit}
 use Rattle.t3_blocks.proofs.Lists.{split_same}
 use Rattle.t3_image_read.proofs.Headers.{header_same, length-header_text}
 
@@ -25,21 +25,10 @@ spellable_name (Entry a b c d e) is = refl
 spellable_name (PoolDef a b c) is = refl
 spellable_name (Page a b c d) is = refl
 spellable_name (Functions a) is = refl
+spellable_name (Metas a) is = refl
+spellable_name (Objects a b c) is = refl
+spellable_name (Symbols a) is = refl
 spellable_name (Opaque name bytes) is = is.0
-
-pub not_end : (block : Block) → IsSpellable block → name_of block ≡ end_name → ⊥
-not_end (Entry a b c d t) is name = let e : 78 ≡ 79 = differ _ _ 1 name in absurd (omega (arith, e))
-not_end (PoolDef a b c) is name = let e : 67 ≡ 69 = differ _ _ 0 name in absurd (omega (arith, e))
-not_end (Page a b c d) is name = let e : 67 ≡ 69 = differ _ _ 0 name in absurd (omega (arith, e))
-not_end (Functions a) is name = let e : 70 ≡ 69 = differ _ _ 0 name in absurd (omega (arith, e))
-not_end (Opaque own bytes) is e = is.1 e
-
--- the end is no block that is malformed
-pub end_not_malformed : (payload : List ℕ) (items : ℕ) → IsMalformed end_name payload items → ⊥
-end_not_malformed payload items (inl (inl entry, none, spells)) = let e : 79 ≡ 78 = differ _ _ 1 entry in absurd (omega (arith, e))
-end_not_malformed payload items (inl (inr (inl pool), none, spells)) = let e : 69 ≡ 67 = differ _ _ 0 pool in absurd (omega (arith, e))
-end_not_malformed payload items (inl (inr (inr page), none, spells)) = let e : 69 ≡ 67 = differ _ _ 0 page in absurd (omega (arith, e))
-end_not_malformed payload items (inr (functions, broken)) = let e : 69 ≡ 70 = differ _ _ 0 functions in absurd (omega (arith, e))
 
 spells_itself : (block : Block) → IsSpellable block → Spells block (name_of block) (payload_of block)
 spells_itself block spellable = record { spellable = spellable; name_is = refl; payload_is = refl }
@@ -91,13 +80,17 @@ known_not true e h = absurd cc
 known_not false e h = absurd cc
 
 -- a whole header within the limits, of a known name, with its whole payload behind it, breaks no rule
-pub unbroken : (count place : ℕ) (header : BlockHeader) (x : List ℕ) → IsHeader header → (IsUnbuilt count place header → ⊥) → is_unknown_mandatory header.name header.flags ≡ false → header.size ≤ length x
+pub unbroken : (count place : ℕ) (header : BlockHeader) (x : List ℕ) → IsHeader header → (PassesLimit count place header → ⊥) → is_unknown_mandatory header.name header.flags ≡ false → header.size ≤ length x
     → ((payload y : List ℕ) (items : ℕ) → x ≡ payload ++ y → length payload ≡ header.size → IsMalformed header.name payload items → ⊥) → (why : ReadWhy) → BlockBreaks count place (header_text header ++ x) why → ⊥
 unbroken count place header x fits within known whole spelled Signature broken = broken
 unbroken count place header x fits within known whole spelled Version broken = broken
-unbroken count place header x fits within known whole spelled Unbuilt (other, y, starts, passes) =
+unbroken count place header x fits within known whole spelled TooMany (other, y, starts, many) = within (inl many)
+unbroken count place header x fits within known whole spelled EofSize (other, y, starts, loaded) =
     let same = only_header header other x y fits starts in
-    within (subst (λ h. IsUnbuilt count place h) (sym same.0) passes)
+    within (inr (inl (subst (λ h. IsLoadedEnd h) (sym same.0) loaded)))
+unbroken count place header x fits within known whole spelled TooLong (other, y, starts, late) =
+    let same = only_header header other x y fits starts in
+    within (inr (inr (subst (λ h. EndsTooLate place h) (sym same.0) late)))
 unbroken count place header x fits within known whole spelled UnknownMandatory (other, y, starts, unknown) =
     let same = only_header header other x y fits starts in
     known_not _ known (subst (λ (h : BlockHeader). IsTrue (is_unknown_mandatory h.name h.flags)) (sym same.0) unknown)
@@ -117,7 +110,7 @@ unbroken count place header x fits within known whole spelled Truncated (inr (ot
 pub good_unbroken : (count place : ℕ) (placed : PlacedBlock) (x : List ℕ) → IsGood placed → count < header_limit → place + length (block_text placed) ≤ image_limit
     → (why : ReadWhy) → BlockBreaks count place (block_text placed ++ x) why → ⊥
 good_unbroken count place placed x good few fits why broken =
-    let within : IsUnbuilt count place (header_of placed) → ⊥ = λ passes. elim passes [
+    let within : PassesLimit count place (header_of placed) → ⊥ = λ passes. elim passes [
       | inl many ↦ absurd (omega arith)
       | inr more ↦ elim more [
         | inl is_end ↦ not_end placed.block good.spellable is_end.0
@@ -138,7 +131,7 @@ and_false false = refl
 pub end_unbroken : (count place flags : ℕ) (x : List ℕ) → flags < 2 ^ 16 → count < header_limit → place + 10 ≤ image_limit
     → (why : ReadWhy) → BlockBreaks count place (header_text (end_header flags) ++ x) why → ⊥
 end_unbroken count place flags x fits few near why broken =
-    let within : IsUnbuilt count place (end_header flags) → ⊥ = λ passes. elim passes [
+    let within : PassesLimit count place (end_header flags) → ⊥ = λ passes. elim passes [
       | inl many ↦ absurd (omega arith)
       | inr more ↦ elim more [
         | inl sized ↦ absurd (omega (arith, sized.1))

@@ -13,34 +13,29 @@ use Rattle.t3_image_read.specs.declared.header.BlockHeader.{BlockHeader}
 use Rattle.t3_image_read.specs.declared.image.Head.{Head}
 use Rattle.t3_image_read.specs.declared.image.PlacedBlock.{PlacedBlock}
 use Rattle.t3_image_read.specs.declared.refusal.ReadWhy.{ReadWhy}
-use Rattle.t3_image_read.specs.declared.refusal.ReadWhy.TheVariants.{Signature, Version, UnknownMandatory, Malformed, Truncated, Unbuilt}
+use Rattle.t3_image_read.specs.declared.refusal.ReadWhy.TheVariants.{Signature, Version, TooLong, TooMany, UnknownMandatory, Malformed, EofSize, Truncated}
 use Rattle.t3_image_read.specs.ImageText.{ImageValue, signature, version, head_text, header_text, block_text, front_text, end_header, text}
 use Rattle.t3_image_read.specs.Validity.{IsHead, IsHeader, IsGood, IsFront, IsValid, header_limit}
-use Rattle.t3_image_read.specs.Refusal.{IsFirstBroken, DiffersFromSignature, HasOtherVersion, HeadBreaks, StartsWith, IsUnbuilt, SpellsNothing, BlockBreaks, head_place, IsRefused, BeginsWithImage}
+use Rattle.t3_image_read.specs.Refusal.{IsFirstBroken, DiffersFromSignature, HasOtherVersion, HeadBreaks, StartsWith, IsOneTooMany, IsLoadedEnd, EndsTooLate, SpellsNothing, BlockBreaks, head_place, IsRefused, BeginsWithImage}
+use Rattle.t3_image_read.specs.Faults.{PassesLimit}
 use Rattle.t3_image_read.proofs.Lists.{head_parts}
 use Rattle.t3_blocks.proofs.Lists.{same_or_not, AreBytes-take, AreBytes-drop, AreBytes-behind}
 use Rattle.t3_image_read.proofs.Headers.{some_header, header_same, length-header_text}
 use Rattle.t3_image_read.proofs.Heads.{length-signature, head_text-append}
 use Rattle.t3_image_read.proofs.Blocks.{IsHeader-end_header, length-block_text}
-use Rattle.t3_image_read.proofs.Firsts.{first_signature, first_version, first_head_cut, block_earlier}
+use Rattle.t3_image_read.proofs.Firsts.{first_signature, first_version, first_head_cut, IsWithin, block_earlier, within_earlier}
 use Rattle.t3_image_read.proofs.Uniqueness.{text-append}
 use Rattle.t3_image_read.proofs.Push.{front_text-push, IsFront-push, IsFront-head, front_text-head}
 
 -- ---- one block
 
-passes_or_not : (count place : ℕ) (header : BlockHeader) → IsUnbuilt count place header ⊎ ¬ IsUnbuilt count place header
-passes_or_not count place header =
-    elim (cases_lt count header_limit) [
-      | inr many ↦ inl (inl many)
-      | inl few ↦ elim (cases_lt image_limit (place + 10 + header.size)) [
-        | inl far ↦ inl (inr (inr far))
-        | inr near ↦ elim (cases_lt 0 header.size) [
-          | inr empty ↦ inr (λ passes. elim passes [ inl many ↦ absurd (omega arith) | inr more ↦ elim more [ inl sized ↦ absurd (omega (arith, sized.1)) | inr far ↦ absurd (omega arith) ] ])
-          | inl sized ↦ elim (same_or_not header.name end_name) [
-            | inl is_end ↦ inl (inr (inl (is_end, sized)))
-            | inr other ↦ inr (λ passes. elim passes [ inl many ↦ absurd (omega arith) | inr more ↦ elim more [ inl at_end ↦ other at_end.0 | inr far ↦ absurd (omega arith) ] ])
-          ]
-        ]
+loaded_or_not : (header : BlockHeader) → IsLoadedEnd header ⊎ ¬ IsLoadedEnd header
+loaded_or_not header =
+    elim (cases_lt 0 header.size) [
+      | inr empty ↦ inr (λ loaded. absurd (omega (arith, loaded.1)))
+      | inl sized ↦ elim (same_or_not header.name end_name) [
+        | inl is_end ↦ inl (is_end, sized)
+        | inr other ↦ inr (λ loaded. other loaded.0)
       ]
     ]
 
@@ -83,7 +78,15 @@ no_payload rest short items nothing =
 pub first_short : (count place : ℕ) (rest : List ℕ) → length rest < 10 → IsFirstBroken (BlockBreaks count place rest) Truncated
 first_short count place rest short = record {
   broken = inl short;
-  first = block_earlier count place rest 6 (λ less. no_header (IsUnbuilt count place) rest short) (λ less. no_header (λ h. IsTrue (is_unknown_mandatory h.name h.flags)) rest short) (λ less. no_payload rest short) (omega arith);
+  first = within_earlier count place rest 8 (record { many = no_header (λ h. IsOneTooMany count) rest short; loaded = no_header (λ h. IsLoadedEnd h) rest short; late = no_header (λ h. EndsTooLate place h) rest short }) (λ less. no_header (λ h. IsTrue (is_unknown_mandatory h.name h.flags)) rest short) (λ less. no_payload rest short) (omega arith);
+}
+
+-- behind a header that passes no limit
+no_limit : (count place : ℕ) (rest : List ℕ) (header : BlockHeader) (behind : List ℕ) → StartsWith rest header behind → ¬ PassesLimit count place header → IsWithin count place rest
+no_limit count place rest header behind starts within = record {
+  many = not_by_header (λ h. IsOneTooMany count) rest header behind starts (λ many. within (inl many));
+  loaded = not_by_header (λ h. IsLoadedEnd h) rest header behind starts (λ loaded. within (inr (inl loaded)));
+  late = not_by_header (λ h. EndsTooLate place h) rest header behind starts (λ late. within (inr (inr late)));
 }
 
 -- so is a payload, behind a header that breaks no rule
@@ -96,45 +99,71 @@ not_whole rest header behind starts short items nothing =
 not_known : (header : BlockHeader) → is_unknown_mandatory header.name header.flags ≡ false → ¬ IsTrue (is_unknown_mandatory header.name header.flags)
 not_known header known h = absurd cc
 
-pub first_cut : (count place : ℕ) (rest : List ℕ) (header : BlockHeader) (behind : List ℕ) → StartsWith rest header behind → ¬ IsUnbuilt count place header → is_unknown_mandatory header.name header.flags ≡ false → length behind < header.size
+pub first_cut : (count place : ℕ) (rest : List ℕ) (header : BlockHeader) (behind : List ℕ) → StartsWith rest header behind → ¬ PassesLimit count place header → is_unknown_mandatory header.name header.flags ≡ false → length behind < header.size
     → IsFirstBroken (BlockBreaks count place rest) Truncated
 first_cut count place rest header behind starts within known short = record {
   broken = inr (header, behind, starts, short);
-  first = block_earlier count place rest 6 (λ less. not_by_header (IsUnbuilt count place) rest header behind starts within) (λ less. not_by_header (λ h. IsTrue (is_unknown_mandatory h.name h.flags)) rest header behind starts (not_known header known))
+  first = within_earlier count place rest 8 (no_limit count place rest header behind starts within) (λ less. not_by_header (λ h. IsTrue (is_unknown_mandatory h.name h.flags)) rest header behind starts (not_known header known))
       (λ less. not_whole rest header behind starts short) (omega arith);
 }
 
 -- a whole payload that spells nothing, behind such a header
-pub first_malformed : (count place : ℕ) (rest : List ℕ) (header : BlockHeader) (payload behind : List ℕ) (items : ℕ) → StartsWith rest header (payload ++ behind) → ¬ IsUnbuilt count place header → is_unknown_mandatory header.name header.flags ≡ false → length payload ≡ header.size
+pub first_malformed : (count place : ℕ) (rest : List ℕ) (header : BlockHeader) (payload behind : List ℕ) (items : ℕ) → StartsWith rest header (payload ++ behind) → ¬ PassesLimit count place header → is_unknown_mandatory header.name header.flags ≡ false → length payload ≡ header.size
     → IsMalformed header.name payload items → IsFirstBroken (BlockBreaks count place rest) (Malformed items)
 first_malformed count place rest header payload behind items starts within known whole malformed = record {
   broken = record { header = header; payload = payload; behind = behind; starts = starts; whole = whole; malformed = malformed };
-  first = block_earlier count place rest 5 (λ less. not_by_header (IsUnbuilt count place) rest header (payload ++ behind) starts within)
+  first = within_earlier count place rest 7 (no_limit count place rest header (payload ++ behind) starts within)
       (λ less. not_by_header (λ h. IsTrue (is_unknown_mandatory h.name h.flags)) rest header (payload ++ behind) starts (not_known header known)) (λ less. absurd (omega arith)) (omega arith);
 }
 
-pub first_unknown : (count place : ℕ) (rest : List ℕ) (header : BlockHeader) (behind : List ℕ) → StartsWith rest header behind → ¬ IsUnbuilt count place header → IsTrue (is_unknown_mandatory header.name header.flags)
+pub first_unknown : (count place : ℕ) (rest : List ℕ) (header : BlockHeader) (behind : List ℕ) → StartsWith rest header behind → ¬ PassesLimit count place header → IsTrue (is_unknown_mandatory header.name header.flags)
     → IsFirstBroken (BlockBreaks count place rest) UnknownMandatory
 first_unknown count place rest header behind starts within unknown = record {
   broken = (header, behind, starts, unknown);
-  first = block_earlier count place rest 4 (λ less. not_by_header (IsUnbuilt count place) rest header behind starts within) (λ less. absurd (omega arith)) (λ less. absurd (omega arith)) (omega arith);
+  first = within_earlier count place rest 6 (no_limit count place rest header behind starts within) (λ less. absurd (omega arith)) (λ less. absurd (omega arith)) (omega arith);
 }
 
-pub first_passes : (count place : ℕ) (rest : List ℕ) (header : BlockHeader) (behind : List ℕ) → StartsWith rest header behind → IsUnbuilt count place header
-    → IsFirstBroken (BlockBreaks count place rest) Unbuilt
-first_passes count place rest header behind starts passes = record {
-  broken = (header, behind, starts, passes);
-  first = block_earlier count place rest 3 (λ less. absurd (omega arith)) (λ less. absurd (omega arith)) (λ less. absurd (omega arith)) (omega arith);
+pub first_many : (count place : ℕ) (rest : List ℕ) (header : BlockHeader) (behind : List ℕ) → StartsWith rest header behind → IsOneTooMany count → IsFirstBroken (BlockBreaks count place rest) TooMany
+first_many count place rest header behind starts many = record {
+  broken = (header, behind, starts, many);
+  first = block_earlier count place rest 3 (λ less. absurd (omega arith)) (λ less. absurd (omega arith)) (λ less. absurd (omega arith)) (λ less. absurd (omega arith)) (λ less. absurd (omega arith)) (omega arith);
 }
+
+pub first_loaded : (count place : ℕ) (rest : List ℕ) (header : BlockHeader) (behind : List ℕ) → StartsWith rest header behind → ¬ IsOneTooMany count → IsLoadedEnd header → IsFirstBroken (BlockBreaks count place rest) EofSize
+first_loaded count place rest header behind starts few loaded = record {
+  broken = (header, behind, starts, loaded);
+  first = block_earlier count place rest 4 (λ less. not_by_header (λ h. IsOneTooMany count) rest header behind starts few) (λ less. absurd (omega arith)) (λ less. absurd (omega arith)) (λ less. absurd (omega arith)) (λ less. absurd (omega arith)) (omega arith);
+}
+
+pub first_late : (count place : ℕ) (rest : List ℕ) (header : BlockHeader) (behind : List ℕ) → StartsWith rest header behind → ¬ IsOneTooMany count → ¬ IsLoadedEnd header → EndsTooLate place header → IsFirstBroken (BlockBreaks count place rest) TooLong
+first_late count place rest header behind starts few empty late = record {
+  broken = (header, behind, starts, late);
+  first = block_earlier count place rest 5 (λ less. not_by_header (λ h. IsOneTooMany count) rest header behind starts few) (λ less. not_by_header (λ h. IsLoadedEnd h) rest header behind starts empty) (λ less. absurd (omega arith)) (λ less. absurd (omega arith))
+      (λ less. absurd (omega arith)) (omega arith);
+}
+
+-- a limit is passed, or none
+first_limit : (count place : ℕ) (rest : List ℕ) (header : BlockHeader) (behind : List ℕ) → StartsWith rest header behind → BreaksFirst count place rest ⊎ ¬ PassesLimit count place header
+first_limit count place rest header behind starts =
+    elim (cases_lt count header_limit) [
+      | inr many ↦ inl (TooMany, first_many count place rest header behind starts many)
+      | inl few ↦ elim (loaded_or_not header) [
+        | inl loaded ↦ inl (EofSize, first_loaded count place rest header behind starts (λ many. absurd (omega arith)) loaded)
+        | inr empty ↦ elim (cases_lt image_limit (place + 10 + header.size)) [
+          | inl late ↦ inl (TooLong, first_late count place rest header behind starts (λ many. absurd (omega arith)) empty late)
+          | inr near ↦ inr (λ passes. elim passes [ inl many ↦ absurd (omega arith) | inr more ↦ elim more [ inl loaded ↦ empty loaded | inr late ↦ absurd (omega arith) ] ])
+        ]
+      ]
+    ]
 
 -- what a header says that passes no limit
-pub few_within : (count place : ℕ) (header : BlockHeader) → ¬ IsUnbuilt count place header → count < header_limit
+pub few_within : (count place : ℕ) (header : BlockHeader) → ¬ PassesLimit count place header → count < header_limit
 few_within count place header within = elim (cases_lt count header_limit) [ inl few ↦ few | inr many ↦ absurd (within (inl many)) ]
 
-pub near_within : (count place : ℕ) (header : BlockHeader) → ¬ IsUnbuilt count place header → place + 10 + header.size ≤ image_limit
+pub near_within : (count place : ℕ) (header : BlockHeader) → ¬ PassesLimit count place header → place + 10 + header.size ≤ image_limit
 near_within count place header within = elim (cases_lt image_limit (place + 10 + header.size)) [ inl far ↦ absurd (within (inr (inr far))) | inr near ↦ near ]
 
-pub empty_end : (count place : ℕ) (header : BlockHeader) → ¬ IsUnbuilt count place header → header.name ≡ end_name → header.size ≡ 0
+pub empty_end : (count place : ℕ) (header : BlockHeader) → ¬ PassesLimit count place header → header.name ≡ end_name → header.size ≡ 0
 empty_end count place header within is_end = elim (cases_lt 0 header.size) [ inl sized ↦ absurd (within (inr (inl (is_end, sized)))) | inr none ↦ omega arith ]
 
 -- the block that a payload spells behind its header
@@ -151,7 +180,7 @@ pub record MakesBlock (count place : ℕ) (header : BlockHeader) (payload : List
   pub few : count < header_limit
   pub near : place + length (block_text placed) ≤ image_limit
 
-pub makes_block : (count place : ℕ) (header : BlockHeader) (payload : List ℕ) (block : Block) → IsHeader header → ¬ IsUnbuilt count place header → is_unknown_mandatory header.name header.flags ≡ false → length payload ≡ header.size → Spells block header.name payload
+pub makes_block : (count place : ℕ) (header : BlockHeader) (payload : List ℕ) (block : Block) → IsHeader header → ¬ PassesLimit count place header → is_unknown_mandatory header.name header.flags ≡ false → length payload ≡ header.size → Spells block header.name payload
     → MakesBlock count place header payload (record { flags = header.flags; block = block })
 makes_block count place header payload block fits within known long spells =
     let near = near_within count place header within in
@@ -163,14 +192,14 @@ makes_block count place header payload block fits within known long spells =
       near = omega (arith, ap length is, length-append (header_text header) payload, length-header_text header fits);
     }
 
-the_end : (count place : ℕ) (rest : List ℕ) (header : BlockHeader) (behind : List ℕ) → StartsWith rest header behind → ¬ IsUnbuilt count place header → header.name ≡ end_name → TheEnd count place rest
+the_end : (count place : ℕ) (rest : List ℕ) (header : BlockHeader) (behind : List ℕ) → StartsWith rest header behind → ¬ PassesLimit count place header → header.name ≡ end_name → TheEnd count place rest
 the_end count place rest header behind starts within is_end =
     let none = empty_end count place header within is_end in
     let near = near_within count place header within in
     let is : header ≡ end_header header.flags = λ i. record { name = is_end i; size = none i; flags = header.flags } in
     record { flags = header.flags; behind = behind; fits = starts.fits.flags; is = starts.is ∙ ap (λ h. header_text h ++ behind) is; few = few_within count place header within; near = omega arith }
 
-good_block : (count place : ℕ) (rest : List ℕ) (header : BlockHeader) (payload behind : List ℕ) (block : Block) → StartsWith rest header (payload ++ behind) → ¬ IsUnbuilt count place header → is_unknown_mandatory header.name header.flags ≡ false → length payload ≡ header.size
+good_block : (count place : ℕ) (rest : List ℕ) (header : BlockHeader) (payload behind : List ℕ) (block : Block) → StartsWith rest header (payload ++ behind) → ¬ PassesLimit count place header → is_unknown_mandatory header.name header.flags ≡ false → length payload ≡ header.size
     → Spells block header.name payload → GoodBlock count place rest
 good_block count place rest header payload behind block starts within known long spells =
     let made = makes_block count place header payload block starts.fits within known long spells in
@@ -183,7 +212,7 @@ good_block count place rest header payload behind block starts within known long
       near = made.near;
     }
 
-block_or_end : (count place : ℕ) (rest : List ℕ) (header : BlockHeader) (behind : List ℕ) → AreBytes rest → StartsWith rest header behind → ¬ IsUnbuilt count place header → is_unknown_mandatory header.name header.flags ≡ false → header.size ≤ length behind
+block_or_end : (count place : ℕ) (rest : List ℕ) (header : BlockHeader) (behind : List ℕ) → AreBytes rest → StartsWith rest header behind → ¬ PassesLimit count place header → is_unknown_mandatory header.name header.flags ≡ false → header.size ≤ length behind
     → BreaksFirst count place rest ⊎ (GoodBlock count place rest ⊎ TheEnd count place rest)
 block_or_end count place rest header behind bytes starts within known whole =
     let payload = take header.size behind in
@@ -206,8 +235,8 @@ what_stands count place rest bytes =
           let found = some_header rest bytes long in
           let header = found.0 in
           let behind = found.1 in
-          elim (passes_or_not count place header) [
-            | inl passes ↦ inl (Unbuilt, first_passes count place rest header behind found.2 passes)
+          elim (first_limit count place rest header behind found.2) [
+            | inl first ↦ inl first
             | inr within ↦ elim (cases_Bool (is_unknown_mandatory header.name header.flags)) [
               | inl unknown ↦ inl (UnknownMandatory, first_unknown count place rest header behind found.2 within unknown)
               | inr known ↦ elim (cases_lt (length behind) header.size) [

@@ -5,7 +5,7 @@ use Rattle.t3_holder.specs.NumberText.{little_endian}
 use Rattle.t3_holder.proofs.Numbers.{length-little_endian}
 use Rattle.t3_image_read.specs.declared.image.Head.{Head}
 use Rattle.t3_image_read.specs.declared.refusal.ReadWhy.{ReadWhy}
-use Rattle.t3_image_read.specs.declared.refusal.ReadWhy.TheVariants.{Signature, Version, UnknownMandatory, Malformed, Truncated, Unbuilt}
+use Rattle.t3_image_read.specs.declared.refusal.ReadWhy.TheVariants.{Signature, Version, TooLong, TooMany, UnknownMandatory, Malformed, EofSize, Truncated}
 use Rattle.t3_image_read.specs.ImageText.{signature, version, head_text}
 use Rattle.t3_image_read.specs.Validity.{IsHead}
 use Rattle.t3_image_read.specs.Refusal.{HeadBreaks}
@@ -41,5 +41,7 @@ head_unbroken h x is Version (there, differs) =
     differs (ap (λ s. take 2 (drop 11 s)) (head_text-append h x) ∙ ap (take 2) (drop_at signature (little_endian 2 version ++ behind) 11 length-signature) ∙ take_at (little_endian 2 version) behind 2 (length-little_endian 2 version))
 head_unbroken h x is Truncated short = let long = length-head_text h is in absurd (omega (arith, length-append (head_text h) x))
 head_unbroken h x is UnknownMandatory broken = broken
-head_unbroken h x is Unbuilt broken = broken
+head_unbroken h x is TooMany broken = broken
+head_unbroken h x is EofSize broken = broken
+head_unbroken h x is TooLong broken = broken
 head_unbroken h x is (Malformed items) broken = broken

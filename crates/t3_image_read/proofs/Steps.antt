@@ -12,7 +12,7 @@ use Rattle.t3_image_read.specs.declared.image.PlacedBlock.{PlacedBlock}
 use Rattle.t3_image_read.specs.declared.refusal.ReadRefusal.{ReadRefusal}
 use Rattle.t3_image_read.specs.declared.refusal.ReadRefusal.TheVariants.{At, NoMemory}
 use Rattle.t3_image_read.specs.declared.refusal.ReadWhy.{ReadWhy}
-use Rattle.t3_image_read.specs.declared.refusal.ReadWhy.TheVariants.{Signature, Version, UnknownMandatory, Malformed, Truncated, Unbuilt}
+use Rattle.t3_image_read.specs.declared.refusal.ReadWhy.TheVariants.{Signature, Version, TooLong, TooMany, UnknownMandatory, Malformed, EofSize, Truncated}
 use Rattle.t3_image_read.specs.declared.taker.Part.{Part}
 use Rattle.t3_image_read.specs.declared.taker.Part.TheVariants.{InHead, InHeader, InPayload}
 use Rattle.t3_image_read.specs.declared.taker.Taker.{Taker}
@@ -26,7 +26,7 @@ use Rattle.t3_image_read.proofs.Headers.{length-header_text}
 use Rattle.t3_image_read.proofs.Heads.{length-head_text}
 use Rattle.t3_image_read.proofs.HeadFaults.{differs-append, good-append, other-append}
 use Rattle.t3_image_read.proofs.Firsts.{first_signature, first_version, first_head_cut}
-use Rattle.t3_image_read.proofs.Existence.{first_short, first_cut, first_malformed, first_unknown, first_passes, spelled_text, few_within, near_within, empty_end, valid_image}
+use Rattle.t3_image_read.proofs.Existence.{first_short, first_cut, first_malformed, first_unknown, first_many, first_loaded, first_late, spelled_text, few_within, near_within, empty_end, valid_image}
 use Rattle.t3_image_read.proofs.Push.{front_text-push, front_text-head, IsFront-push, IsFront-head}
 
 -- ---- what is known of a part by its name
@@ -64,7 +64,9 @@ head_refused held Version fault =
     ((λ e. absurd cc), λ more. inl (record { first = first_version (held ++ more) (good-append held more (omega arith) fault.0) (other-append held more fault.1); place_is = refl }))
 head_refused held UnknownMandatory fault = absurd fault
 head_refused held Truncated fault = absurd fault
-head_refused held Unbuilt fault = absurd fault
+head_refused held TooMany fault = absurd fault
+head_refused held EofSize fault = absurd fault
+head_refused held TooLong fault = absurd fault
 head_refused held (Malformed items) fault = absurd fault
 
 -- behind a good front a header that breaks a rule is refused
@@ -83,8 +85,12 @@ at_header head blocks place header held why front place_is is first more =
 
 pub header_refused : (head : Head) (blocks : List PlacedBlock) (place : ℕ) (header : BlockHeader) (held : List ℕ) (why : ReadWhy) → IsFront head blocks → place ≡ length (front_text head blocks) → IsHeader header → header_text header ≡ held
     → HeaderFault (length blocks) place header (Some why) → RefusesBy (front_text head blocks ++ held) (At place why)
-header_refused head blocks place header held Unbuilt front place_is fits is fault =
-    ((λ e. absurd cc), at_header head blocks place header held Unbuilt front place_is is (λ more. first_passes _ _ _ header more (record { fits = fits; is = refl }) fault))
+header_refused head blocks place header held TooMany front place_is fits is fault =
+    ((λ e. absurd cc), at_header head blocks place header held TooMany front place_is is (λ more. first_many _ _ _ header more (record { fits = fits; is = refl }) fault))
+header_refused head blocks place header held EofSize front place_is fits is fault =
+    ((λ e. absurd cc), at_header head blocks place header held EofSize front place_is is (λ more. first_loaded _ _ _ header more (record { fits = fits; is = refl }) fault.0 fault.1))
+header_refused head blocks place header held TooLong front place_is fits is fault =
+    ((λ e. absurd cc), at_header head blocks place header held TooLong front place_is is (λ more. first_late _ _ _ header more (record { fits = fits; is = refl }) fault.0 fault.1 fault.2))
 header_refused head blocks place header held UnknownMandatory front place_is fits is fault =
     ((λ e. absurd cc), at_header head blocks place header held UnknownMandatory front place_is is (λ more. first_unknown _ _ _ header more (record { fits = fits; is = refl }) fault.0 fault.1))
 header_refused head blocks place header held Signature front place_is fits is fault = absurd fault

@@ -10,16 +10,18 @@ use Rattle.t3_image_read.specs.declared.header.BlockHeader.{BlockHeader}
 use Rattle.t3_image_read.specs.declared.image.Head.{Head}
 use Rattle.t3_image_read.specs.declared.image.PlacedBlock.{PlacedBlock}
 use Rattle.t3_image_read.specs.declared.refusal.ReadWhy.{ReadWhy}
-use Rattle.t3_image_read.specs.declared.refusal.ReadWhy.TheVariants.{Signature, Version, UnknownMandatory, Malformed, Truncated, Unbuilt}
+use Rattle.t3_image_read.specs.declared.refusal.ReadWhy.TheVariants.{Signature, Version, TooLong, TooMany, UnknownMandatory, Malformed, EofSize, Truncated}
 
 -- the order in which the rules are tried
 abbrev pub order : ReadWhy → ℕ
 order Signature = 1
 order Version = 2
-order Unbuilt = 3
-order UnknownMandatory = 4
-order (Malformed items) = 5
-order Truncated = 6
+order TooMany = 3
+order EofSize = 4
+order TooLong = 5
+order UnknownMandatory = 6
+order (Malformed items) = 7
+order Truncated = 8
 
 -- this rule is broken, and none before it
 pub record IsFirstBroken (Breaks : ReadWhy → Type 0) (why : ReadWhy) : Type 0 where
@@ -39,8 +41,10 @@ abbrev pub HeadBreaks : List ℕ → ReadWhy → Type 0
 HeadBreaks stream Signature = DiffersFromSignature stream
 HeadBreaks stream Version = HasOtherVersion stream
 HeadBreaks stream Truncated = length stream < 69
+HeadBreaks stream TooMany = ⊥
+HeadBreaks stream EofSize = ⊥
+HeadBreaks stream TooLong = ⊥
 HeadBreaks stream UnknownMandatory = ⊥
-HeadBreaks stream Unbuilt = ⊥
 HeadBreaks stream (Malformed items) = ⊥
 
 -- where a header is refused by a rule: only the version has a place of its own
@@ -65,10 +69,6 @@ IsLoadedEnd header = (header.name ≡ end_name) × (0 < header.size)
 abbrev pub EndsTooLate : ℕ → BlockHeader → Type 0
 EndsTooLate place header = image_limit < place + 10 + header.size
 
--- the block is one too many, an end with a payload, or ends behind the greatest image
-abbrev pub IsUnbuilt : ℕ → ℕ → BlockHeader → Type 0
-IsUnbuilt count place header = IsOneTooMany count ⊎ (IsLoadedEnd header ⊎ EndsTooLate place header)
-
 -- no whole block header stands here, or not all of its payload
 abbrev pub IsCut : List ℕ → Type 0
 IsCut rest = (length rest < 10) ⊎ ((header : BlockHeader) × (behind : List ℕ) × StartsWith rest header behind × (length behind < header.size))
@@ -84,7 +84,9 @@ pub record SpellsNothing (rest : List ℕ) (items : ℕ) : Type 0 where
 
 -- behind so many blocks, at this place, the rest of the stream breaks a rule
 abbrev pub BlockBreaks : ℕ → ℕ → List ℕ → ReadWhy → Type 0
-BlockBreaks count place rest Unbuilt = (header : BlockHeader) × (behind : List ℕ) × StartsWith rest header behind × IsUnbuilt count place header
+BlockBreaks count place rest TooMany = (header : BlockHeader) × (behind : List ℕ) × StartsWith rest header behind × IsOneTooMany count
+BlockBreaks count place rest EofSize = (header : BlockHeader) × (behind : List ℕ) × StartsWith rest header behind × IsLoadedEnd header
+BlockBreaks count place rest TooLong = (header : BlockHeader) × (behind : List ℕ) × StartsWith rest header behind × EndsTooLate place header
 BlockBreaks count place rest UnknownMandatory = (header : BlockHeader) × (behind : List ℕ) × StartsWith rest header behind × IsTrue (is_unknown_mandatory header.name header.flags)
 BlockBreaks count place rest (Malformed items) = SpellsNothing rest items
 BlockBreaks count place rest Truncated = IsCut rest

@@ -2,7 +2,7 @@
 ghost use Rattle.std.specs.Prelude.{◌≡◌, ◌↔◌, length, IsTrue};
 ghost use Rattle.t3_image_read.specs.ImageText.{head_text, header_text};
 ghost use Rattle.t3_image_read.specs.Validity.{IsHead, IsHeader};
-ghost use Rattle.t3_image_read.specs.Refusal.{DiffersFromSignature, HasOtherVersion, IsUnbuilt};
+ghost use Rattle.t3_image_read.specs.Refusal.{DiffersFromSignature, HasOtherVersion, EndsTooLate};
 ghost use Rattle.t3_image_read.specs.Faults.{HeadFault, HeaderFault, IsGoodSoFar};
 
 use crate::image::Head;
@@ -90,22 +90,26 @@ pub(crate) fn read_head(bytes: &[u8]) -> Head
     Head { reserved, stamp }
 }
 
-/// Whether a block at a place, behind so many others, is none that may stand there.
-fn is_unbuilt(count: usize, place: u32, header: BlockHeader) -> bool
-    ensures { IsTrue result ↔ IsUnbuilt count place header }
+/// Whether a block at a place ends behind the greatest image.
+fn ends_too_late(place: u32, header: BlockHeader) -> bool
+    ensures { IsTrue result ↔ EndsTooLate place header }
 {
     let end = u64::from(place) + HEADER_SIZE as u64 + u64::from(header.size);
-    count >= HEADER_LIMIT
-        || (header.name == END_NAME && header.size > 0)
-        || end > u64::from(IMAGE_LIMIT)
+    end > u64::from(IMAGE_LIMIT)
 }
 
-/// Which rule a block header breaks.
+/// Which rule a block header breaks first, at a place behind so many others.
 pub(crate) fn header_fault(count: usize, place: u32, header: BlockHeader) -> Option<ReadWhy>
     ensures { HeaderFault count place header result }
 {
-    if is_unbuilt(count, place, header) {
-        return Some(ReadWhy::Unbuilt);
+    if count >= HEADER_LIMIT {
+        return Some(ReadWhy::TooMany);
+    }
+    if header.name == END_NAME && header.size > 0 {
+        return Some(ReadWhy::EofSize);
+    }
+    if ends_too_late(place, header) {
+        return Some(ReadWhy::TooLong);
     }
     if is_unknown_mandatory(header.name, header.flags) {
         return Some(ReadWhy::UnknownMandatory);

@@ -1,7 +1,7 @@
 //! Reads an image from a stream that comes in pieces of any lengths.
 //!
-//! An [`ImageReader`] is fed until it is done or refuses. What it answers depends on the stream alone,
-//! and not on how the stream was cut.
+//! An [`ImageReader`] is fed until it is done or refuses. The image, and the rule that is broken with its
+//! place, depend on the stream alone, and not on how it was cut.
 #![tactic(auto)]
 
 mod header;

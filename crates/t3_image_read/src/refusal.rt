@@ -12,17 +12,20 @@ pub enum ReadWhy {
     Signature,
     /// The two bytes of the version don't say 1.
     Version,
+    /// A block ends behind the greatest image.
+    TooLong,
+    /// A block is one more than an image may have.
+    TooMany,
     /// A block is mandatory, and its name means nothing here.
     UnknownMandatory,
     /// The payload is whole, and no block has it under its name. So many of its items spell before one
-    /// that doesn't, or before bytes that are left; 0 where the count is short, and for a block without
+    /// that doesn't, or before bytes that are left; 0 where the head is short, and for a block without
     /// items.
     Malformed { items: u32 },
+    /// The end has a payload.
+    EofSize,
     /// The stream ends before the header, or a block, is whole.
     Truncated,
-    /// A block is one too many, an end with a payload, or ends behind the greatest image. One answer
-    /// stands for the three until each has its own.
-    Unbuilt,
 }
 
 impl ReadWhy {
@@ -33,10 +36,12 @@ impl ReadWhy {
         match self {
             ReadWhy::Signature => 1,
             ReadWhy::Version => 2,
+            ReadWhy::TooLong => 3,
+            ReadWhy::TooMany => 4,
             ReadWhy::UnknownMandatory => 5,
             ReadWhy::Malformed { .. } => 6,
+            ReadWhy::EofSize => 7,
             ReadWhy::Truncated => 8,
-            ReadWhy::Unbuilt => 9,
         }
     }
 }

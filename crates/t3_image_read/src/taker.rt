@@ -94,8 +94,8 @@ impl Taker {
         Ok((count, end))
     }
 
-    /// Copies those bytes. A payload gets no more room than twice what has come of it, so that a size
-    /// that no bytes follow costs nothing.
+    /// Copies those bytes. More room is made for what comes now, or as much again as is there, so that a
+    /// size that no bytes follow costs nothing.
     fn hold(&mut self, rest: &[u8]) -> Result<usize, AllocError>
         requires short { length self.old.held.items < size_of self.old.part }
         requires some { 0 < length rest.now }

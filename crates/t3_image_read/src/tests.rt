@@ -124,3 +124,45 @@ fn refuses_what_ends_too_early(rt: HostRuntime) -> Result<(), Fail> {
     assert!(rt; cut.finish().err() == Some(refusal));
     Ok(())
 }
+
+#[test]
+fn names_the_first_rule_that_a_block_header_breaks(rt: HostRuntime) -> Result<(), Fail> {
+    let rows: [(&[u8; 10], ReadWhy); 5] = [
+        (b"EOF \x01\x00\x00\x00\x00\x00", ReadWhy::EofSize),
+        (b"EOF \xFF\xFF\xFF\xFF\x00\x00", ReadWhy::EofSize),
+        (b"OBJS\x01\x00\x00\x10\x01\x00", ReadWhy::TooLong),
+        (b"ZZZZ\xFF\xFF\xFF\xFF\x01\x00", ReadWhy::TooLong),
+        (b"ZZZZ\x00\x00\x00\x00\x01\x00", ReadWhy::UnknownMandatory),
+    ];
+    let mut head = image(rt.alloc(), 0)?;
+    head.truncate(69);
+    for (header, why) in rows {
+        let mut reader = ImageReader::new(rt.alloc());
+        assert_eq!(rt; reader.feed(&head)?, Fed::More);
+        let refusal = ReadRefusal::At { place: 69, why };
+        assert_eq!(rt; reader.feed(header), Err(refusal));
+    }
+    Ok(())
+}
+
+#[test]
+fn counts_the_end_among_the_blocks(rt: HostRuntime) -> Result<(), Fail> {
+    let mut reader = ImageReader::new(rt.alloc());
+    let mut bytes = image(rt.alloc(), 0)?;
+    bytes.truncate(69);
+    for _ in 0..65_535 {
+        bytes.extend_from_slice(b"ZZZZ\x00\x00\x00\x00\x00\x00")?;
+    }
+    assert_eq!(rt; reader.feed(&bytes)?, Fed::More);
+    let mut other = ImageReader::new(rt.alloc());
+    assert_eq!(rt; other.feed(&bytes)?, Fed::More);
+    let end = b"EOF \x00\x00\x00\x00\x00\x00";
+    assert_eq!(rt; reader.feed(end)?, Fed::Done { used: 10 });
+    assert_eq!(rt; other.feed(b"ZZZZ\x00\x00\x00\x00\x00\x00")?, Fed::More);
+    let refusal = ReadRefusal::At {
+        place: 655_429,
+        why: ReadWhy::TooMany,
+    };
+    assert_eq!(rt; other.feed(end), Err(refusal));
+    Ok(())
+}

@@ -1,5 +1,7 @@
 pub mod Files
 pub mod Cause
 pub mod Reading
+pub mod Putting
 pub mod Session
 pub mod Kept
+pub mod Failing

@@ -3,6 +3,7 @@ ghost use Rattle.t3_holder.specs.FileName.{IsFileName};
 ghost use Rattle.t3_io.specs.Files.{Files};
 ghost use Rattle.t3_io.specs.Cause.{MovesFaults};
 ghost use Rattle.t3_io.specs.Reading.{Reads, IsAtMost};
+ghost use Rattle.t3_io.specs.Putting.{Puts};
 
 use crate::refusal::DeviceRefusal;
 
@@ -37,5 +38,15 @@ pub trait Depot {
         ensures read { Reads (files self.old) name.now at buf.old buf.new result }
         ensures count { IfOk result (IsAtMost (length buf.old)) }
         ensures files { files self.new ≡ files self.old }
+        ensures cause { MovesFaults (faults self.old) (faults self.new) result };
+
+    /// Sets one file to these bytes, and changes no other.
+    ///
+    /// After `Fault` the file is as before, or absent, or has a front of the bytes. After `NoMemory` it
+    /// is as before. The other files stay in every case.
+    fn put(&mut self, name: &[u8], bytes: &[u8]) -> Result<(), DeviceRefusal>
+        requires name { IsFileName name.now }
+        requires faults { faults self.old < 2 ^ 64 - 1 }
+        ensures put { Puts (files self.old) (files self.new) name.now bytes.now result }
         ensures cause { MovesFaults (faults self.old) (faults self.new) result };
 }

@@ -1,12 +1,12 @@
 //! Files of the present folder.
-ghost use Rattle.std.specs.Prelude.{◌≡◌, ◌-◌, ◌^◌, ◌<◌, ◌≤◌, length, IfOk};
+ghost use Rattle.std.specs.Prelude.{◌≡◌, ◌-◌, ◌^◌, ◌<◌, ◌≤◌, length, IfOk, IfErr};
 ghost use Rattle.t3_io.specs.Cause.{MovesFaults};
 ghost use Rattle.t3_io.specs.Reading.{IsAtMost};
 
 use crate::depot::{Depot, Got};
 use crate::refusal::DeviceRefusal;
-use std::fs::File;
-use std::io::{self, ErrorKind, Read, Seek, SeekFrom};
+use std::fs::{File, OpenFile, OpenOptions};
+use std::io::{self, ErrorKind, Read, Seek, SeekFrom, Write};
 use std::marker::Model;
 use std::rt::Files;
 
@@ -46,6 +46,13 @@ impl<'r, R: Files> Depot for FolderDepot<'r, R> {
         let answer = read_file(self.rt, name, at, buf);
         counted(&mut self.faults, answer)
     }
+
+    fn put(&mut self, name: &[u8], bytes: &[u8]) -> Result<(), DeviceRefusal> {
+        let opened = open_to_write(self.rt, name);
+        let file = counted(&mut self.faults, opened)?;
+        let written = write_file(self.rt, name, file, bytes);
+        all_counted(&mut self.faults, written)
+    }
 }
 
 /// Counts an error of the system as a fault, unless it is want of memory.
@@ -55,8 +62,20 @@ pub(crate) fn counted<T>(faults: &mut u64, answer: io::Result<T>) -> Result<T, D
     ensures cause { MovesFaults faults.old faults.new result }
 {
     match answer {
-        Ok(value) => Ok(value),
         Err(error) if error.kind() == ErrorKind::OutOfMemory => Err(DeviceRefusal::NoMemory),
+        answer => all_counted(faults, answer),
+    }
+}
+
+/// Counts each error of the system as a fault, want of memory too.
+fn all_counted<T>(faults: &mut u64, answer: io::Result<T>) -> Result<T, DeviceRefusal>
+    requires { faults.old < 2 ^ 64 - 1 }
+    ensures value { IfOk result (λ value. answer ≡ Ok value) }
+    ensures cause { MovesFaults faults.old faults.new result }
+    ensures counted { IfErr result (λ refusal. refusal ≡ DeviceRefusal.Fault) }
+{
+    match answer {
+        Ok(value) => Ok(value),
         Err(_) => {
             *faults += 1;
             Err(DeviceRefusal::Fault)
@@ -64,13 +83,46 @@ pub(crate) fn counted<T>(faults: &mut u64, answer: io::Result<T>) -> Result<T, D
     }
 }
 
+/// The name as the system takes it.
+fn path_of(name: &[u8]) -> io::Result<&str> {
+    match str::from_utf8(name) {
+        Ok(path) => Ok(path),
+        Err(_) => Err(ErrorKind::InvalidInput.into()),
+    }
+}
+
+/// Opens the file that is there, if there is one. It is as before, whatever the answer is.
+fn open_to_write<R: Files>(rt: &R, name: &[u8]) -> io::Result<Option<R::File>> {
+    match OpenOptions::new().write(true).open(rt, path_of(name)?) {
+        Ok(file) => Ok(Some(file)),
+        Err(error) if error.kind() == ErrorKind::NotFound => Ok(None),
+        Err(error) => Err(error),
+    }
+}
+
+/// Writes the file that is there, emptied first, or a new one. After an error it may have a front of
+/// the bytes.
+fn write_file<R: Files>(
+    rt: &R,
+    name: &[u8],
+    there: Option<R::File>,
+    bytes: &[u8],
+) -> io::Result<()> {
+    let mut file = match there {
+        Some(file) => {
+            file.set_len(0)?;
+            file
+        }
+        None => File::create(rt, path_of(name)?)?,
+    };
+    file.write_all(bytes)
+}
+
 /// Reads from a file that is opened for this one read. Only a file that isn't there is `Absent`.
 fn read_file<R: Files>(rt: &R, name: &[u8], at: u64, buf: &mut [u8]) -> io::Result<Got>
     ensures { IfOk result (IsAtMost (length buf.old)) }
 {
-    let Ok(path) = str::from_utf8(name) else {
-        return Err(ErrorKind::InvalidInput.into());
-    };
+    let path = path_of(name)?;
     let mut file = match File::open(rt, path) {
         Ok(file) => file,
         Err(error) if error.kind() == ErrorKind::NotFound => return Ok(Got::Absent),

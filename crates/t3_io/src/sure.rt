@@ -3,34 +3,31 @@ ghost use Rattle.std.specs.Prelude.{◌≡◌, [], IfOk, OnOk, OnErr};
 ghost use Rattle.std.specs.Option.{option_copied};
 ghost use Rattle.std.specs.FinMap as map;
 ghost use Rattle.t3_holder.specs.FileName.{IsFileName};
-ghost use Rattle.t3_io.specs.Reading.{Copies};
 
 use crate::console::Console;
+use crate::contents::{KeptFiles, KeptSession};
 use crate::depot::{Depot, Got};
 use crate::refusal::DeviceRefusal;
 use std::alloc::Global;
-use std::collections::BTreeMap;
 use std::marker::Model;
 use t3_holder::NoMemory;
 
 /// Files in memory, which contracts see as the map from names to bytes. No call of it ever faults.
 #[derive(Drop)]
 pub struct SureDepot {
-    alloc: Global,
-    files: BTreeMap<Vec<u8>, Vec<u8>>,
+    files: KeptFiles,
 }
 
 impl Model for SureDepot {
     ghost use Rattle.std.specs.Coded.{coded_ℕ, coded_list};
     ghost use Rattle.std.specs.FinMap as map;
     ghost use Rattle.t3_io.specs.Files.{Files};
-    ghost use Rattle.t3_io.specs.Kept.{kept_files};
 
     ghost Value = { Files };
 
     ghost coded = { map.code (coded_list coded_ℕ) (coded_list coded_ℕ) };
 
-    ghost view = { λ d. kept_files d.files };
+    ghost view = { λ d. d.files };
 }
 
 impl SureDepot {
@@ -39,8 +36,7 @@ impl SureDepot {
         ensures { result ≡ map.empty }
     {
         SureDepot {
-            alloc,
-            files: BTreeMap::new(alloc),
+            files: KeptFiles::new(alloc),
         }
     }
 
@@ -50,20 +46,14 @@ impl SureDepot {
         ensures ok { OnOk result (self.new ≡ map.insert self.old name.now bytes.now) }
         ensures err { OnErr result (self.new ≡ self.old) }
     {
-        let name = Vec::from_slice(self.alloc, name)?;
-        let bytes = Vec::from_slice(self.alloc, bytes)?;
-        self.files.insert(name, bytes)?;
-        Ok(())
+        self.files.keep(name, bytes)
     }
 
     /// The bytes of a file, and `None` exactly where there is no file of that name.
     pub fn file(&self, name: &[u8]) -> Option<&[u8]>
         ensures { option_copied result ≡ map.get self.now name.now }
     {
-        match self.files.get(name) {
-            Some(bytes) => Some(bytes.as_slice()),
-            None => None,
-        }
+        self.files.file(name)
     }
 }
 
@@ -75,29 +65,19 @@ impl Depot for SureDepot {
     ghost faults = { λ _. 0 };
 
     fn read_at(&mut self, name: &[u8], at: u64, buf: &mut [u8]) -> Result<Got, DeviceRefusal> {
-        match self.file(name) {
-            None => Ok(Got::Absent),
-            Some(bytes) => Ok(Got::Count(copy_from(bytes, at, buf))),
-        }
+        Ok(self.files.read_at(name, at, buf))
     }
-}
 
-/// Copies bytes of a file, from a place on, to the front of the buffer, and says how many.
-fn copy_from(file: &[u8], at: u64, buf: &mut [u8]) -> usize
-    ensures { Copies file.now at buf.old buf.new result }
-{
-    let start = file.len().min(at as usize);
-    let rest = &file[start..];
-    let count = rest.len().min(buf.len());
-    buf[..count].copy_from_slice(&rest[..count]);
-    count
+    fn put(&mut self, name: &[u8], bytes: &[u8]) -> Result<(), DeviceRefusal> {
+        self.files.keep(name, bytes)?;
+        Ok(())
+    }
 }
 
 /// Input and output in memory. No call of it ever faults.
 #[derive(Drop)]
 pub struct SureConsole {
-    input: Vec<u8>,
-    output: Vec<u8>,
+    kept: KeptSession,
 }
 
 impl Model for SureConsole {
@@ -105,7 +85,7 @@ impl Model for SureConsole {
 
     ghost Value = { Session };
 
-    ghost view = { λ c. record { left = c.input.items; shown = c.output.items } };
+    ghost view = { λ c. c.kept };
 }
 
 impl SureConsole {
@@ -114,8 +94,7 @@ impl SureConsole {
         ensures { IfOk result (λ console. console ≡ record { left = input.now; shown = [] }) }
     {
         Ok(SureConsole {
-            input: Vec::from_slice(alloc, input)?,
-            output: Vec::new(alloc),
+            kept: KeptSession::new(alloc, input)?,
         })
     }
 
@@ -123,7 +102,7 @@ impl SureConsole {
     pub fn shown(&self) -> &[u8]
         ensures { result.now ≡ self.now.shown }
     {
-        self.output.as_slice()
+        self.kept.shown()
     }
 }
 
@@ -135,7 +114,7 @@ impl Console for SureConsole {
     ghost faults = { λ _. 0 };
 
     fn write(&mut self, piece: &[u8]) -> Result<usize, DeviceRefusal> {
-        self.output.extend_from_slice(piece)?;
+        self.kept.show(piece)?;
         Ok(piece.len())
     }
 }

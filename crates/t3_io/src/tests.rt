@@ -1,4 +1,4 @@
-//! The two devices that tell no content, against a real file and the real output.
+//! The devices that tell no content, against a real file and the real output, and those in memory.
 use super::*;
 use std::fs;
 use std::test::Fail;
@@ -6,19 +6,24 @@ use std::test::Fail;
 #[test]
 fn a_folder_has_what_was_put_there(rt: HostRuntime) -> Result<(), Fail> {
     let name = "t3_io-folder.bin";
-    fs::write(&rt, name, "0123456789")?;
     let mut depot = FolderDepot::new(&rt);
     let mut buf = [0u8; 4];
+    depot.put(name.as_bytes(), b"a longer text than the next")?;
+    depot.put(name.as_bytes(), b"0123456789")?;
+    let put = fs::read_to_string(&rt, name);
     assert_eq!(rt; depot.read_at(name.as_bytes(), 3, &mut buf)?, Got::Count(4));
     assert_eq!(rt; buf.as_slice(), b"3456".as_slice());
     let there = depot.read_at(name.as_bytes(), 10, &mut buf);
     fs::remove_file(&rt, name)?;
+    assert_eq!(rt; put?.as_str(), "0123456789");
     assert_eq!(rt; there?, Got::Count(0));
     assert_eq!(rt; depot.read_at(name.as_bytes(), 0, &mut buf)?, Got::Absent);
     fs::create_dir(&rt, "t3_io-folder")?;
-    let folder = depot.read_at(b"t3_io-folder", 0, &mut buf);
+    let read = depot.read_at(b"t3_io-folder", 0, &mut buf);
+    let put = FolderDepot::new(&rt).put(b"t3_io-folder", b"text");
     fs::remove_dir(&rt, "t3_io-folder")?;
-    assert_eq!(rt; folder, Err(DeviceRefusal::Fault), "a folder is no file");
+    assert_eq!(rt; read, Err(DeviceRefusal::Fault), "a folder is no file");
+    assert_eq!(rt; put, Err(DeviceRefusal::Fault), "a folder is no file");
     Ok(())
 }
 
@@ -27,5 +32,66 @@ fn the_output_takes_a_line(rt: HostRuntime) -> Result<(), Fail> {
     let mut console = StdConsole::new(&rt);
     assert_eq!(rt; console.write(b"shown by a test\n")?, 16);
     assert_eq!(rt; console.write(b"")?, 0);
+    Ok(())
+}
+
+#[test]
+fn the_sure_devices_keep_all(rt: HostRuntime) -> Result<(), Fail> {
+    let mut depot = SureDepot::new(rt.alloc());
+    depot.keep(b"a", b"kept")?;
+    depot.put(b"b", b"0123456789")?;
+    let mut buf = [0u8; 4];
+    assert_eq!(rt; depot.read_at(b"b", 8, &mut buf)?, Got::Count(2));
+    assert_eq!(rt; buf.as_slice(), b"89\0\0".as_slice());
+    assert_eq!(rt; depot.file(b"a"), Some(b"kept".as_slice()));
+    let mut console = SureConsole::new(rt.alloc(), b"input")?;
+    assert_eq!(rt; console.write(b"shown")?, 5);
+    assert_eq!(rt; console.shown(), b"shown".as_slice());
+    Ok(())
+}
+
+#[test]
+fn a_depot_fails_by_the_numbers(rt: HostRuntime) -> Result<(), Fail> {
+    let rows: [(&[u32], [bool; 4], &[u8], &[u8]); 4] = [
+        (&[], [true, true, true, true], b"newer", b"12345"),
+        (&[0], [false, true, true, true], b"ne", b"12345"),
+        (&[2, 7], [true, true, false, true], b"newer", b"12345"),
+        (&[1, 3], [true, false, true, false], b"newer", b"12"),
+    ];
+    for (failing, want, a, b) in rows {
+        let mut depot = MemoryDepot::new(rt.alloc(), failing)?;
+        depot.keep(b"a", b"kept")?;
+        let mut buf = [0u8; 8];
+        let got = [
+            depot.put(b"a", b"newer").is_ok(),
+            depot.put(b"b", b"12345").is_ok(),
+            depot.read_at(b"a", 0, &mut buf).is_ok(),
+            depot.read_at(b"b", 0, &mut buf).is_ok(),
+        ];
+        assert_eq!(rt; got, want, "{failing:?}");
+        assert_eq!(rt; depot.file(b"a"), Some(a), "{failing:?}");
+        assert_eq!(rt; depot.file(b"b"), Some(b), "{failing:?}");
+    }
+    Ok(())
+}
+
+#[test]
+fn a_console_fails_by_the_numbers(rt: HostRuntime) -> Result<(), Fail> {
+    let rows: [(&[u32], [bool; 3], &[u8]); 4] = [
+        (&[], [true, true, true], b"012"),
+        (&[0], [false, true, true], b"12"),
+        (&[1, 7], [true, false, true], b"02"),
+        (&[0, 2], [false, true, false], b"1"),
+    ];
+    for (failing, want, shown) in rows {
+        let mut console = MemoryConsole::new(rt.alloc(), b"", failing)?;
+        let got = [
+            console.write(b"0").is_ok(),
+            console.write(b"1").is_ok(),
+            console.write(b"2").is_ok(),
+        ];
+        assert_eq!(rt; got, want, "{failing:?}");
+        assert_eq!(rt; console.shown(), shown, "{failing:?}");
+    }
     Ok(())
 }

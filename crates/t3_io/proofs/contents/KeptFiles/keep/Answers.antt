@@ -2,7 +2,7 @@ use Rattle.std.proofs.Common.{ap, ◌∙◌}
 use Rattle.std.specs.FinMap as map
 use Rattle.t3_io.specs.Kept.{kept_entries}
 use Rattle.t3_io.proofs.Kept.{kept-insert}
-use Rattle.t3_io.proofs.sure.SureDepot.keep.Goals as goal
+use Rattle.t3_io.proofs.contents.KeptFiles.keep.Goals as goal
 
 pub returns-clause-ok : goal.returns-clause-ok
 returns-clause-ok c =
