@@ -1,0 +1,13 @@
+//! Writes an image as the bytes that spell it, and puts its pages under another mask.
+#![tactic(auto)]
+
+mod append;
+mod laws;
+mod masking;
+#[cfg(test)]
+mod tests;
+mod write;
+
+pub use laws::written_reads;
+pub use masking::remask;
+pub use write::write_image;
