@@ -29,14 +29,14 @@ behind P old mid goes has =
     let R : ℕ → Type 0 = λ n. P (code_of old) n in
     subst R goes.at (subst Q (ap (λ p. p.now.code) goes.pools) has)
 
-pub stands_at : (old mid new : Cursor) (opcode : ℕ) (instr : Instr) → get (code_of old) old.at ≡ Some opcode → GoesOn old mid 1 → IsDecoded (row_of instr) opcode mid new → Stands (code_of old) old.at instr (new.at - old.at)
-stands_at old mid new opcode instr is goes decoded =
+pub stands_at : (old mid new : Cursor) (opcode end : ℕ) (instr : Instr) → end ≡ new.at → get (code_of old) old.at ≡ Some opcode → GoesOn old mid 1 → IsDecoded (row_of instr) opcode mid new → Stands (code_of old) old.at instr (end - old.at)
+stands_at old mid new opcode end instr ends is goes decoded =
     let text = flat_map operand_text (row_of instr).operands in
     let has : HasBytes (code_of old) (old.at + 1) text = behind (λ c n. HasBytes c n text) old mid goes decoded.is in
     record {
       fit = decoded.fit;
       is = row_stands (code_of old) old.at opcode (row_of instr) is decoded.opcode_is has;
-      size_is = omega (arith, goes.at, decoded.goes.at, length-row_text (row_of instr));
+      size_is = omega (arith, ends, goes.at, decoded.goes.at, length-row_text (row_of instr));
     }
 
 found : (old mid new : Cursor) (opcode : ℕ) (e : CodeRefusal) → get (code_of old) old.at ≡ Some opcode → GoesOn old mid 1 → Decodes row_of opcode mid new (Err e) → FindsInstr (code_of old) old.at (Err e)

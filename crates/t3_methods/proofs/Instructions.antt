@@ -15,7 +15,7 @@ use Rattle.t3_methods.specs.declared.instr.MathCode.TheVariants.{Add, Sub}
 use Rattle.t3_methods.specs.declared.instr.CallCode.TheVariants.{Retval, Retnil, Rettrue, Ret}
 use Rattle.t3_methods.specs.declared.instr.StackCode.TheVariants.{Disc}
 use Rattle.t3_methods.specs.declared.instr.JumpCode.TheVariants.{Jmp, Jt, Jf}
-use Rattle.t3_methods.specs.declared.instr.MakeCode.TheVariants.{BuiltinA}
+use Rattle.t3_methods.specs.declared.instr.MakeCode.TheVariants.{Builtina}
 use Rattle.t3_methods.specs.declared.instr.LocalCode.TheVariants.{Nop}
 use Rattle.t3_methods.specs.Operands.{Operand, Ubyte, Sbyte, Jump, Int4, operand_text, IsOperand}
 use Rattle.t3_methods.specs.InstructionTable.{Row, row_of, row_text, instr_text, Stands}
@@ -51,7 +51,7 @@ kinds-row_of (of.Stack Disc) = refl
 kinds-row_of (of.Jump (Jmp z)) = refl
 kinds-row_of (of.Jump (Jt z)) = refl
 kinds-row_of (of.Jump (Jf z)) = refl
-kinds-row_of (of.Make (BuiltinA m n)) = refl
+kinds-row_of (of.Make (Builtina m n)) = refl
 kinds-row_of (of.Local Nop) = refl
 
 -- what an opcode is with its operands
@@ -93,7 +93,7 @@ instr_of opcode operands =
     (cond (nat_eq opcode 145) (with_jump (λ z. of.Jump (Jmp z)) operands)
     (cond (nat_eq opcode 146) (with_jump (λ z. of.Jump (Jt z)) operands)
     (cond (nat_eq opcode 147) (with_jump (λ z. of.Jump (Jf z)) operands)
-    (cond (nat_eq opcode 177) (with_ubytes (λ m n. of.Make (BuiltinA m n)) operands)
+    (cond (nat_eq opcode 177) (with_ubytes (λ m n. of.Make (Builtina m n)) operands)
     (cond (nat_eq opcode 242) (plain (of.Local Nop) operands) None))))))))))))))))))
 
 pub instr_of-row_of : (i : Instr) → instr_of (row_of i).opcode (row_of i).operands ≡ Some i
@@ -113,7 +113,7 @@ instr_of-row_of (of.Stack Disc) = refl
 instr_of-row_of (of.Jump (Jmp z)) = refl
 instr_of-row_of (of.Jump (Jt z)) = refl
 instr_of-row_of (of.Jump (Jf z)) = refl
-instr_of-row_of (of.Make (BuiltinA m n)) = refl
+instr_of-row_of (of.Make (Builtina m n)) = refl
 instr_of-row_of (of.Local Nop) = refl
 
 -- ---- operands

@@ -9,7 +9,7 @@ use Rattle.t3_methods.specs.declared.instr.MathCode.TheVariants.{Add, Sub}
 use Rattle.t3_methods.specs.declared.instr.CallCode.TheVariants.{Retval, Retnil, Rettrue, Ret}
 use Rattle.t3_methods.specs.declared.instr.StackCode.TheVariants.{Disc}
 use Rattle.t3_methods.specs.declared.instr.JumpCode.TheVariants.{Jmp, Jt, Jf}
-use Rattle.t3_methods.specs.declared.instr.MakeCode.TheVariants.{BuiltinA}
+use Rattle.t3_methods.specs.declared.instr.MakeCode.TheVariants.{Builtina}
 use Rattle.t3_methods.specs.declared.instr.LocalCode.TheVariants.{Nop}
 use Rattle.t3_methods.specs.Operands.{Operand, Ubyte, Sbyte, Jump, Int4}
 use Rattle.t3_methods.specs.InstructionTable.{row, row_of, IsOpcode}
@@ -25,7 +25,7 @@ each_row =
     ∷ of.Call Retval ∷ of.Call Retnil ∷ of.Call Rettrue ∷ of.Call Ret
     ∷ of.Stack Disc
     ∷ of.Jump (Jmp (pos 0)) ∷ of.Jump (Jt (pos 0)) ∷ of.Jump (Jf (pos 0))
-    ∷ of.Make (BuiltinA 0 0)
+    ∷ of.Make (Builtina 0 0)
     ∷ of.Local Nop
     ∷ []
 
@@ -51,7 +51,7 @@ listed (of.Stack Disc) = refl
 listed (of.Jump (Jmp z)) = refl
 listed (of.Jump (Jt z)) = refl
 listed (of.Jump (Jf z)) = refl
-listed (of.Make (BuiltinA m n)) = refl
+listed (of.Make (Builtina m n)) = refl
 listed (of.Local Nop) = refl
 
 -- an instruction of these that has the opcode, or none has it
@@ -174,5 +174,5 @@ refilled (of.Stack Disc) os = plain (of.Stack Disc) os refl
 refilled (of.Jump (Jmp y)) os = with_jump (of.Jump (Jmp y)) (λ z. of.Jump (Jmp z)) os (λ _. refl)
 refilled (of.Jump (Jt y)) os = with_jump (of.Jump (Jt y)) (λ z. of.Jump (Jt z)) os (λ _. refl)
 refilled (of.Jump (Jf y)) os = with_jump (of.Jump (Jf y)) (λ z. of.Jump (Jf z)) os (λ _. refl)
-refilled (of.Make (BuiltinA a b)) os = with_ubytes (of.Make (BuiltinA a b)) (λ m n. of.Make (BuiltinA m n)) os (λ _ _. refl)
+refilled (of.Make (Builtina a b)) os = with_ubytes (of.Make (Builtina a b)) (λ m n. of.Make (Builtina m n)) os (λ _ _. refl)
 refilled (of.Local Nop) os = plain (of.Local Nop) os refl

@@ -15,7 +15,7 @@ use Rattle.t3_methods.specs.declared.instr.StackCode.TheVariants.{Disc}
 use Rattle.t3_methods.specs.declared.instr.JumpCode.{JumpCode}
 use Rattle.t3_methods.specs.declared.instr.JumpCode.TheVariants.{Jmp, Jt, Jf}
 use Rattle.t3_methods.specs.declared.instr.MakeCode.{MakeCode}
-use Rattle.t3_methods.specs.declared.instr.MakeCode.TheVariants.{BuiltinA}
+use Rattle.t3_methods.specs.declared.instr.MakeCode.TheVariants.{Builtina}
 use Rattle.t3_methods.specs.declared.instr.LocalCode.{LocalCode}
 use Rattle.t3_methods.specs.declared.instr.LocalCode.TheVariants.{Nop}
 use Rattle.t3_methods.specs.declared.refusal.CodeRefusal.{CodeRefusal}
@@ -55,7 +55,7 @@ within_jump (Jt z) = record { low = omega arith; high = omega arith }
 within_jump (Jf z) = record { low = omega arith; high = omega arith }
 
 within_make : (c : MakeCode) → IsWithin 176 195 (make_row c).opcode
-within_make (BuiltinA m n) = record { low = omega arith; high = omega arith }
+within_make (Builtina m n) = record { low = omega arith; high = omega arith }
 
 within_local : (c : LocalCode) → IsWithin 208 242 (local_row c).opcode
 within_local Nop = record { low = omega arith; high = omega arith }

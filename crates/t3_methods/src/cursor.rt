@@ -18,6 +18,13 @@ pub(crate) struct Cursor<'p> {
 }
 
 impl Cursor<'_> {
+    /// The address that it has come to.
+    pub(crate) fn place(&self) -> u32
+        ensures { result ≡ self.now.at }
+    {
+        self.at
+    }
+
     /// The next byte.
     pub(crate) fn byte(&mut self) -> Option<u8>
         ensures { TakesByte self.old self.new result }

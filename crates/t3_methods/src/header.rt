@@ -1,4 +1,4 @@
-ghost use Rattle.std.specs.Prelude.{MatchOption};
+ghost use Rattle.std.specs.Prelude.{◌+◌, ◌<◌, ◌^◌, IfOk, IfSome, MatchOption};
 ghost use Rattle.t3_methods.specs.Answers.{FindsHeader};
 ghost use Rattle.t3_methods.specs.MethodHeader.{HasHeader};
 ghost use Rattle.t3_methods.specs.declared.header.Header.{Header as AnyHeader};
@@ -12,7 +12,7 @@ use t3_pools::Pools;
 pub struct Header {
     /// How many arguments the method takes, or takes at least, up to 127.
     pub least: u8,
-    /// Whether it takes more arguments than that.
+    /// Whether it may take more arguments than that.
     pub varying: bool,
     /// How many local variables it has.
     pub locals: u16,
@@ -24,13 +24,14 @@ pub struct Header {
     pub debug: u16,
 }
 
-/// Added to the first byte where more arguments are taken.
+/// Added to the first byte where more arguments may be taken.
 const VARYING: u8 = 0x80;
 
 /// The header of the method at an address. `Header` where fewer than ten bytes stand there, or the
-/// second isn't 0. It takes no memory.
+/// second isn't 0. A header ends below 2^32. It takes no memory.
 pub fn header_at(pools: &Pools, method: u32) -> Result<Header, CodeRefusal>
-    ensures { FindsHeader pools.now.code method result }
+    ensures finds { FindsHeader pools.now.code method result }
+    ensures within { IfOk result (λ _. method + 10 < 2 ^ 32) }
 {
     let mut cursor = Cursor { pools, at: method };
     read_header(&mut cursor).ok_or(CodeRefusal::Header)
@@ -38,7 +39,8 @@ pub fn header_at(pools: &Pools, method: u32) -> Result<Header, CodeRefusal>
 
 /// The header at a cursor.
 fn read_header(cursor: &mut Cursor) -> Option<Header>
-    ensures { MatchOption result ((header : AnyHeader) → ¬ HasHeader cursor.old.pools.now.code cursor.old.at header) (HasHeader cursor.old.pools.now.code cursor.old.at) }
+    ensures finds { MatchOption result ((header : AnyHeader) → ¬ HasHeader cursor.old.pools.now.code cursor.old.at header) (HasHeader cursor.old.pools.now.code cursor.old.at) }
+    ensures within { IfSome result (λ _. cursor.old.at + 10 < 2 ^ 32) }
 {
     let parameters = cursor.byte()?;
     let zero = cursor.byte()?;
@@ -46,6 +48,8 @@ fn read_header(cursor: &mut Cursor) -> Option<Header>
     let depth = cursor.two_bytes()?;
     let exceptions = cursor.two_bytes()?;
     let debug = cursor.two_bytes()?;
+    // The place behind the header is an address too.
+    let _behind = cursor.at;
     if zero != 0 {
         return None;
     }

@@ -63,7 +63,7 @@ pub enum JumpCode {
 #[derive(Clone, Copy, Debug, PartialEq, Eq, Hash)]
 pub enum MakeCode {
     /// The count of arguments, and the index of a function in set 0.
-    BuiltinA(u8, u8),
+    Builtina(u8, u8),
 }
 
 #[derive(Clone, Copy, Debug, PartialEq, Eq, Hash)]

@@ -1,4 +1,5 @@
 //! A row for each opcode: the instruction, with a reader for each of its operands in turn.
+ghost use Rattle.std.specs.Prelude.{◌+◌, ◌<◌, ◌^◌, IfOk};
 ghost use Rattle.t3_methods.specs.Cursor.{Decodes, Names};
 ghost use Rattle.t3_methods.specs.Answers.{FindsInstr};
 ghost use Rattle.t3_methods.specs.InstructionTable.{push_row, math_row, call_row, stack_row, jump_row, make_row, local_row, row_of};
@@ -11,16 +12,18 @@ use t3_pools::Pools;
 /// The instruction at an address in code, and how many bytes it has.
 ///
 /// `NoByte` where no byte stands at the address, `Opcode` where that byte is none of the table, and
-/// `Operand` where it is one and its operands aren't there whole. It takes no memory.
+/// `Operand` where it is one and its operands aren't there whole. The instruction ends below 2^32. It
+/// takes no memory.
 pub fn instr_at(pools: &Pools, address: u32) -> Result<(Instr, u32), CodeRefusal>
-    ensures { FindsInstr pools.now.code address result }
+    ensures finds { FindsInstr pools.now.code address result }
+    ensures within { IfOk result (λ found. address + found.1 < 2 ^ 32) }
 {
     let mut cursor = Cursor { pools, at: address };
     let Some(opcode) = cursor.byte() else {
         return Err(CodeRefusal::NoByte);
     };
     let instr = instr(opcode, &mut cursor)?;
-    Ok((instr, cursor.at - address))
+    Ok((instr, cursor.place() - address))
 }
 
 /// The instruction of an opcode.
@@ -99,7 +102,7 @@ fn make_code(opcode: u8, operands: &mut Cursor) -> Result<MakeCode, CodeRefusal>
     ensures { Decodes make_row opcode operands.old operands.new result }
 {
     Ok(match opcode {
-        0xB1 => MakeCode::BuiltinA(operands.ubyte()?, operands.ubyte()?),
+        0xB1 => MakeCode::Builtina(operands.ubyte()?, operands.ubyte()?),
         _ => return Err(CodeRefusal::Opcode(opcode)),
     })
 }

@@ -47,7 +47,7 @@ fn decodes_each_address_of_a_page(rt: HostRuntime) -> Result<(), Fail> {
         (9, "Err(Opcode(0))"),
         (10, "Ok((Push(Pushint8(42)), 2))"),
         (11, "Err(Opcode(42))"),
-        (12, "Ok((Make(BuiltinA(1, 0)), 3))"),
+        (12, "Ok((Make(Builtina(1, 0)), 3))"),
         (13, "Ok((Push(Push0), 1))"),
         (14, "Err(Opcode(0))"),
         (15, "Ok((Call(Retnil), 1))"),
@@ -112,7 +112,7 @@ fn reads_each_kind_of_operand(rt: HostRuntime) -> Result<(), Fail> {
         (b"\x91\xFF\x7F", "Ok((Jump(Jmp(32767)), 3))"),
         (b"\x93\x00\x80", "Ok((Jump(Jf(-32768)), 3))"),
         (b"\x92\x00", "Err(Operand)"),
-        (b"\xB1\x02\xFF", "Ok((Make(BuiltinA(2, 255)), 3))"),
+        (b"\xB1\x02\xFF", "Ok((Make(Builtina(2, 255)), 3))"),
         (b"\xB1\x02", "Err(Operand)"),
     ];
     for (code, want) in rows {

@@ -4,15 +4,14 @@ use Rattle.std.proofs.lemmas.List.{append-nil}
 use Rattle.std.specs.List.{flat_map}
 use Rattle.std.specs.FinMap.{from_entries, empty}
 use Rattle.t3_image_read.specs.declared.image.PlacedBlock.{PlacedBlock}
-use Rattle.t3_pools.specs.Pool.{Defined, Paged, PoolsValue, bytes_from, page_bytes, page_size, definitions, pages, pool_in, pools_in}
+use Rattle.t3_pools.specs.Pool.{Defined, Paged, PoolsValue, bytes_from, page_bytes, page_size, pool_of, definitions, pages, pool_in, pools_in}
 use Rattle.t3_pools.specs.Finding.{IsCodePage}
 use Rattle.t3_pools.specs.Keeping.{one_page}
 
-by_lists : (number : ℕ) (ds : List Defined) (ps : List Paged) (blocks : List PlacedBlock) → definitions blocks ≡ ds → pages blocks ≡ ps → pool_in number blocks ≡ from_entries (flat_map (page_bytes number (page_size number ds)) ps)
+by_lists : (number : ℕ) (ds : List Defined) (ps : List Paged) (blocks : List PlacedBlock) → definitions blocks ≡ ds → pages blocks ≡ ps → pool_in number blocks ≡ pool_of number (page_size number ds) ps
 unfolding pool_in
 by_lists number ds ps blocks d p =
-    ap (λ (x : List Defined). from_entries (flat_map (page_bytes number (page_size number x)) (pages blocks))) d
-    ∙ ap (λ (x : List Paged). from_entries (flat_map (page_bytes number (page_size number ds)) x)) p
+    ap (λ (x : List Defined). pool_of number (page_size number x) (pages blocks)) d ∙ ap (λ (x : List Paged). pool_of number (page_size number ds) x) p
 
 at_zero : (size : ℕ) (bytes : List ℕ) → bytes_from (0 * size) bytes ++ [] ≡ bytes_from 0 bytes
 at_zero size bytes = let z : 0 * size ≡ 0 = omega arith in append-nil (bytes_from (0 * size) bytes) ∙ ap (λ n. bytes_from n bytes) z

@@ -1,4 +1,4 @@
--- Which images have pools that can be built: so far those with one page of code, and no other page.
+-- Which images have pools that can be built: so far those with one pool definition and one page, which are of a code pool of one page.
 use Rattle.std.specs.Prelude.{◌≡◌, ℕ, ◌≤◌, List, [], ◌∷◌, length}
 use Rattle.t3_image_read.specs.declared.image.PlacedBlock.{PlacedBlock}
 use Rattle.t3_pools.specs.Pool.{definitions, pages}

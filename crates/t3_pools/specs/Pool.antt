@@ -1,5 +1,5 @@
 -- The pools of an image as finite maps from addresses to bytes (the chapter on the image format).
-use Rattle.std.specs.Prelude.{◌≡◌, ℕ, ◌+◌, ◌*◌, ◌==◌, refl, Some, List, [], ◌∷◌, if◌then◌else◌}
+use Rattle.std.specs.Prelude.{◌≡◌, ℕ, ◌+◌, ◌*◌, ◌==◌, refl, Option, Some, None, List, [], ◌∷◌, if◌then◌else◌}
 use Rattle.std.specs.Ordering.{nat_cmp}
 use Rattle.std.specs.FinMap.{FinMap, get, from_entries, empty, code as coded_map}
 use Rattle.std.specs.List.{flat_map}
@@ -52,10 +52,10 @@ definitions blocks = flat_map (λ placed. defined_by placed.block) blocks
 abbrev pub pages : List PlacedBlock → List Paged
 pages blocks = flat_map (λ placed. paged_by placed.block) blocks
 
--- the size of a pool's pages, by the first that defines the pool
-abbrev pub page_size : ℕ → List Defined → ℕ
-page_size number [] = 0
-page_size number (d ∷ rest) = if d.pool == number then d.size else page_size number rest
+-- the size of a pool's pages, by the first that defines the pool, if any does
+abbrev pub page_size : ℕ → List Defined → Option ℕ
+page_size number [] = None
+page_size number (d ∷ rest) = if d.pool == number then Some d.size else page_size number rest
 
 -- bytes from an address on
 abbrev pub bytes_from : ℕ → List ℕ → List (ℕ × ℕ)
@@ -66,9 +66,14 @@ bytes_from at (byte ∷ bytes) = (at, byte) ∷ bytes_from (at + 1) bytes
 abbrev pub page_bytes : ℕ → ℕ → Paged → List (ℕ × ℕ)
 page_bytes number size page = if page.pool == number then bytes_from (page.index * size) page.bytes else []
 
+-- what the pages give to the pool of a number, which is empty where nothing defines it
+abbrev pub pool_of : ℕ → Option ℕ → List Paged → Pool
+pool_of number None all = empty
+pool_of number (Some size) all = from_entries (flat_map (page_bytes number size) all)
+
 -- the pool of a number that the blocks of an image give
 unfoldable pub pool_in : ℕ → List PlacedBlock → Pool
-pool_in number blocks = from_entries (flat_map (page_bytes number (page_size number (definitions blocks))) (pages blocks))
+pool_in number blocks = pool_of number (page_size number (definitions blocks)) (pages blocks)
 
 -- both pools of an image
 abbrev pub pools_in : List PlacedBlock → PoolsValue

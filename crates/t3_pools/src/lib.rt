@@ -1,6 +1,7 @@
 //! The pools of an image: the code and the constants, by their addresses.
 //!
-//! So far an image has pools where it has one page, which is of code.
+//! So far the pools of an image are built where it has one pool definition and one page, which are of a
+//! code pool of one page.
 #![tactic(auto)]
 
 mod pools;

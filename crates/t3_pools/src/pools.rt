@@ -36,8 +36,8 @@ impl Model for Pools {
 impl Pools {
     /// The pools of an image. What they keep of it is copied.
     ///
-    /// `Unbuilt` exactly where the image hasn't one pool definition and one page, of a code pool of one
-    /// page, or the page is longer than the definition says.
+    /// `Unbuilt` exactly where the image hasn't one pool definition, of a code pool of one page, and one
+    /// page, which is that pool's first and no longer than the definition says.
     pub fn build(alloc: Global, image: &Image) -> Result<Pools, PoolRefusal>
         ensures built { IfOk result (λ pools. pools ≡ pools_in image.now.blocks) }
         ensures unbuilt { IsErrOf result PoolRefusal.Unbuilt ↔ ¬ HasOneCodePage image.now.blocks }

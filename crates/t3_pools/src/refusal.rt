@@ -7,8 +7,9 @@ use thiserror::Error;
 /// Why an image gives no pools.
 #[derive(Clone, Copy, Debug, PartialEq, Eq, Hash, Error)]
 pub enum PoolRefusal {
-    /// The image hasn't exactly one pool definition and one page, or these aren't of one page of code.
-    /// Other images can't be built yet.
+    /// The image hasn't exactly one pool definition and one page, or the definition isn't that of a code
+    /// pool of one page, or the page isn't that pool's first or is longer than the definition says. Such
+    /// pools can't be built yet.
     #[error("the pools can't be built yet")]
     Unbuilt,
     /// An allocation was refused.

@@ -1,5 +1,5 @@
 use Rattle.std.proofs.Common.{sym}
-use Rattle.t3_methods.specs.declared.instr.MakeCode.TheVariants.{BuiltinA}
+use Rattle.t3_methods.specs.declared.instr.MakeCode.TheVariants.{Builtina}
 use Rattle.t3_methods.specs.Operands.{Ubyte}
 use Rattle.t3_methods.specs.Cursor.{OfUbyte}
 use Rattle.t3_methods.specs.InstructionTable.{make_row}
@@ -8,14 +8,14 @@ use Rattle.t3_methods.proofs.opcodes.make_code.Goals as goal
 
 pub returns-in_err-ubyte-in-177 : goal.returns-in_err-ubyte-in-177
 returns-in_err-ubyte-in-177 c =
-    hands_on make_row c.args.opcode c.args.operands.now _ _ c.from_residual.result c.from_residual.ensures c.in_err-ubyte-in-177.ensures.0 (BuiltinA 0 0, sym c.in-177.is, λ h. c.in_err-ubyte-in-177.ensures.1 h.0)
+    hands_on make_row c.args.opcode c.args.operands.now _ _ c.from_residual.result c.from_residual.ensures c.in_err-ubyte-in-177.ensures.0 (Builtina 0 0, sym c.in-177.is, λ h. c.in_err-ubyte-in-177.ensures.1 h.0)
 
 pub returns-in_err-ubyte-in-177-2 : goal.returns-in_err-ubyte-in-177-2
 returns-in_err-ubyte-in-177-2 c =
     let old = c.args.operands.now in
     let mid = c.ubyte.new.self in
     let lacks = second_lacks OfUbyte OfUbyte old mid c.in_ok-ubyte-in-177.ensures.goes c.in_err-ubyte-in-177-2.ensures.1 in
-    hands_on make_row c.args.opcode old _ _ c.from_residual-in_err-ubyte-in-177-2.result c.from_residual-in_err-ubyte-in-177-2.ensures c.in_err-ubyte-in-177-2.ensures.0 (BuiltinA 0 0, sym c.in-177.is, lacks)
+    hands_on make_row c.args.opcode old _ _ c.from_residual-in_err-ubyte-in-177-2.result c.from_residual-in_err-ubyte-in-177-2.ensures c.in_err-ubyte-in-177-2.ensures.0 (Builtina 0 0, sym c.in-177.is, lacks)
 
 pub returns : goal.returns
 returns c =
