@@ -14,10 +14,10 @@ build/t3: $(SOURCES)
 	cd crates/t3_cli && rm -f out/t3_cli && { rt run || true; } && test -x out/t3_cli
 	cp crates/t3_cli/out/t3_cli $@
 
-demo: build/t3 examples/sample.t3
-	cd examples && ../build/t3 check sample.t3
+demo: build/t3 examples/answer.t3
+	cd examples && ../build/t3 run answer.t3
 
-examples/sample.t3: examples/make.sh
+examples/answer.t3: examples/make.sh
 	sh examples/make.sh
 
 test:
@@ -25,6 +25,7 @@ test:
 
 bench: build/t3
 	bench/check
+	bench/run
 
 install: build/t3
 	install -d "$(DESTDIR)$(PREFIX)/bin"

@@ -2,3 +2,12 @@ pub mod FileRead
 pub mod Shown
 pub mod Outcomes
 pub mod Commands
+pub mod Runs
+pub mod Spelled
+pub mod Stacks
+pub mod Saying
+pub mod Taking
+pub mod Programs
+pub mod Stories
+pub mod Ending
+pub mod Causes

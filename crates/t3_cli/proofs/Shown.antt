@@ -6,7 +6,7 @@ use Rattle.t3_io.specs.declared.refusal.DeviceRefusal.{DeviceRefusal}
 use Rattle.t3_image_read.proofs.Lists.{take_add}
 use Rattle.t3_cli.specs.Showing.{ShowsAll, HasShown}
 
-showing-showing : (before : Session) (a b : List ℕ) → showing (showing before a) b ≡ showing before (a ++ b)
+pub showing-showing : (before : Session) (a b : List ℕ) → showing (showing before a) b ≡ showing before (a ++ b)
 showing-showing before a b = λ i. record before { shown = append_assoc before.shown a b i }
 
 pub shows_more : (first middle last : Option Session) (text : List ℕ) (at count : ℕ) → HasShown first middle (take at text) → Shows middle last (take (length text - at) (drop at text)) (Ok count) → HasShown first last (take (at + count) text)

@@ -1,8 +1,17 @@
 pub mod Status
 pub mod Command
 pub mod Lines
+pub mod Machine
+pub mod Instructions
+pub mod Step
+pub mod Run
+pub mod Loading
 pub mod Outcome
 pub mod Top
 pub mod Reading
 pub mod Showing
 pub mod Checking
+pub mod Acting
+pub mod Launching
+pub mod Number
+pub mod Playing

@@ -1,8 +1,14 @@
 -- The lines that are shown.
-use Rattle.std.specs.Prelude.{ℕ, List, [], ◌∷◌, ◌++◌, codes, Option, Some, None}
+use Rattle.std.specs.Prelude.{ℕ, Bool, true, false, List, [], ◌∷◌, ◌++◌, codes, Option, Some, None}
 use Rattle.std.specs.Fmt.{decimal}
 use Rattle.t3_image_read.specs.declared.refusal.ReadWhy.{ReadWhy}
-use Rattle.t3_image_read.specs.declared.refusal.ReadWhy.TheVariants.{Signature, Version, UnknownMandatory, Malformed, Truncated, Unbuilt}
+use Rattle.t3_cli.specs.declared.turn.End.{End}
+use Rattle.t3_cli.specs.declared.turn.End.TheVariants.{Returned, Unhandled, BadCode}
+use Rattle.t3_cli.specs.declared.turn.Fault.{Fault}
+use Rattle.t3_cli.specs.declared.turn.Fault.TheVariants.{ArgCount, Kind, Overflow, NoBuiltin, StackFull}
+use Rattle.t3_cli.specs.declared.turn.CodeWhy.{CodeWhy}
+use Rattle.t3_cli.specs.declared.turn.CodeWhy.TheVariants as why
+use Rattle.t3_image_read.specs.declared.refusal.ReadWhy.TheVariants.{Signature, Version, TooLong, TooMany, UnknownMandatory, Malformed, EofSize, Truncated}
 
 -- a line ends in a newline
 abbrev pub newline : List ℕ
@@ -18,10 +24,12 @@ absent_line name = codes "absent " ++ (name ++ newline)
 abbrev pub why_name : ReadWhy → List ℕ
 why_name Signature = codes "Signature"
 why_name Version = codes "Version"
+why_name TooLong = codes "TooLong"
+why_name TooMany = codes "TooMany"
 why_name UnknownMandatory = codes "UnknownMandatory"
 why_name (Malformed items) = codes "Malformed"
+why_name EofSize = codes "EofSize"
 why_name Truncated = codes "Truncated"
-why_name Unbuilt = codes "Unbuilt"
 
 -- how many items of a malformed payload spell
 abbrev pub items_of : ReadWhy → Option ℕ
@@ -39,3 +47,51 @@ refused_line why place = refused_text (why_name why) place (items_of why)
 -- how many blocks an image has, its end among them, and how many bytes it uses
 abbrev pub ok_line : ℕ → ℕ → List ℕ
 ok_line blocks bytes = codes "ok blocks=" ++ (decimal blocks ++ (codes " bytes=" ++ (decimal bytes ++ newline)))
+
+-- an image that can't be run yet
+abbrev pub unloaded_line : List ℕ
+unloaded_line = codes "load refused Unbuilt" ++ newline
+
+-- the number of a fault
+abbrev pub fault_number : Fault → ℕ
+fault_number ArgCount = 2
+fault_number Kind = 3
+fault_number Overflow = 5
+fault_number NoBuiltin = 8
+fault_number StackFull = 9
+
+-- the name of a cause
+abbrev pub cause_name : CodeWhy → List ℕ
+cause_name why.NoByte = codes "NoByte"
+cause_name (why.Opcode opcode) = codes "Opcode"
+cause_name why.Operand = codes "Operand"
+cause_name why.Header = codes "Header"
+cause_name why.Underflow = codes "Underflow"
+cause_name why.Unbuilt = codes "Unbuilt"
+
+-- an object was thrown by a fault, and nothing caught it
+abbrev pub unhandled_line : ℕ → ℕ → List ℕ
+unhandled_line object fault = codes "[unhandled object=" ++ (decimal object ++ (codes " fault=" ++ (decimal fault ++ (codes "]" ++ newline))))
+
+-- no instruction could be carried out at an address
+abbrev pub bad_code_line : ℕ → List ℕ → List ℕ
+bad_code_line at name = codes "[bad code at=" ++ (decimal at ++ (codes " why=" ++ (name ++ (codes "]" ++ newline))))
+
+-- how a run ended, or that it had no step left; a return shows nothing
+abbrev pub end_line : Option End → List ℕ
+end_line (Some Returned) = []
+end_line (Some (Unhandled object fault)) = unhandled_line object (fault_number fault)
+end_line (Some (BadCode at cause)) = bad_code_line at (cause_name cause)
+end_line None = codes "[step limit]" ++ newline
+
+abbrev pub is_nonempty : List ℕ → Bool
+is_nonempty [] = false
+is_nonempty (_ ∷ _) = true
+
+-- behind a text that isn't empty the line is ended
+abbrev pub newline_if : Bool → List ℕ
+newline_if true = newline
+newline_if false = []
+
+abbrev pub closing_text : Bool → Option End → List ℕ
+closing_text has_said end = newline_if has_said ++ end_line end

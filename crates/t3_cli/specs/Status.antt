@@ -1,13 +1,17 @@
 -- The exit status under each answer.
 use Rattle.std.specs.Prelude.{ℕ}
 use Rattle.t3_cli.specs.declared.status.Status.{Status}
-use Rattle.t3_cli.specs.declared.status.Status.TheVariants.{Done, Usage, Absent, ImageRefused, DepotFault, ConsoleFault, NoMemory}
+use Rattle.t3_cli.specs.declared.status.Status.TheVariants.{Done, Usage, Absent, ImageRefused, LoadRefused, Unhandled, BadCode, StepLimit, DepotFault, ConsoleFault, NoMemory}
 
 abbrev pub code_of : Status → ℕ
 code_of Done = 0
 code_of Usage = 1
 code_of Absent = 2
 code_of ImageRefused = 3
+code_of LoadRefused = 4
+code_of Unhandled = 5
+code_of BadCode = 6
+code_of StepLimit = 8
 code_of DepotFault = 11
 code_of ConsoleFault = 12
 code_of NoMemory = 13

@@ -3,9 +3,10 @@ use Rattle.std.specs.Prelude.{◌≡◌, ℕ, ◌⊎◌, List, ◌++◌, Option,
 use Rattle.t3_io.specs.Files.{Files}
 use Rattle.t3_io.specs.Session.{Session}
 use Rattle.t3_cli.specs.declared.status.Status.{Status}
-use Rattle.t3_cli.specs.declared.status.Status.TheVariants.{DepotFault, ConsoleFault, NoMemory}
-use Rattle.t3_cli.specs.Command.{Asked, Check}
-use Rattle.t3_cli.specs.Outcome.{Outcome, IsResult, IsAbsent, IsNoImage}
+use Rattle.t3_cli.specs.declared.status.Status.TheVariants.{Done, DepotFault, ConsoleFault, NoMemory}
+use Rattle.t3_cli.specs.Command.{Asked, Check, Run}
+use Rattle.t3_cli.specs.Outcome.{Outcome, IsResult, IsAbsent, IsNoImage, IsUnloadable, IsRun, status_of}
+use Rattle.t3_cli.specs.Run.{Ran}
 
 -- an answer of a call that was cut short
 abbrev pub CutsShort : Status → Type 0
@@ -24,11 +25,14 @@ pub record IsCarriedOut (asked : Option Asked) (files : Files) : Type 0 where
   pub command : IsSome asked
   pub there : ¬ IsAbsent asked files
   pub image : ¬ IsNoImage asked files
+  pub loaded : ¬ IsUnloadable asked files
+  pub returns : (ran : Ran) → IsRun asked files ran → status_of ran.end ≡ Done
 
 -- what a command leaves of the input: none here takes of it
 abbrev pub LeavesInput : Option Asked → List ℕ → List ℕ → Type 0
 LeavesInput None before after = after ≡ before
 LeavesInput (Some (Check name)) before after = after ≡ before
+LeavesInput (Some (Run name steps)) before after = after ≡ before
 
 -- the console still tells what it did, and this text is what was shown more
 pub record Says (asked : Option Asked) (before : Session) (after : Option Session) (said : List ℕ) : Type 0 where
@@ -61,6 +65,7 @@ pub record IsWhole (asked : Option Asked) (files : Files) (before : Session) (an
 abbrev pub LeavesFiles : Option Asked → Files → Option Files → Type 0
 LeavesFiles None files left = left ≡ Some files
 LeavesFiles (Some (Check name)) files left = left ≡ Some files
+LeavesFiles (Some (Run name steps)) files left = left ≡ Some files
 
 -- a front of what would have been shown, and files that the command may leave
 pub record IsFront (asked : Option Asked) (files : Files) (before : Session) (left : Option Files) (after : Option Session) : Type 0 where

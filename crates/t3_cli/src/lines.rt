@@ -1,13 +1,17 @@
 //! The lines that are shown.
-ghost use Rattle.std.specs.Prelude.{◌≡◌, IfOk, string_bytes};
-ghost use Rattle.t3_cli.specs.Lines.{absent_line, refused_line, ok_line, why_name as name_of, items_of};
+ghost use Rattle.std.specs.Prelude.{◌≡◌, ◌++◌, Some, IfOk, string_bytes};
+ghost use Rattle.t3_cli.specs.Lines.{absent_line, refused_line, ok_line, why_name as name_of, items_of, closing_text, end_line, unhandled_line, bad_code_line, newline_if as newline_by, cause_name as name_of_cause};
 
+use crate::turn::{CodeWhy, End};
 use std::alloc::{AllocError, Global};
 use t3_image_read::ReadWhy;
 
 /// Shown where the words are no command.
 pub(crate) const USAGE: &str =
     "usage: t3 check or show or list or run or rewrite or asm or drill\n";
+
+/// Shown where an image can't be run yet.
+pub(crate) const UNLOADED: &str = "load refused Unbuilt\n";
 
 pub(crate) fn absent(alloc: Global, name: &str) -> Result<String, AllocError>
     ensures { IfOk result (λ line. string_bytes line ≡ absent_line name.now) }
@@ -48,9 +52,65 @@ fn why_name(why: ReadWhy) -> &'static str
     match why {
         ReadWhy::Signature => "Signature",
         ReadWhy::Version => "Version",
+        ReadWhy::TooLong => "TooLong",
+        ReadWhy::TooMany => "TooMany",
         ReadWhy::UnknownMandatory => "UnknownMandatory",
         ReadWhy::Malformed { .. } => "Malformed",
+        ReadWhy::EofSize => "EofSize",
         ReadWhy::Truncated => "Truncated",
-        ReadWhy::Unbuilt => "Unbuilt",
+    }
+}
+
+/// What is shown at the end of a run: a newline where anything was said, and how it ended.
+pub(crate) fn closing(alloc: Global, has_said: bool, end: Option<End>) -> Result<String, AllocError>
+    ensures { IfOk result (λ text. string_bytes text ≡ closing_text has_said end) }
+{
+    let newline = newline_if(has_said);
+    match end {
+        Some(end) => ended(alloc, newline, end),
+        None => format!(in alloc; "{newline}[step limit]\n"),
+    }
+}
+
+/// How a run ended, behind a text.
+fn ended(alloc: Global, front: &str, end: End) -> Result<String, AllocError>
+    ensures { IfOk result (λ text. string_bytes text ≡ front.now ++ end_line (Some end)) }
+{
+    match end {
+        End::Returned => format!(in alloc; "{front}"),
+        End::Unhandled { object, fault } => unhandled(alloc, front, object, fault.number()),
+        End::BadCode { at, why } => bad_code(alloc, front, at, cause_name(why)),
+    }
+}
+
+fn unhandled(alloc: Global, front: &str, object: u32, fault: u8) -> Result<String, AllocError>
+    ensures { IfOk result (λ text. string_bytes text ≡ front.now ++ unhandled_line object fault) }
+{
+    format!(in alloc; "{front}[unhandled object={object} fault={fault}]\n")
+}
+
+fn bad_code(alloc: Global, front: &str, at: u32, why: &str) -> Result<String, AllocError>
+    ensures { IfOk result (λ text. string_bytes text ≡ front.now ++ bad_code_line at why.now) }
+{
+    format!(in alloc; "{front}[bad code at={at} why={why}]\n")
+}
+
+/// What ends a line that was begun.
+fn newline_if(begun: bool) -> &'static str
+    ensures { result.now ≡ newline_by begun }
+{
+    if begun { "\n" } else { "" }
+}
+
+fn cause_name(why: CodeWhy) -> &'static str
+    ensures { result.now ≡ name_of_cause why }
+{
+    match why {
+        CodeWhy::NoByte => "NoByte",
+        CodeWhy::Opcode(_) => "Opcode",
+        CodeWhy::Operand => "Operand",
+        CodeWhy::Header => "Header",
+        CodeWhy::Underflow => "Underflow",
+        CodeWhy::Unbuilt => "Unbuilt",
     }
 }

@@ -1,19 +1,31 @@
-//! `t3`: checks images of the T3 virtual machine.
+//! `t3`: checks and runs images of the T3 virtual machine.
 //!
 //! All that the program does is [`t3_main`], over the files of the present folder and the standard
 //! streams.
 #![tactic(auto)]
 
-mod check;
+mod builtins;
+mod carry;
 mod command;
 mod file_name;
+mod instructions;
 mod lines;
+mod load;
+mod machine;
+mod number;
+#[cfg(test)]
+mod number_tests;
 mod read;
+mod settle;
 mod show;
 mod status;
+mod story;
+#[cfg(test)]
+mod story_tests;
 #[cfg(test)]
 mod tests;
 mod top;
+mod turn;
 
 pub use status::Status;
 use std::env;

@@ -20,7 +20,7 @@ pub(crate) fn end<C: Console>(console: &mut C, line: &str, status: Status) -> St
 }
 
 /// Shows a text whole, piece by piece as the console takes it.
-fn show<C: Console>(console: &mut C, text: &[u8]) -> Result<(), DeviceRefusal>
+pub(crate) fn show<C: Console>(console: &mut C, text: &[u8]) -> Result<(), DeviceRefusal>
     requires { C.faults console.old < 2 ^ 64 - 1 }
     ensures shown { ShowsAll (C.session console.old) (C.session console.new) text.now result }
     ensures cause { MovesFaults (C.faults console.old) (C.faults console.new) result }

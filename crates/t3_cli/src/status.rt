@@ -12,6 +12,14 @@ pub enum Status {
     Absent = 2,
     /// The input file is no image.
     ImageRefused = 3,
+    /// The image can't be run.
+    LoadRefused = 4,
+    /// The run ended by an object that nothing caught.
+    Unhandled = 5,
+    /// The run came to an instruction or a method that can't be carried out.
+    BadCode = 6,
+    /// The run had no step left.
+    StepLimit = 8,
     /// The files failed.
     DepotFault = 11,
     /// The console failed.

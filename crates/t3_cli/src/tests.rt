@@ -91,12 +91,12 @@ fn checks_the_worked_images(rt: HostRuntime) -> Result<(), Fail> {
         ),
         (
             image(alloc, &[too_long])?,
-            "refused Unbuilt at 69\n",
+            "refused TooLong at 69\n",
             Status::ImageRefused,
         ),
         (
             image(alloc, &[sized_end])?,
-            "refused Unbuilt at 69\n",
+            "refused EofSize at 69\n",
             Status::ImageRefused,
         ),
         (
@@ -134,7 +134,7 @@ fn checks_the_blocks_of_a_running_image(rt: HostRuntime) -> Result<(), Fail> {
     let code = b"\x00\x00\x00\x00\x02\x00\x00\x00\x00\x00\x03\x2A\xB1\x01\x00\x51";
     let shown = checked(rt.alloc(), &[entry, pool, functions, page, code])?;
     assert_eq!(rt; shown.as_slice(), b"ok blocks=5 bytes=185\n".as_slice());
-    let rows: [(&[u8], &str); 7] = [
+    let rows: [(&[u8], &str); 8] = [
         (
             b"ENTP\x01\x00\x00\x00\x00\x00\x00",
             "refused Malformed at 69 items=0\n",
@@ -162,6 +162,10 @@ fn checks_the_blocks_of_a_running_image(rt: HostRuntime) -> Result<(), Fail> {
         (
             b"FNSD\x05\x00\x00\x00\x00\x00\x01\x00\x03ab",
             "refused Malformed at 69 items=0\n",
+        ),
+        (
+            b"OBJS\x12\x00\x00\x00\x01\x00\x02\x00\x00\x00\x00\x00\x07\x00\x00\x00\x06\x00\x00\x00\x00\x00\x00\x00",
+            "refused Malformed at 69 items=1\n",
         ),
     ];
     for (block, wanted) in rows {

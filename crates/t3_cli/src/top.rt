@@ -3,10 +3,10 @@ ghost use Rattle.std.specs.Prelude.{◌≡◌, ◌≢◌, ◌<◌, ◌-◌, ◌^
 ghost use Rattle.t3_io.specs.Files.{Files};
 ghost use Rattle.t3_cli.specs.Command.{Asked, command};
 ghost use Rattle.t3_cli.specs.Lines.{usage_line};
-ghost use Rattle.t3_cli.specs.Outcome.{Outcome, IsResult, IsAbsent, IsNoImage, HoldBytes};
+ghost use Rattle.t3_cli.specs.Outcome.{Outcome, IsResult, IsAbsent, IsNoImage, IsUnloadable, EndsBy, HoldBytes};
 ghost use Rattle.t3_cli.specs.Top.{CutsShort, Comes, IsCarriedOut, IsWhole, IsFront, LeavesFiles, Says, SaysSome, SaysFront, Told};
 
-use crate::check::check;
+use crate::carry::carry_out;
 use crate::command::Command;
 use crate::status::Status;
 use crate::{lines, show};
@@ -16,11 +16,14 @@ use t3_io::{Console, Depot};
 /// Does all that the program does: carries out the command that the words are, over the files of a
 /// depot and a console, and answers how that ended.
 ///
-/// `check IMAGE` shows `ok blocks=B bytes=U`, or why the file is no image. Words that are no command
-/// show how the program is used. Each answer but the last three comes only where its cause holds, with
-/// the whole of what is to be shown, and where a cause holds no other comes but those three. `DepotFault` and `ConsoleFault` come only where
-/// that device counted a fault, and `NoMemory` where an allocation was refused; then a front of the
-/// right text was shown.
+/// `check IMAGE` shows `ok blocks=B bytes=U`. `run IMAGE [--steps=N]` runs the image by at most so many
+/// steps, and shows what it says and, if it didn't return, how it ended; of an image that can't be run
+/// yet it shows `load refused Unbuilt`. Both show that the file isn't there, or why it is no image. Words
+/// that are no command show how the program is used. Each answer but the last three comes only where
+/// its cause holds, with the whole of what is to be shown, and where a cause holds no other comes but
+/// those three. `DepotFault` and `ConsoleFault` come only where that device counted a fault, and
+/// `NoMemory` is meant for refused allocations, though no clause ties it to them; after these a front of
+/// the right text was shown.
 pub fn t3_main<D: Depot, C: Console>(
     alloc: Global,
     words: &[String],
@@ -39,6 +42,10 @@ pub fn t3_main<D: Depot, C: Console>(
     ensures usage { Comes result Status.Usage (command (map string_bytes words.now) ≡ None) }
     ensures absent { IfSome (D.files depot.old) (λ files. Comes result Status.Absent (IsAbsent (command (map string_bytes words.now)) files)) }
     ensures image_refused { IfSome (D.files depot.old) (λ files. Comes result Status.ImageRefused (IsNoImage (command (map string_bytes words.now)) files)) }
+    ensures load_refused { IfSome (D.files depot.old) (λ files. Comes result Status.LoadRefused (IsUnloadable (command (map string_bytes words.now)) files)) }
+    ensures unhandled { IfSome (D.files depot.old) (λ files. Comes result Status.Unhandled (EndsBy Status.Unhandled (command (map string_bytes words.now)) files)) }
+    ensures bad_code { IfSome (D.files depot.old) (λ files. Comes result Status.BadCode (EndsBy Status.BadCode (command (map string_bytes words.now)) files)) }
+    ensures step_limit { IfSome (D.files depot.old) (λ files. Comes result Status.StepLimit (EndsBy Status.StepLimit (command (map string_bytes words.now)) files)) }
     ensures done { IfSome (D.files depot.old) (λ files. Comes result Status.Done (IsCarriedOut (command (map string_bytes words.now)) files)) }
     ensures depot_fault { result ≡ Status.DepotFault → D.faults depot.old < D.faults depot.new }
     ensures console_fault { result ≡ Status.ConsoleFault → C.faults console.old < C.faults console.new }
@@ -61,7 +68,7 @@ pub fn t3_main<D: Depot, C: Console>(
 {
     match Command::parse(words) {
         None => show::end(console, lines::USAGE, Status::Usage),
-        Some(command) => check(alloc, command.image(), depot, console),
+        Some(command) => carry_out(alloc, command, depot, console),
     }
 }
 

@@ -1,0 +1,14 @@
+//! The numbers of options.
+ghost use Rattle.std.specs.Prelude.{◌≡◌};
+ghost use Rattle.t3_cli.specs.Number.{positive_of};
+
+/// The number that a text spells in decimal, without a sign or a leading zero, from 1 to 4294967295.
+#[tactic(auto, using(crate::proofs::Spelled::none_below, crate::proofs::Spelled::none_above, crate::proofs::Spelled::parsed))]
+pub(crate) fn positive_number(text: &str) -> Option<u32>
+    ensures { result ≡ positive_of text.now }
+{
+    match text.as_bytes() {
+        [b'1'..=b'9', ..] => text.parse::<u32>().ok(),
+        _ => None,
+    }
+}
