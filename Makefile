@@ -25,6 +25,7 @@ test:
 
 bench: build/t3
 	bench/check
+	bench/rewrite
 	bench/run
 
 install: build/t3

@@ -1,5 +1,6 @@
 #!/bin/sh
-# Makes the sample images: one with a block that is kept as bytes, and a story that says 42.
+# Makes the sample images: one with a block that is kept as bytes, a story that says 42, and one with a
+# block of every kind.
 set -eu
 cd "$(dirname "$0")"
 
@@ -34,3 +35,30 @@ end_bytes() {
     printf '\003\052\261\001\000\121'
     end_bytes
 } > answer.t3
+
+{
+    head_bytes
+    printf 'ENTP\020\000\000\000\001\000'
+    printf '\000\000\000\000\012\000\012\000\000\000\000\000\000\000\000\000'
+    # Code and constants, each with one page of at most 64 bytes.
+    printf 'CPDF\012\000\000\000\001\000\001\000\001\000\000\000\100\000\000\000'
+    printf 'CPDF\012\000\000\000\001\000\002\000\001\000\000\000\100\000\000\000'
+    # One metaclass with one property, number 2, of two bytes.
+    printf 'MCLD\035\000\000\000\001\000\001\000'
+    printf '\033\000\022tads-object/030005\001\000\002\000\002\000'
+    printf 'FNSD\021\000\000\000\001\000\001\000\016tads-io/030007'
+    # Object 7, of that metaclass: no superclass, no property, no flags.
+    printf 'OBJS\022\000\000\000\001\000\001\000\000\000\000\000'
+    printf '\007\000\000\000\006\000\000\000\000\000\000\000'
+    # The name `errno_`, of property 2.
+    printf 'SYMD\016\000\000\000\001\000\001\000\006\002\000\000\000\006errno_'
+    # The code: a method that returns at once.
+    printf 'CPPG\022\000\000\000\001\000\001\000\000\000\000\000\000'
+    printf '\000\000\000\000\001\000\000\000\000\000\121'
+    # The constants: the text `hi` behind its length, under the mask FF.
+    printf 'CPPG\013\000\000\000\001\000\002\000\000\000\000\000\377\375\377\227\226'
+    # Kept unread: a resource, and a block of a name without meaning.
+    printf 'MRES\003\000\000\000\001\000\001\002\003'
+    printf 'ZZZZ\003\000\000\000\000\000\001\002\003'
+    end_bytes
+} > kinds.t3

@@ -8,5 +8,6 @@ pub mod Laws
 pub mod Layouts
 pub mod Lists
 pub mod MetaEntries
+pub mod Sizes
 pub mod Splits
 pub mod Tried

@@ -1,13 +1,14 @@
 //! Payloads, appended to bytes.
-ghost use Rattle.std.specs.Prelude.{◌≡◌, ◌+◌, ◌^◌, ◌<◌, ◌++◌, length, IfOk, IfErr};
+ghost use Rattle.std.specs.Prelude.{◌≡◌, ◌^◌, ◌<◌, ◌++◌, length, IfOk, IfErr};
 ghost use Rattle.std.specs.List.{flat_map, AllByRecursion};
 ghost use Rattle.t3_holder.specs.NumberText.{little_endian};
-ghost use Rattle.t3_blocks.specs.Spelling.{IsSpellable, payload_of, masked, name_text, IsName, prop_text, meta_body, meta_text, IsMeta, size_width, static_text, IsStatic, symbol_text, IsSymbol, counted_text, objects_head};
+ghost use Rattle.t3_blocks.specs.Spelling.{IsSpellable, payload_of, masked, name_text, IsName, prop_text, meta_text, IsMeta, size_width, static_text, IsStatic, symbol_text, IsSymbol, counted_text, objects_head};
 ghost use Rattle.t3_blocks.specs.Appending.{Appends};
 
 use crate::block::Block;
 use crate::items::{Meta, PropEntry, Static, Symbol};
 use crate::objects::LARGE_SIZES;
+use crate::size::entry_size;
 use t3_holder::{Bytes, NoMemory, raw_bytes, u16_bytes, u32_bytes};
 
 /// Appends the payload of a block, which some payload spells.
@@ -147,15 +148,6 @@ fn append_props(entries: &[PropEntry], out: &mut Vec<u8>) -> Result<(), NoMemory
         append_prop(entry, out)?;
     }
     Ok(())
-}
-
-/// How many bytes the entry of a metaclass has.
-fn entry_size(name: &[u8], props: &[PropEntry], property_size: u16, tail: &[u8]) -> u16
-    requires { IsMeta (record { name = name.now; property_size = property_size; props = props.now; tail = tail.now }) }
-    ensures { result ≡ 2 + length (meta_body (record { name = name.now; property_size = property_size; props = props.now; tail = tail.now })) }
-{
-    let props_size = props.len() * usize::from(property_size);
-    (7 + name.len() + props_size + tail.len()) as u16
 }
 
 fn append_meta(meta: &Meta, out: &mut Vec<u8>) -> Result<(), NoMemory>

@@ -67,6 +67,27 @@ pub enum Block {
     },
 }
 
+impl Block {
+    ghost use Rattle.std.specs.Prelude.{◌≡◌};
+    ghost use Rattle.t3_blocks.specs.Spelling.{name_of};
+
+    /// The name under which the block stands in an image.
+    pub fn name(&self) -> [u8; 4]
+        ensures { result ≡ name_of self.now }
+    {
+        match self {
+            Block::Entry { .. } => *b"ENTP",
+            Block::PoolDef { .. } => *b"CPDF",
+            Block::Page { .. } => *b"CPPG",
+            Block::Functions { .. } => *b"FNSD",
+            Block::Metas { .. } => *b"MCLD",
+            Block::Objects { .. } => *b"OBJS",
+            Block::Symbols { .. } => *b"SYMD",
+            Block::Opaque { name, .. } => *name,
+        }
+    }
+}
+
 /// A block has at most one name and one payload, and these spell no other block. Bytes under a name
 /// spell a block, or are malformed behind exactly so many items.
 pub fn block_spelling()

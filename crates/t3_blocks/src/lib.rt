@@ -2,7 +2,7 @@
 //!
 //! [`parse_block`] takes a payload apart that lies in a caller's buffer, and [`take_block`] one that is
 //! handed in with its memory, so that what is kept as bytes isn't copied. [`append_block`] writes a block's
-//! payload.
+//! payload, whose size [`Block::payload_size`] tells beforehand.
 #![tactic(auto)]
 
 mod append;
@@ -16,6 +16,7 @@ mod names;
 mod objects;
 mod parse;
 mod refusal;
+mod size;
 mod split;
 mod symbols;
 #[cfg(test)]

@@ -1,22 +1,23 @@
 -- Each answer comes by its cause, and the cause gives the answer.
-use Rattle.std.proofs.Common.{◌≡◌, ◌≢◌, ℕ, ◌+◌, Bool, true, false, List, [], ◌∷◌, ◌++◌, length, Option, Some, None, Ok, refl, sym, ap, subst, ◌∙◌, ◌⊎◌, inl, inr}
-use Rattle.std.specs.Prelude.{IfSome, IsSome}
+use Rattle.std.proofs.Common.{◌≡◌, ◌≢◌, ℕ, true, false, List, [], Option, Some, None, refl, sym, ap, subst, ◌∙◌, inl, inr}
+use Rattle.std.specs.Prelude.{IfSome}
 use Rattle.std.specs.FinMap.{get}
 use Rattle.t3_io.specs.Files.{Files}
 use Rattle.t3_image_read.specs.ImageText.{ImageValue, text}
+use Rattle.t3_image_read.specs.Refusal.{Refused}
 use Rattle.t3_image_read.specs.declared.refusal.ReadWhy.{ReadWhy}
 use Rattle.t3_image_read.specs.declared.image.PlacedBlock.{PlacedBlock}
 use Rattle.t3_cli.specs.declared.status.Status.{Status}
 use Rattle.t3_cli.specs.declared.status.Status.TheVariants.{Done, Usage, Absent, ImageRefused, LoadRefused, Unhandled, BadCode, StepLimit}
 use Rattle.t3_cli.specs.declared.turn.End.{End}
 use Rattle.t3_cli.specs.declared.turn.End.TheVariants as ends
-use Rattle.t3_cli.specs.Command.{Asked, Check, Run}
+use Rattle.t3_cli.specs.Command.{Asked, Check, Show, Run, Rewrite}
 use Rattle.t3_cli.specs.Lines.{refused_line, unloaded_line}
-use Rattle.t3_cli.specs.Loading.{IsUnloaded}
+use Rattle.t3_cli.specs.BlockLines.{check_text, show_text}
 use Rattle.t3_cli.specs.Run.{Ran}
-use Rattle.t3_cli.specs.Outcome.{Outcome, IsResult, Checks, Plays, PlaysImage, RunsImage, IsRejected, IsChecked, IsPlayed, IsAbsent, IsNoImage, IsUnloadable, IsRun, RunsFile, EndsBy, not_there, read_bytes, input_file, shown_of, status_of}
+use Rattle.t3_cli.specs.Outcome.{Outcome, IsResult, Tells, Plays, PlaysImage, IsPlayed, put_text, put_files, IsAbsent, IsNoImage, IsUnloadable, IsRun, RunsFile, EndsBy, not_there, read_bytes, input_file, shown_of, status_of}
 use Rattle.t3_cli.specs.Top.{CutsShort, Comes, IsCarriedOut}
-use Rattle.t3_cli.specs.Checking.{Gives, GivesStatus}
+use Rattle.t3_cli.specs.Checking.{GivesStatus}
 use Rattle.t3_cli.proofs.Outcomes.{one_outcome}
 
 -- ---- what came of a command, by its file
@@ -25,14 +26,14 @@ use Rattle.t3_cli.proofs.Outcomes.{one_outcome}
 pub data Came (asked : Asked) (files : Files) (status : Status) : Type 0 where
   Missing : get files (input_file asked) ≡ None → status ≡ Absent → Came asked files status
   Rejected : IsNoImage (Some asked) files → status ≡ ImageRefused → Came asked files status
-  Checked : status ≡ Done → Came asked files status
+  Told : status ≡ Done → Came asked files status
   Unloaded : IsUnloadable (Some asked) files → status ≡ LoadRefused → Came asked files status
   Played : (ran : Ran) → IsRun (Some asked) files ran → status ≡ status_of ran.end → Came asked files status
 
-check_came : (name : List ℕ) (o : Option (List ℕ)) (files : Files) (outcome : Outcome) → get files name ≡ o → Checks name o files outcome → Came (Check name) files outcome.status
-check_came name None files outcome there is = Missing there (ap (λ (o : Outcome). o.status) is)
-check_came name (Some file) files outcome there (inl x) = Rejected (file, there, (x.place, x.why, x.refused)) (ap (λ (o : Outcome). o.status) x.is)
-check_came name (Some file) files outcome there (inr x) = Checked (ap (λ (o : Outcome). o.status) x.is)
+told_came : (tell : ImageValue → List ℕ) (leave : ImageValue → Files) (asked : Asked) (o : Option (List ℕ)) (files : Files) (outcome : Outcome) → get files (input_file asked) ≡ o → Tells tell leave (input_file asked) o files outcome → Came asked files outcome.status
+told_came tell leave asked None files outcome there is = Missing there (ap (λ (o : Outcome). o.status) is)
+told_came tell leave asked (Some file) files outcome there (inl x) = Rejected (file, there, (x.place, x.why, x.refused)) (ap (λ (o : Outcome). o.status) x.is)
+told_came tell leave asked (Some file) files outcome there (inr x) = Told (ap (λ (o : Outcome). o.status) x.is)
 
 runs_file : (name file : List ℕ) (steps : ℕ) (files : Files) (outcome : Outcome) → get files name ≡ Some file → (x : IsPlayed (read_bytes file) steps files outcome) → RunsFile (Some (Run name steps)) files x.image.blocks steps
 runs_file name file steps files outcome there x = record { name = name; file = file; image = x.image; behind = x.behind; asked_is = refl; there = there; valid = x.valid; begins = x.begins; blocks_are = refl }
@@ -47,7 +48,9 @@ run_came name steps (Some file) files outcome there (inl x) = Rejected (file, th
 run_came name steps (Some file) files outcome there (inr x) = play_came name steps files outcome.status outcome.shown x.image.blocks (runs_file name file steps files outcome there x) x.plays
 
 came : (asked : Asked) (files : Files) (input : List ℕ) (outcome : Outcome) → IsResult (Some asked) files input outcome → Came asked files outcome.status
-came (Check name) files input outcome is = check_came name (get files name) files outcome refl is
+came (Check name) files input outcome is = told_came check_text (λ _. files) (Check name) (get files name) files outcome refl is
+came (Show name) files input outcome is = told_came show_text (λ _. files) (Show name) (get files name) files outcome refl is
+came (Rewrite name out mask) files input outcome is = told_came (put_text mask) (put_files out mask files) (Rewrite name out mask) (get files name) files outcome refl is
 came (Run name steps) files input outcome is = run_came name steps (get files name) files outcome refl is
 
 -- ---- a cause gives a result
@@ -60,22 +63,32 @@ pub record HasResult (asked : Option Asked) (files : Files) (input : List ℕ) (
 at_file : (name : List ℕ) (o p : Option (List ℕ)) (steps : ℕ) (files : Files) (outcome : Outcome) → o ≡ p → Plays name p steps files outcome → Plays name o steps files outcome
 at_file name o p steps files outcome e is = let P : Option (List ℕ) → Type 0 = λ x. Plays name x steps files outcome in subst P (sym e) is
 
-at_checked : (name : List ℕ) (o p : Option (List ℕ)) (files : Files) (outcome : Outcome) → o ≡ p → Checks name p files outcome → Checks name o files outcome
-at_checked name o p files outcome e is = let P : Option (List ℕ) → Type 0 = λ x. Checks name x files outcome in subst P (sym e) is
+at_told : (tell : ImageValue → List ℕ) (leave : ImageValue → Files) (name : List ℕ) (o p : Option (List ℕ)) (files : Files) (outcome : Outcome) → o ≡ p → Tells tell leave name p files outcome → Tells tell leave name o files outcome
+at_told tell leave name o p files outcome e is = let P : Option (List ℕ) → Type 0 = λ x. Tells tell leave name x files outcome in subst P (sym e) is
 
 absent_result : (asked : Option Asked) (files : Files) (input : List ℕ) → IsAbsent asked files → HasResult asked files input Absent
 absent_result None files input cause = absurd cause
-absent_result (Some (Check name)) files input cause = record { outcome = not_there name files; result = at_checked name (get files name) None files (not_there name files) cause refl; is = refl }
+absent_result (Some (Check name)) files input cause = record { outcome = not_there name files; result = at_told check_text (λ _. files) name (get files name) None files (not_there name files) cause refl; is = refl }
+absent_result (Some (Show name)) files input cause = record { outcome = not_there name files; result = at_told show_text (λ _. files) name (get files name) None files (not_there name files) cause refl; is = refl }
+absent_result (Some (Rewrite name out mask)) files input cause =
+    record { outcome = not_there name files; result = at_told (put_text mask) (put_files out mask files) name (get files name) None files (not_there name files) cause refl; is = refl }
 absent_result (Some (Run name steps)) files input cause = record { outcome = not_there name files; result = at_file name (get files name) None steps files (not_there name files) cause refl; is = refl }
 
 abbrev refused_outcome : ReadWhy → ℕ → Files → Outcome
 refused_outcome why place files = record { status = ImageRefused; shown = refused_line why place; files = files }
 
+told_refused : (tell : ImageValue → List ℕ) (leave : ImageValue → Files) (name file : List ℕ) (place : ℕ) (why : ReadWhy) (files : Files) → get files name ≡ Some file → Refused (read_bytes file) place why → Tells tell leave name (get files name) files (refused_outcome why place files)
+told_refused tell leave name file place why files there refused =
+    at_told tell leave name (get files name) (Some file) files (refused_outcome why place files) there (inl (record { place = place; why = why; refused = refused; is = refl }))
+
 no_image_result : (asked : Option Asked) (files : Files) (input : List ℕ) → IsNoImage asked files → HasResult asked files input ImageRefused
 no_image_result None files input cause = absurd cause
 no_image_result (Some (Check name)) files input (file, there, (place, why, refused)) =
-    let outcome = refused_outcome why place files in
-    record { outcome = outcome; result = at_checked name (get files name) (Some file) files outcome there (inl (record { place = place; why = why; refused = refused; is = refl })); is = refl }
+    record { outcome = refused_outcome why place files; result = told_refused check_text (λ _. files) name file place why files there refused; is = refl }
+no_image_result (Some (Show name)) files input (file, there, (place, why, refused)) =
+    record { outcome = refused_outcome why place files; result = told_refused show_text (λ _. files) name file place why files there refused; is = refl }
+no_image_result (Some (Rewrite name out mask)) files input (file, there, (place, why, refused)) =
+    record { outcome = refused_outcome why place files; result = told_refused (put_text mask) (put_files out mask files) name file place why files there refused; is = refl }
 no_image_result (Some (Run name steps)) files input (file, there, (place, why, refused)) =
     let outcome = refused_outcome why place files in
     record { outcome = outcome; result = at_file name (get files name) (Some file) steps files outcome there (inl (record { place = place; why = why; refused = refused; is = refl })); is = refl }
@@ -118,7 +131,7 @@ not_by_run (Some (ends.BadCode at cause)) = (λ e. absurd cc, λ e. absurd cc, �
 absent_by : (asked : Asked) (files : Files) (status : Status) → Came asked files status → status ≡ Absent → get files (input_file asked) ≡ None
 absent_by asked files status (Missing there is) same = there
 absent_by asked files status (Rejected cause is) same = absurd (let clash : ImageRefused ≡ Absent = sym is ∙ same in cc)
-absent_by asked files status (Checked is) same = absurd (let clash : Done ≡ Absent = sym is ∙ same in cc)
+absent_by asked files status (Told is) same = absurd (let clash : Done ≡ Absent = sym is ∙ same in cc)
 absent_by asked files status (Unloaded cause is) same = absurd (let clash : LoadRefused ≡ Absent = sym is ∙ same in cc)
 absent_by asked files status (Played ran run is) same = absurd ((not_by_run ran.end).0 (sym is ∙ same))
 
@@ -129,7 +142,7 @@ absent_only (Some asked) files input outcome is same = absent_by asked files out
 refused_by : (asked : Asked) (files : Files) (status : Status) → Came asked files status → status ≡ ImageRefused → IsNoImage (Some asked) files
 refused_by asked files status (Missing there is) same = absurd (let clash : Absent ≡ ImageRefused = sym is ∙ same in cc)
 refused_by asked files status (Rejected cause is) same = cause
-refused_by asked files status (Checked is) same = absurd (let clash : Done ≡ ImageRefused = sym is ∙ same in cc)
+refused_by asked files status (Told is) same = absurd (let clash : Done ≡ ImageRefused = sym is ∙ same in cc)
 refused_by asked files status (Unloaded cause is) same = absurd (let clash : LoadRefused ≡ ImageRefused = sym is ∙ same in cc)
 refused_by asked files status (Played ran run is) same = absurd ((not_by_run ran.end).1 (sym is ∙ same))
 
@@ -140,7 +153,7 @@ refused_only (Some asked) files input outcome is same = refused_by asked files o
 unloaded_by : (asked : Asked) (files : Files) (status : Status) → Came asked files status → status ≡ LoadRefused → IsUnloadable (Some asked) files
 unloaded_by asked files status (Missing there is) same = absurd (let clash : Absent ≡ LoadRefused = sym is ∙ same in cc)
 unloaded_by asked files status (Rejected cause is) same = absurd (let clash : ImageRefused ≡ LoadRefused = sym is ∙ same in cc)
-unloaded_by asked files status (Checked is) same = absurd (let clash : Done ≡ LoadRefused = sym is ∙ same in cc)
+unloaded_by asked files status (Told is) same = absurd (let clash : Done ≡ LoadRefused = sym is ∙ same in cc)
 unloaded_by asked files status (Unloaded cause is) same = cause
 unloaded_by asked files status (Played ran run is) same = absurd ((not_by_run ran.end).2 (sym is ∙ same))
 
@@ -159,7 +172,7 @@ pub record IsOfRuns (status : Status) : Type 0 where
 ends_by : (status : Status) (asked : Asked) (files : Files) (is : Status) → IsOfRuns status → Came asked files is → is ≡ status → EndsBy status (Some asked) files
 ends_by status asked files is runs (Missing there e) same = absurd (runs.absent (sym e ∙ same))
 ends_by status asked files is runs (Rejected cause e) same = absurd (runs.refused (sym e ∙ same))
-ends_by status asked files is runs (Checked e) same = absurd (runs.checked (sym e ∙ same))
+ends_by status asked files is runs (Told e) same = absurd (runs.checked (sym e ∙ same))
 ends_by status asked files is runs (Unloaded cause e) same = absurd (runs.unloaded (sym e ∙ same))
 ends_by status asked files is runs (Played ran run e) same = (ran, run, sym e ∙ same)
 
@@ -180,7 +193,7 @@ done_only (Some asked) files input outcome is same = record {
 done_by : (asked : Asked) (files : Files) (status : Status) → Came asked files status → IsCarriedOut (Some asked) files → status ≡ Done
 done_by asked files status (Missing there is) cause = absurd (cause.there there)
 done_by asked files status (Rejected refused is) cause = absurd (cause.image refused)
-done_by asked files status (Checked is) cause = is
+done_by asked files status (Told is) cause = is
 done_by asked files status (Unloaded none is) cause = absurd (cause.loaded none)
 done_by asked files status (Played ran run is) cause = is ∙ cause.returns ran run
 

@@ -1,20 +1,27 @@
 -- How a command ends whose text is shown in parts.
-use Rattle.std.proofs.Common.{◌≡◌, ℕ, Bool, List, [], ◌∷◌, ◌++◌, Option, Some, None, Result, Ok, Err, IfOk, refl, sym, ap, subst, ◌∙◌, ◌⊎◌, inl, inr, append_assoc}
-use Rattle.t3_io.specs.Session.{Session, showing}
+use Rattle.std.proofs.Common.{◌≡◌, ℕ, Bool, List, [], ◌++◌, Option, Some, None, Result, Ok, Err, IfOk, refl, sym, ap, subst, ◌∙◌, ◌⊎◌, inl, inr, append_assoc}
+use Rattle.std.proofs.lemmas.List.{append-nil}
+use Rattle.t3_io.specs.Files.{Files}
+use Rattle.t3_io.specs.Session.{Session}
+use Rattle.t3_io.specs.Putting.{Puts}
+use Rattle.t3_io.specs.declared.refusal.DeviceRefusal.{DeviceRefusal}
+use Rattle.t3_image_read.specs.ImageText.{ImageValue}
 use Rattle.t3_image_read.specs.declared.image.PlacedBlock.{PlacedBlock}
 use Rattle.t3_cli.specs.declared.status.Status.{Status}
-use Rattle.t3_cli.specs.declared.status.Status.TheVariants.{NoMemory, LoadRefused}
+use Rattle.t3_cli.specs.declared.status.Status.TheVariants.{Done, LoadRefused}
 use Rattle.t3_cli.specs.declared.turn.End.{End}
 use Rattle.t3_cli.specs.Lines.{closing_text, is_nonempty, unloaded_line}
 use Rattle.t3_cli.specs.Machine.{ProgramValue, initial}
 use Rattle.t3_cli.specs.Loading.{LoadsAs, IsUnloaded}
-use Rattle.t3_cli.specs.Run.{Ran, Runs}
-use Rattle.t3_cli.specs.Outcome.{PlaysImage, RunsImage, shown_of, status_of}
+use Rattle.t3_cli.specs.Run.{Runs}
+use Rattle.t3_cli.specs.Outcome.{PlaysImage, RunsImage, shown_of, status_of, put_text, written_text}
 use Rattle.t3_cli.specs.Showing.{HasShown, EndsShown, IsCutShort}
 use Rattle.t3_cli.specs.Playing.{TellsRun, HasPlayed, Closes}
-use Rattle.t3_cli.specs.Command.{Asked}
+use Rattle.t3_cli.specs.Command.{Asked, Rewrite}
 use Rattle.t3_cli.specs.declared.read.ReadImage.{ReadImage}
-use Rattle.t3_cli.specs.Checking.{Ends, AnswersLine, TellsImage}
+use Rattle.t3_cli.specs.declared.read.ReadImage.TheVariants as read
+use Rattle.t3_cli.specs.Top.{CutsShort}
+use Rattle.t3_cli.specs.Checking.{Acts, LeavesTold, LeavesCut, files_told, Ends, AnswersLine, TellsImage}
 use Rattle.t3_cli.proofs.Runs.{one_run}
 use Rattle.t3_cli.proofs.Programs.{one_program}
 use Rattle.t3_cli.proofs.Shown.{showing-showing}
@@ -68,10 +75,6 @@ only_told program steps said end has_said runs has status text (ran, others, is,
     let same = one_run program steps initial ran (record { said = said; end = end }) others runs in
     shown ∙ ap shown_of same ∙ ap (λ b. said ++ closing_text b end) (sym has)
 
-no_more : (xs : List ℕ) → xs ++ [] ≡ xs
-no_more [] = refl
-no_more (x ∷ xs) = ap (λ t. x ∷ t) (no_more xs)
-
 pub run_ends : (program : ProgramValue) (steps : ℕ) (before mid after : Option Session) (has_said : Bool) (end : Option End) (answer : Status) → HasPlayed program steps before mid has_said end → Closes mid after (closing_text has_said end) (status_of end) answer → Ends (TellsRun program steps) before after answer
 run_ends program steps before mid after has_said end answer played (inl ends) =
     ends_behind (TellsRun program steps) before mid after played.said (closing_text has_said end) (status_of end) answer played.shown (told program steps played.said end has_said played.runs played.has) (only_told program steps played.said end has_said played.runs played.has) ends
@@ -104,7 +107,7 @@ image_ends blocks program steps before after answer loads (inr cut) =
 
 pub nothing_shown : (before : Option Session) → HasShown before before []
 nothing_shown None = tt
-nothing_shown (Some b) = λ i. Some (record b { shown = sym (no_more b.shown) i })
+nothing_shown (Some b) = λ i. Some (record b { shown = sym (append-nil b.shown) i })
 
 only_line : (blocks : List PlacedBlock) (steps : ℕ) → IsUnloaded blocks → (status : Status) (text : List ℕ) → PlaysImage blocks steps status text → text ≡ unloaded_line
 only_line blocks steps none status text (inl line) = line.2
@@ -127,9 +130,42 @@ answer_ends Tells text_of before after (Err e) text status answer is tells only 
     let Q : Status → Type 0 = IsCutShort in
     inr (record { cut = subst Q (sym answers.0) tt; said = []; shown = subst P (sym answers.1) (nothing_shown before); front = λ other whole has. (whole, refl) })
 
--- what is told of what was read is told of it as it was matched
-pub ends_found : (asked : Asked) (found is : ReadImage) (before after : Option Session) (answer : Status) → found ≡ is → Ends (TellsImage asked is) before after answer → Ends (TellsImage asked found) before after answer
-ends_found asked found is before after answer same ends = let P : ReadImage → Type 0 = λ f. Ends (TellsImage asked f) before after answer in subst P (sym same) ends
+-- ---- what a command did
 
-pub ends_asked : (asked is : Asked) (found : ReadImage) (before after : Option Session) (answer : Status) → asked ≡ is → Ends (TellsImage is found) before after answer → Ends (TellsImage asked found) before after answer
-ends_asked asked is found before after answer same ends = let P : Asked → Type 0 = λ a. Ends (TellsImage a found) before after answer in subst P (sym same) ends
+-- it told something, and left the files
+pub told_same : (asked : Asked) (found : ReadImage) (all : Option Files) (before after : Option Session) (answer : Status) → ((files : Files) → files_told asked found files ≡ files) → Ends (TellsImage asked found) before after answer → Acts asked found all all before after answer
+told_same asked found None before after answer same ends = inl (record { leaves = tt; ends = ends })
+told_same asked found (Some files) before after answer same ends = inl (record { leaves = ap Some (sym (same files)); ends = ends })
+
+-- a line of its own was told
+pub line_told : {Line Error : Type 0} → (asked : Asked) (found : ReadImage) (text_of : Line → List ℕ) (all : Option Files) (before after : Option Session) (line : Result Line Error) (text : List ℕ) (status answer : Status) → ((files : Files) → files_told asked found files ≡ files)
+    → IfOk line (λ l. text_of l ≡ text) → TellsImage asked found status text → ((other : Status) (whole : List ℕ) → TellsImage asked found other whole → whole ≡ text) → AnswersLine text_of before after line status answer → Acts asked found all all before after answer
+line_told asked found text_of all before after line text status answer same is tells only answers = told_same asked found all before after answer same (answer_ends (TellsImage asked found) text_of before after line text status answer is tells only answers)
+
+-- or it put a file, and told how many bytes
+pub put_told : {Line Error : Type 0} → (name out : List ℕ) (mask : Option ℕ) (image : ImageValue) (used : ℕ) (text_of : Line → List ℕ) (all left : Option Files) (before after : Option Session) (line : Result Line Error) (answer : Status) → Puts all left out (written_text mask image) (Ok tt)
+    → IfOk line (λ l. text_of l ≡ put_text mask image) → AnswersLine text_of before after line Done answer → Acts (Rewrite name out mask) (read.Image image used) all left before after answer
+put_told name out mask image used text_of all left before after line answer puts is answers =
+    let asked = Rewrite name out mask in
+    let found = read.Image image used in
+    inl (record { leaves = leaves all puts; ends = answer_ends (TellsImage asked found) text_of before after line (put_text mask image) Done answer is (refl, refl) (λ other whole tells. tells.1) answers })
+  where
+    leaves : (all : Option Files) → Puts all left out (written_text mask image) (Ok tt) → LeavesTold (Rewrite name out mask) (read.Image image used) all left
+    leaves None puts = tt
+    leaves (Some files) puts = puts
+
+-- or it couldn't
+pub put_cut : (name out : List ℕ) (mask : Option ℕ) (image : ImageValue) (used : ℕ) (all left : Option Files) (before : Option Session) (refusal : DeviceRefusal) (answer : Status) → Puts all left out (written_text mask image) (Err refusal) → CutsShort answer
+    → Acts (Rewrite name out mask) (read.Image image used) all left before before answer
+put_cut name out mask image used all left before refusal answer puts cut = inr (record { cut = cut; leaves = leaves all puts; shown = refl })
+  where
+    leaves : (all : Option Files) → Puts all left out (written_text mask image) (Err refusal) → LeavesCut (Rewrite name out mask) (read.Image image used) all left
+    leaves None puts = tt
+    leaves (Some files) puts = inr (Err refusal, puts)
+
+-- what was done with what was read was done with it as it was matched
+pub acts_matched : (asked is : Asked) (found seen : ReadImage) (all left : Option Files) (before after : Option Session) (answer : Status) → asked ≡ is → found ≡ seen → Acts is seen all left before after answer → Acts asked found all left before after answer
+acts_matched asked is found seen all left before after answer same matched acts =
+    let P : Asked → Type 0 = λ a. Acts a seen all left before after answer in
+    let Q : ReadImage → Type 0 = λ f. Acts asked f all left before after answer in
+    subst Q (sym matched) (subst P (sym same) acts)

@@ -1,3 +1,4 @@
+pub mod Lining
 pub mod FileRead
 pub mod Shown
 pub mod Outcomes

@@ -1,5 +1,5 @@
 -- A run that has come so far, and one step more of it.
-use Rattle.std.proofs.Common.{◌≡◌, ℕ, zero, suc, ◌+◌, ◌<◌, ◌≤◌, Bool, true, false, not, ◌||◌, nat_eq, List, [], ◌∷◌, ◌++◌, length, Option, Some, None, Result, Ok, Err, refl, sym, ap, subst, ◌∙◌, append_assoc, arith}
+use Rattle.std.proofs.Common.{◌≡◌, ℕ, suc, Bool, true, false, not, ◌||◌, nat_eq, List, [], ◌∷◌, ◌++◌, length, Option, Some, None, Result, Ok, Err, refl, sym, ap, subst, ◌∙◌, append_assoc, arith}
 use Rattle.std.proofs.lemmas.List.{append-nil}
 use Rattle.t3_io.specs.Session.{Session, showing}
 use Rattle.t3_io.specs.declared.refusal.DeviceRefusal.{DeviceRefusal}
@@ -10,9 +10,9 @@ use Rattle.t3_cli.specs.Lines.{is_nonempty}
 use Rattle.t3_cli.specs.Machine.{ProgramValue, State, initial}
 use Rattle.t3_cli.specs.Step.{After, GoesOn, Ends, Steps, Moves, TakesStep}
 use Rattle.t3_cli.specs.Run.{Ran, Runs, behind}
-use Rattle.t3_cli.specs.Showing.{HasShown, ShowsAll, ShowsFront}
+use Rattle.t3_cli.specs.Showing.{HasShown, ShowsAll}
 use Rattle.t3_cli.specs.Playing.{HasCome, HasPlayed, HasBegun, PlaysOn}
-use Rattle.t3_cli.proofs.Runs.{no_step_left, only_none, step_goes, step_ends, only_goes, only_ends, behind_behind}
+use Rattle.t3_cli.proofs.Runs.{no_step_left, step_goes, step_ends, only_goes, behind_behind}
 use Rattle.t3_cli.proofs.Shown.{showing-showing}
 
 -- ---- what a step was

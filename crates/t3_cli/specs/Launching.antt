@@ -1,5 +1,5 @@
 -- What the functions that load an image answer.
-use Rattle.std.specs.Prelude.{◌≡◌, ◌≢◌, ℕ, Bool, true, codes, List, [], ◌∷◌, Option, Some, None, Result, Ok, Err}
+use Rattle.std.specs.Prelude.{◌≡◌, ◌≢◌, ℕ, Bool, codes, List, [], ◌∷◌, Option, Some, None, Result, Ok, Err}
 use denote.Ref.{Bor}
 use Rattle.t3_blocks.specs.declared.items.Names.{Names}
 use Rattle.t3_image_read.specs.declared.image.PlacedBlock.{PlacedBlock}

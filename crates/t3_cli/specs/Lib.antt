@@ -1,6 +1,7 @@
 pub mod Status
 pub mod Command
 pub mod Lines
+pub mod BlockLines
 pub mod Machine
 pub mod Instructions
 pub mod Step

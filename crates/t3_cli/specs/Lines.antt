@@ -48,6 +48,10 @@ refused_line why place = refused_text (why_name why) place (items_of why)
 abbrev pub ok_line : ℕ → ℕ → List ℕ
 ok_line blocks bytes = codes "ok blocks=" ++ (decimal blocks ++ (codes " bytes=" ++ (decimal bytes ++ newline)))
 
+-- how many bytes a file has that was put
+abbrev pub put_line : ℕ → List ℕ
+put_line bytes = codes "ok bytes=" ++ (decimal bytes ++ newline)
+
 -- an image that can't be run yet
 abbrev pub unloaded_line : List ℕ
 unloaded_line = codes "load refused Unbuilt" ++ newline

@@ -7,3 +7,7 @@ use Rattle.std.specs.Str.Parse.{digits_value}
 -- the number that the digits of a text say, where the text is its spelling and it is from 1 to 4294967295
 abbrev pub positive_of : List ℕ → Option ℕ
 positive_of text = let n = digits_value 10 text in if (bytes_eq text (decimal n) && nat_le 1 n) && nat_lt n (2 ^ 32) then Some n else None
+
+-- the number that the digits of a text say, where the text is its spelling and it is from 0 to 255
+abbrev pub byte_of : List ℕ → Option ℕ
+byte_of text = let n = digits_value 10 text in if bytes_eq text (decimal n) && nat_lt n 256 then Some n else None

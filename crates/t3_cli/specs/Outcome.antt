@@ -1,6 +1,6 @@
 -- What a command gives where nothing fails: the status, the bytes shown and the files.
-use Rattle.std.specs.Prelude.{◌≡◌, ℕ, ◌+◌, ◌⊎◌, List, ◌++◌, length, take, Option, Some, None}
-use Rattle.std.specs.FinMap.{get}
+use Rattle.std.specs.Prelude.{◌≡◌, ℕ, ◌⊎◌, List, ◌++◌, length, take, Option, Some, None}
+use Rattle.std.specs.FinMap.{get, insert}
 use Rattle.t3_holder.specs.NumberText.{AreBytes}
 use Rattle.t3_io.specs.Files.{Files}
 use Rattle.t3_image_read.specs.declared.refusal.ReadWhy.{ReadWhy}
@@ -12,8 +12,10 @@ use Rattle.t3_cli.specs.declared.status.Status.TheVariants.{Done, Usage, Absent,
 use Rattle.t3_cli.specs.declared.turn.End.{End}
 use Rattle.t3_cli.specs.declared.turn.End.TheVariants as ends
 use Rattle.t3_image_read.specs.declared.image.PlacedBlock.{PlacedBlock}
-use Rattle.t3_cli.specs.Command.{Asked, Check, Run}
-use Rattle.t3_cli.specs.Lines.{usage_line, absent_line, refused_line, ok_line, unloaded_line, closing_text, is_nonempty}
+use Rattle.t3_image_write.specs.Masks.{remasked}
+use Rattle.t3_cli.specs.Command.{Asked, Check, Show, Run, Rewrite}
+use Rattle.t3_cli.specs.Lines.{usage_line, absent_line, refused_line, put_line, unloaded_line, closing_text, is_nonempty}
+use Rattle.t3_cli.specs.BlockLines.{check_text, show_text}
 use Rattle.t3_cli.specs.Machine.{ProgramValue, initial}
 use Rattle.t3_cli.specs.Loading.{LoadsAs, IsUnloaded}
 use Rattle.t3_cli.specs.Run.{Ran, Runs}
@@ -41,17 +43,34 @@ pub record IsRejected (bytes : List ℕ) (files : Files) (outcome : Outcome) : T
   pub refused : Refused bytes place why
   pub is : outcome ≡ record { status = ImageRefused; shown = refused_line why place; files = files }
 
--- an image's text begins the bytes, and its blocks and bytes are counted
-pub record IsChecked (bytes : List ℕ) (files : Files) (outcome : Outcome) : Type 0 where
+-- an image's text begins the bytes; of the image the outcome has what is told and which files are left
+pub record IsTold (tell : ImageValue → List ℕ) (leave : ImageValue → Files) (bytes : List ℕ) (outcome : Outcome) : Type 0 where
   pub image : ImageValue
   pub behind : List ℕ
   pub valid : IsValid image
   pub begins : bytes ≡ text image ++ behind
-  pub is : outcome ≡ record { status = Done; shown = ok_line (length image.blocks + 1) (length (text image)); files = files }
+  pub is : outcome ≡ record { status = Done; shown = tell image; files = leave image }
 
-abbrev pub Checks : List ℕ → Option (List ℕ) → Files → Outcome → Type 0
-Checks name None files outcome = outcome ≡ not_there name files
-Checks name (Some file) files outcome = IsRejected (read_bytes file) files outcome ⊎ IsChecked (read_bytes file) files outcome
+abbrev pub Tells : (ImageValue → List ℕ) → (ImageValue → Files) → List ℕ → Option (List ℕ) → Files → Outcome → Type 0
+Tells tell leave name None files outcome = outcome ≡ not_there name files
+Tells tell leave name (Some file) files outcome = IsRejected (read_bytes file) files outcome ⊎ IsTold tell leave (read_bytes file) outcome
+
+-- the image with every page under the mask, where one is given
+abbrev pub masked_image : Option ℕ → ImageValue → ImageValue
+masked_image None image = image
+masked_image (Some mask) image = remasked mask image
+
+-- what is written of an image
+abbrev pub written_text : Option ℕ → ImageValue → List ℕ
+written_text mask image = text (masked_image mask image)
+
+-- what `rewrite` shows: how many bytes it put
+abbrev pub put_text : Option ℕ → ImageValue → List ℕ
+put_text mask image = put_line (length (written_text mask image))
+
+-- the files that it leaves: one has what is written, each other is as before
+abbrev pub put_files : List ℕ → Option ℕ → Files → ImageValue → Files
+put_files out mask files image = insert files out (written_text mask image)
 
 -- what a run shows: what was said, and behind it how it ended
 abbrev pub shown_of : Ran → List ℕ
@@ -91,15 +110,19 @@ Plays name (Some file) steps files outcome = IsRejected (read_bytes file) files 
 -- what the words give with these files and this input
 abbrev pub IsResult : Option Asked → Files → List ℕ → Outcome → Type 0
 IsResult None files input outcome = outcome ≡ record { status = Usage; shown = usage_line; files = files }
-IsResult (Some (Check name)) files input outcome = Checks name (get files name) files outcome
+IsResult (Some (Check name)) files input outcome = Tells check_text (λ _. files) name (get files name) files outcome
+IsResult (Some (Show name)) files input outcome = Tells show_text (λ _. files) name (get files name) files outcome
 IsResult (Some (Run name steps)) files input outcome = Plays name (get files name) steps files outcome
+IsResult (Some (Rewrite name out mask)) files input outcome = Tells (put_text mask) (put_files out mask files) name (get files name) files outcome
 
 -- ---- the causes of the answers
 
 -- the file that a command reads first
 abbrev pub input_file : Asked → List ℕ
 input_file (Check name) = name
+input_file (Show name) = name
 input_file (Run name steps) = name
+input_file (Rewrite name out mask) = name
 
 abbrev pub IsAbsent : Option Asked → Files → Type 0
 IsAbsent None files = ⊥

@@ -1,5 +1,5 @@
 -- What the functions that run a program answer.
-use Rattle.std.specs.Prelude.{◌≡◌, ℕ, Bool, ◌⊎◌, List, ◌++◌, Option, Some, Result, Ok, Err}
+use Rattle.std.specs.Prelude.{◌≡◌, ℕ, Bool, ◌⊎◌, List, ◌++◌, Option, Result, Ok, Err}
 use Rattle.t3_io.specs.Session.{Session}
 use Rattle.t3_io.specs.declared.refusal.DeviceRefusal.{DeviceRefusal}
 use Rattle.t3_cli.specs.declared.turn.End.{End}

@@ -1,6 +1,6 @@
 //! The lines that are shown.
 ghost use Rattle.std.specs.Prelude.{◌≡◌, ◌++◌, Some, IfOk, string_bytes};
-ghost use Rattle.t3_cli.specs.Lines.{absent_line, refused_line, ok_line, why_name as name_of, items_of, closing_text, end_line, unhandled_line, bad_code_line, newline_if as newline_by, cause_name as name_of_cause};
+ghost use Rattle.t3_cli.specs.Lines.{absent_line, refused_line, ok_line, put_line, why_name as name_of, items_of, closing_text, end_line, unhandled_line, bad_code_line, newline_if as newline_by, cause_name as name_of_cause};
 
 use crate::turn::{CodeWhy, End};
 use std::alloc::{AllocError, Global};
@@ -44,6 +44,13 @@ pub(crate) fn ok(alloc: Global, blocks: usize, bytes: u64) -> Result<String, All
     ensures { IfOk result (λ line. string_bytes line ≡ ok_line blocks bytes) }
 {
     format!(in alloc; "ok blocks={blocks} bytes={bytes}\n")
+}
+
+/// The line of a file of so many bytes that was put.
+pub(crate) fn put(alloc: Global, bytes: usize) -> Result<String, AllocError>
+    ensures { IfOk result (λ line. string_bytes line ≡ put_line bytes) }
+{
+    format!(in alloc; "ok bytes={bytes}\n")
 }
 
 fn why_name(why: ReadWhy) -> &'static str

@@ -1,4 +1,4 @@
-//! `t3`: checks and runs images of the T3 virtual machine.
+//! `t3`: checks, shows, rewrites and runs images of the T3 virtual machine.
 //!
 //! All that the program does is [`t3_main`], over the files of the present folder and the standard
 //! streams.
@@ -8,6 +8,7 @@ mod builtins;
 mod carry;
 mod command;
 mod file_name;
+mod image_lines;
 mod instructions;
 mod lines;
 mod load;
@@ -16,8 +17,12 @@ mod number;
 #[cfg(test)]
 mod number_tests;
 mod read;
+#[cfg(test)]
+mod rewrite_tests;
 mod settle;
 mod show;
+#[cfg(test)]
+mod show_tests;
 mod status;
 mod story;
 #[cfg(test)]

@@ -1,5 +1,5 @@
 //! Which texts are the numbers of options.
-use crate::number::positive_number;
+use crate::number::{byte_number, positive_number};
 use std::test::Fail;
 
 #[test]
@@ -22,6 +22,26 @@ fn a_number_has_no_sign_and_no_leading_zero(rt: HostRuntime) -> Result<(), Fail>
     ];
     for (text, number) in rows {
         assert_eq!(rt; positive_number(text), number, "{text}");
+    }
+    Ok(())
+}
+
+#[test]
+fn a_mask_is_a_byte(rt: HostRuntime) -> Result<(), Fail> {
+    let rows: [(&str, Option<u8>); 10] = [
+        ("0", Some(0)),
+        ("1", Some(1)),
+        ("255", Some(255)),
+        ("256", None),
+        ("00", None),
+        ("01", None),
+        ("", None),
+        ("+1", None),
+        ("-0", None),
+        ("ff", None),
+    ];
+    for (text, number) in rows {
+        assert_eq!(rt; byte_number(text), number, "{text}");
     }
     Ok(())
 }

@@ -39,7 +39,7 @@ fn image_with(
     bytes.extend_from_slice(b"\x01\x00\x01\x00\x00\x00\x00\x00\x00")?;
     bytes.extend_from_slice(method_header)?;
     bytes.extend_from_slice(body)?;
-    bytes.extend_from_slice(b"EOF \x00\x00\x00\x00\x00\x00")?;
+    bytes.extend_from_slice(crate::tests::END)?;
     Ok(bytes)
 }
 

@@ -6,6 +6,9 @@ use t3_io::{SureConsole, SureDepot};
 
 const USAGE: &str = "usage: t3 check or show or list or run or rewrite or asm or drill\n";
 
+/// The block that ends an image.
+pub(crate) const END: &[u8] = b"EOF \x00\x00\x00\x00\x00\x00";
+
 /// The signature, the version, 32 reserved bytes 0 and a time of 24 spaces.
 fn header(alloc: Global) -> Result<Vec<u8>, AllocError> {
     let mut bytes = Vec::new(alloc);
@@ -16,7 +19,7 @@ fn header(alloc: Global) -> Result<Vec<u8>, AllocError> {
 }
 
 /// The header and what comes behind it.
-fn image(alloc: Global, behind: &[&[u8]]) -> Result<Vec<u8>, AllocError> {
+pub(crate) fn image(alloc: Global, behind: &[&[u8]]) -> Result<Vec<u8>, AllocError> {
     let mut bytes = header(alloc)?;
     for part in behind {
         bytes.extend_from_slice(part)?;
@@ -24,38 +27,46 @@ fn image(alloc: Global, behind: &[&[u8]]) -> Result<Vec<u8>, AllocError> {
     Ok(bytes)
 }
 
+/// The words as the program gets them.
+pub(crate) fn owned(alloc: Global, words: &[&str]) -> Result<Vec<String>, AllocError> {
+    let mut all = Vec::new(alloc);
+    for word in words {
+        all.push(String::from_str(alloc, word)?)?;
+    }
+    Ok(all)
+}
+
 /// The status and what is shown with the file `a.t3`, if there is one.
-fn outcome(alloc: Global, words: &[&str], file: Option<&[u8]>) -> Result<(Status, Vec<u8>), Fail> {
+pub(crate) fn outcome(
+    alloc: Global,
+    words: &[&str],
+    file: Option<&[u8]>,
+) -> Result<(Status, Vec<u8>), Fail> {
     let mut depot = SureDepot::new(alloc);
     if let Some(bytes) = file {
         depot.keep(b"a.t3", bytes)?;
     }
     let mut console = SureConsole::new(alloc, b"")?;
-    let mut all = Vec::new(alloc);
-    for word in words {
-        all.push(String::from_str(alloc, word)?)?;
-    }
-    let status = t3_main(alloc, &all, &mut depot, &mut console);
+    let status = t3_main(alloc, &owned(alloc, words)?, &mut depot, &mut console);
     Ok((status, Vec::from_slice(alloc, console.shown())?))
 }
 
 #[test]
 fn checks_the_worked_images(rt: HostRuntime) -> Result<(), Fail> {
     let alloc = rt.alloc();
-    let end: &[u8] = b"EOF \x00\x00\x00\x00\x00\x00";
     let cut: &[u8] = b"EOF \x00\x00\x00\x00\x00";
     let sized_end: &[u8] = b"EOF \x01\x00\x00\x00\x00\x00\x00";
     let kept: &[u8] = b"ZZZZ\x03\x00\x00\x00\x00\x00\x01\x02\x03";
     let mandatory: &[u8] = b"ZZZZ\x03\x00\x00\x00\x01\x00\x01\x02\x03";
     let too_long: &[u8] = b"OBJS\x01\x00\x00\x10\x01\x00";
     let ten: &[u8] = &[7; 10];
-    let mut other_signature = image(alloc, &[end])?;
+    let mut other_signature = image(alloc, &[END])?;
     if let Some(first) = other_signature.first_mut() {
         *first = 0x55;
     }
     let rows: [(Vec<u8>, &str, Status); 10] = [
         (
-            image(alloc, &[end])?,
+            image(alloc, &[END])?,
             "ok blocks=1 bytes=79\n",
             Status::Done,
         ),
@@ -65,7 +76,7 @@ fn checks_the_worked_images(rt: HostRuntime) -> Result<(), Fail> {
             Status::ImageRefused,
         ),
         (
-            image(alloc, &[end, ten])?,
+            image(alloc, &[END, ten])?,
             "ok blocks=1 bytes=79\n",
             Status::Done,
         ),
@@ -80,12 +91,12 @@ fn checks_the_worked_images(rt: HostRuntime) -> Result<(), Fail> {
             Status::ImageRefused,
         ),
         (
-            image(alloc, &[kept, end])?,
+            image(alloc, &[kept, END])?,
             "ok blocks=2 bytes=92\n",
             Status::Done,
         ),
         (
-            image(alloc, &[mandatory, end])?,
+            image(alloc, &[mandatory, END])?,
             "refused UnknownMandatory at 69\n",
             Status::ImageRefused,
         ),
@@ -119,7 +130,7 @@ fn checks_the_worked_images(rt: HostRuntime) -> Result<(), Fail> {
 /// The line that `check` shows of the header, these parts and the end.
 fn checked(alloc: Global, parts: &[&[u8]]) -> Result<Vec<u8>, Fail> {
     let mut bytes = image(alloc, parts)?;
-    bytes.extend_from_slice(b"EOF \x00\x00\x00\x00\x00\x00")?;
+    bytes.extend_from_slice(END)?;
     let (_, shown) = outcome(alloc, &["check", "a.t3"], Some(&bytes))?;
     Ok(shown)
 }
@@ -177,7 +188,7 @@ fn checks_the_blocks_of_a_running_image(rt: HostRuntime) -> Result<(), Fail> {
 
 #[test]
 fn other_words_show_the_usage(rt: HostRuntime) -> Result<(), Fail> {
-    let rows: [&[&str]; 7] = [
+    let rows: [&[&str]; 10] = [
         &[],
         &["check"],
         &["check", "a.t3", "b.t3"],
@@ -185,6 +196,9 @@ fn other_words_show_the_usage(rt: HostRuntime) -> Result<(), Fail> {
         &["check", "folder/a.t3"],
         &["--help"],
         &["run", "a.t3", "--steps=007"],
+        &["show", "a.t3", "--steps=7"],
+        &["show", "a.t3", "b.t3"],
+        &["show"],
     ];
     for words in &rows {
         let (status, shown) = outcome(rt.alloc(), words, None)?;

@@ -4,7 +4,7 @@ ghost use Rattle.t3_io.specs.Files.{Files};
 ghost use Rattle.t3_cli.specs.Command.{Asked, command};
 ghost use Rattle.t3_cli.specs.Lines.{usage_line};
 ghost use Rattle.t3_cli.specs.Outcome.{Outcome, IsResult, IsAbsent, IsNoImage, IsUnloadable, EndsBy, HoldBytes};
-ghost use Rattle.t3_cli.specs.Top.{CutsShort, Comes, IsCarriedOut, IsWhole, IsFront, LeavesFiles, Says, SaysSome, SaysFront, Told};
+ghost use Rattle.t3_cli.specs.Top.{CutsShort, Comes, IsCarriedOut, IsWhole, IsFront, LeavesFiles, IsWholeOfFiles, Says, SaysSome, SaysFront, Told};
 
 use crate::carry::carry_out;
 use crate::command::Command;
@@ -16,14 +16,19 @@ use t3_io::{Console, Depot};
 /// Does all that the program does: carries out the command that the words are, over the files of a
 /// depot and a console, and answers how that ended.
 ///
-/// `check IMAGE` shows `ok blocks=B bytes=U`. `run IMAGE [--steps=N]` runs the image by at most so many
-/// steps, and shows what it says and, if it didn't return, how it ended; of an image that can't be run
-/// yet it shows `load refused Unbuilt`. Both show that the file isn't there, or why it is no image. Words
-/// that are no command show how the program is used. Each answer but the last three comes only where
-/// its cause holds, with the whole of what is to be shown, and where a cause holds no other comes but
-/// those three. `DepotFault` and `ConsoleFault` come only where that device counted a fault, and
-/// `NoMemory` is meant for refused allocations, though no clause ties it to them; after these a front of
-/// the right text was shown.
+/// `check IMAGE` shows `ok blocks=B bytes=U`, and `show IMAGE` a line for each block before it. `rewrite
+/// IN OUT [--mask=N]` puts the image as written anew, its pages under the mask where one is given, and
+/// shows `ok bytes=N`. `run IMAGE [--steps=N]` runs the image by at most so many steps, and shows what it
+/// says and, if it didn't return, how it ended; of an image that can't be run yet it shows `load refused
+/// Unbuilt`. Each shows that the file isn't there, or why it is no image. Words that are no command show
+/// how the program is used.
+///
+/// Each answer but the last three comes only where its cause holds, with the whole of what is to be
+/// shown and put, and where a cause holds no other comes but those three. `DepotFault` and
+/// `ConsoleFault` come only where that device counted a fault, and `NoMemory` is meant for refused
+/// allocations, though no clause ties it to them. After these a front of the right text was shown, and
+/// the one file that the command puts is as before, or has its right bytes, or is as a failed put of them
+/// leaves it.
 pub fn t3_main<D: Depot, C: Console>(
     alloc: Global,
     words: &[String],
@@ -60,6 +65,7 @@ pub fn t3_main<D: Depot, C: Console>(
 
     // What holds of one device alone, whatever the other tells.
     ensures files { IfSome (D.files depot.old) (λ files. LeavesFiles (command (map string_bytes words.now)) files (D.files depot.new)) }
+    ensures whole_files { IfSome (D.files depot.old) (λ files. ¬ CutsShort result → IsWholeOfFiles (command (map string_bytes words.now)) files result (D.files depot.new)) }
     ensures input { IfSome (C.session console.old) (λ before. SaysSome (command (map string_bytes words.now)) before (C.session console.new)) }
 
     // What is shown of the usage depends on no file.

@@ -11,19 +11,19 @@ use t3_blocks::{END_NAME, IMAGE_LIMIT, is_unknown_mandatory};
 use t3_holder::{u16_at, u32_at};
 
 /// How many bytes the header has.
-pub(crate) const HEAD_SIZE: usize = 69;
+pub const HEAD_SIZE: usize = 69;
 
-/// How many bytes stand in front of a payload.
-pub(crate) const HEADER_SIZE: usize = 10;
+/// How many bytes the header of a block has, which stands in front of its payload.
+pub const HEADER_SIZE: usize = 10;
 
 /// How many block headers an image has at most, that of the end among them.
 const HEADER_LIMIT: usize = 65_536;
 
 /// The bytes with which an image begins.
-const SIGNATURE: [u8; 11] = *b"T3-image\r\n\x1a";
+pub const SIGNATURE: [u8; 11] = *b"T3-image\r\n\x1a";
 
 /// The one version that there is.
-const VERSION: u16 = 1;
+pub const VERSION: u16 = 1;
 
 /// What stands in front of a payload.
 #[derive(Clone, Copy, Debug)]

@@ -1,3 +1,4 @@
+use crate::header::HEADER_SIZE;
 use std::marker::Model;
 use t3_blocks::Block;
 
@@ -15,6 +16,20 @@ pub struct Head {
 pub struct PlacedBlock {
     pub flags: u16,
     pub block: Block,
+}
+
+impl PlacedBlock {
+    ghost use Rattle.std.specs.Prelude.{◌≡◌, length};
+    ghost use Rattle.t3_image_read.specs.ImageText.{block_text};
+    ghost use Rattle.t3_image_read.specs.Validity.{IsGood};
+
+    /// How many bytes the block has in an image, its header among them.
+    pub fn size(&self) -> usize
+        requires { IsGood self.now }
+        ensures { result ≡ length (block_text self.now) }
+    {
+        HEADER_SIZE + self.block.payload_size() as usize
+    }
 }
 
 /// The blocks of an image in order, without the one that ends it. Contracts see the list.

@@ -13,6 +13,7 @@ mod taker;
 #[cfg(test)]
 mod tests;
 
+pub use header::{HEAD_SIZE, HEADER_SIZE, SIGNATURE, VERSION};
 pub use image::{Head, Image, Placed, PlacedBlock};
 pub use laws::one_reading;
 pub use reader::{Fed, ImageReader};

@@ -1,19 +1,20 @@
 -- The texts of an image's parts, appended one after the other.
-use Rattle.std.proofs.Common.{◌≡◌, ℕ, ◌+◌, ◌-◌, ◌≤◌, List, [], ◌++◌, length, take, drop, Result, sym, ap, subst, ◌∙◌, append_assoc, arith}
-use Rattle.std.proofs.lemmas.List.{take_at, drop_at, length-append}
+use Rattle.std.proofs.Common.{◌≡◌, ℕ, ◌+◌, ◌^◌, ◌<◌, List, [], ◌++◌, length, take, drop, Result, Ok, Err, sym, ap, subst, ◌∙◌, append_assoc, arith}
+use Rattle.std.proofs.lemmas.List.{take_at, length-append}
+use Rattle.std.specs.Prelude.{IfOk, IfErr}
 use Rattle.std.specs.List.{flat_map}
 use Rattle.t3_holder.specs.NumberText.{little_endian}
-use Rattle.t3_holder.proofs.Numbers.{length-little_endian}
-use Rattle.t3_blocks.specs.Appending.{Appends}
+use Rattle.t3_blocks.specs.Appending.{Keeps, Appends}
 use Rattle.t3_blocks.specs.Spelling.{name_of, payload_of}
-use Rattle.t3_blocks.proofs.Appending.{appends}
+use Rattle.t3_blocks.proofs.Appending.{appends, keeps_all}
 use Rattle.t3_image_read.specs.declared.header.BlockHeader.{BlockHeader}
 use Rattle.t3_image_read.specs.declared.image.Head.{Head}
 use Rattle.t3_image_read.specs.declared.image.PlacedBlock.{PlacedBlock}
-use Rattle.t3_image_read.specs.ImageText.{ImageValue, signature, version, head_text, header_text, block_text, front_text, end_header, text}
-use Rattle.t3_image_read.specs.Validity.{IsHeader, IsGood}
+use Rattle.t3_image_read.specs.ImageText.{ImageValue, signature, version, head_text, header_text, header_of, block_text, front_text, end_header, text}
+use Rattle.t3_image_read.specs.Validity.{IsValid}
 use Rattle.t3_image_read.proofs.Headers.{length-header_text}
-use Rattle.t3_image_read.proofs.Blocks.{spellable_name}
+use Rattle.t3_image_read.proofs.Heads.{length-head_text}
+use Rattle.t3_image_read.proofs.Blocks.{IsHeader-end_header}
 
 head_is : (head : Head) → signature ++ (little_endian 2 version ++ (head.reserved ++ head.stamp)) ≡ head_text head
 unfolding head_text
@@ -36,51 +37,18 @@ appends_header old a b new header answer at_a at_b last =
     let sized = appends a b new (little_endian 4 header.size) (little_endian 2 header.flags) answer at_b last in
     subst (λ text. Appends old new text answer) (header_is header) (appends old a new header.name (little_endian 4 header.size ++ little_endian 2 header.flags) answer at_a sized)
 
--- a header behind some bytes and in front of others, with its size apart
-size_apart : (old : List ℕ) (header : BlockHeader) (x : List ℕ) → old ++ (header_text header ++ x) ≡ (old ++ header.name) ++ (little_endian 4 header.size ++ (little_endian 2 header.flags ++ x))
-unfolding header_text
-size_apart old header x = simp append_assoc
-
--- a size that is put into a header
-pub size_put : (old name x all : List ℕ) (start size flags : ℕ) → start ≡ length old → length name ≡ 4
-    → all ≡ old ++ (header_text (record { name = name; size = 0; flags = flags }) ++ x)
-    → take (start + 4) all ++ (little_endian 4 size ++ drop (start + 4 + 4) all) ≡ old ++ (header_text (record { name = name; size = size; flags = flags }) ++ x)
-size_put old name x all start size flags starts four is =
-    let front = old ++ name in
-    let nothing = little_endian 4 0 in
-    let rest = little_endian 2 flags ++ x in
-    let apart : all ≡ front ++ (nothing ++ rest) = is ∙ size_apart old (record { name = name; size = 0; flags = flags }) x in
-    let long : length front ≡ start + 4 = omega (arith, starts, four, length-append old name) in
-    let longer : length (front ++ nothing) ≡ start + 4 + 4 = omega (arith, long, length-append front nothing, length-little_endian 4 0) in
-    let before : take (start + 4) all ≡ front = ap (take (start + 4)) apart ∙ take_at front (nothing ++ rest) (start + 4) long in
-    let behind : drop (start + 4 + 4) all ≡ rest = ap (drop (start + 4 + 4)) (apart ∙ sym (append_assoc front nothing rest)) ∙ drop_at (front ++ nothing) rest (start + 4 + 4) longer in
-    (λ i. before i ++ (little_endian 4 size ++ behind i)) ∙ sym (size_apart old (record { name = name; size = size; flags = flags }) x)
-
--- there is room for the size
-pub has_size : (old a b x name : List ℕ) (start : ℕ) (placed : PlacedBlock) → IsGood placed → start ≡ length old → name ≡ name_of placed.block
-    → a ≡ old ++ header_text (record { name = name; size = 0; flags = placed.flags }) → b ≡ a ++ x → start + 4 + 4 ≤ length b
-has_size old a b x name start placed good starts named at_a at_b =
-    let header : BlockHeader = record { name = name; size = 0; flags = placed.flags } in
-    let four : length name ≡ 4 = ap length named ∙ spellable_name placed.block good.spellable in
-    let fits : IsHeader header = record { name = four; size = omega arith; flags = good.flags } in
-    let long_a : length a ≡ length old + length (header_text header) = ap length at_a ∙ length-append old (header_text header) in
-    let long_b : length b ≡ length a + length x = ap length at_b ∙ length-append a x in
-    omega (arith, starts, long_a, long_b, length-header_text header fits)
-
--- a block whose size was put into its header
-pub placed_put : (old a b bytes name : List ℕ) (start size : ℕ) (placed : PlacedBlock) → IsGood placed → start ≡ length old → name ≡ name_of placed.block
-    → a ≡ old ++ header_text (record { name = name; size = 0; flags = placed.flags }) → b ≡ a ++ payload_of placed.block → size ≡ length b - length a
-    → bytes ≡ take (start + 4) b ++ (little_endian 4 size ++ drop (start + 4 + 4) b) → bytes ≡ old ++ block_text placed
+-- a block's header, and its payload
+pub appends_placed : {T E : Type 0} (old mid new name : List ℕ) (size : ℕ) (placed : PlacedBlock) (answer : Result T E) → name ≡ name_of placed.block → size ≡ length (payload_of placed.block)
+    → mid ≡ old ++ header_text (record { name = name; size = size; flags = placed.flags }) → Appends mid new (payload_of placed.block) answer → Appends old new (block_text placed) answer
 unfolding block_text
-placed_put old a b bytes name start size placed good starts named at_a at_b sized put =
-    let payload = payload_of placed.block in
-    let header : BlockHeader = record { name = name; size = 0; flags = placed.flags } in
-    let four : length name ≡ 4 = ap length named ∙ spellable_name placed.block good.spellable in
-    let whole : b ≡ old ++ (header_text header ++ payload) = at_b ∙ ap (λ f. f ++ payload) at_a ∙ append_assoc old (header_text header) payload in
-    let long : length b ≡ length a + length payload = ap length at_b ∙ length-append a payload in
-    let size_is : size ≡ length payload = omega (arith, sized, long) in
-    put ∙ size_put old name payload b start size placed.flags starts four whole
-    ∙ (λ i. old ++ (header_text (record { name = named i; size = size_is i; flags = placed.flags }) ++ payload))
+appends_placed old mid new name size placed answer named sized headed last =
+    let header = headed ∙ (λ i. old ++ header_text (record { name = named i; size = sized i; flags = placed.flags })) in
+    appends old mid new (header_text (header_of placed)) (payload_of placed.block) answer header last
+
+-- an answer that appends a text, or leaves what was there
+pub appends_or_leaves : {T E : Type 0} (old new text : List ℕ) (answer : Result T E) → IfOk answer (λ _. new ≡ old ++ text) → IfErr answer (λ _. new ≡ old) → Appends old new text answer
+appends_or_leaves old new text (Ok done) appended left = appended
+appends_or_leaves old new text (Err refusal) appended left = subst (Keeps old) (sym left) (keeps_all old)
 
 -- what was written over a whole list
 pub all_over : {X : Type 0} (new old : List X) (long : ℕ) → length new ≡ long → take long (new ++ drop (length new) old) ≡ new
@@ -90,3 +58,16 @@ all_over new old long is = take_at new (drop (length new) old) long is
 pub text_is : (image : ImageValue) (a b c : List ℕ) → a ≡ [] ++ head_text image.head → b ≡ a ++ flat_map block_text image.blocks → c ≡ b ++ header_text (end_header image.eof_flags) → c ≡ text image
 unfolding text front_text
 text_is image a b c at_a at_b at_c = at_c ∙ ap (λ x. x ++ header_text (end_header image.eof_flags)) (at_b ∙ ap (λ x. x ++ flat_map block_text image.blocks) at_a)
+
+pub length-parts : (image : ImageValue) → length (text image) ≡ length (head_text image.head) + length (flat_map block_text image.blocks) + length (header_text (end_header image.eof_flags))
+unfolding text front_text
+length-parts image =
+    let blocks = flat_map block_text image.blocks in
+    omega (arith, length-append (head_text image.head ++ blocks) (header_text (end_header image.eof_flags)), length-append (head_text image.head) blocks)
+
+-- an image is the header, its blocks, and the end
+pub length-text : (image : ImageValue) → IsValid image → length (text image) ≡ 69 + length (flat_map block_text image.blocks) + 10
+length-text image valid = omega (arith, length-parts image, length-head_text image.head valid.head, length-header_text (end_header image.eof_flags) (IsHeader-end_header image.eof_flags valid.eof_flags))
+
+pub small_text : (image : ImageValue) → IsValid image → length (flat_map block_text image.blocks) < 2 ^ 32
+small_text image valid = let near = valid.size in omega (arith, length-text image valid)

@@ -1,18 +1,18 @@
 -- An image under another mask has the lengths that it had, and stays valid.
 use Rattle.std.proofs.Common.{◌≡◌, ℕ, ◌+◌, ◌<◌, ◌≤◌, List, [], ◌∷◌, ◌++◌, length, map, take, drop, get_or, set, refl, sym, ap, subst, ◌∙◌, false, arith}
-use Rattle.std.specs.Int.Bits.{bit_xor}
 use Rattle.std.specs.List.{flat_map, AllByRecursion}
 use Rattle.std.proofs.lemmas.List.{length-append, length-map, append-nil, take_all, drop_all}
 use Rattle.std.proofs.lemmas.List.Edits.{map_over_more}
-use Rattle.t3_holder.specs.NumberText.{little_endian}
 use Rattle.t3_blocks.specs.BlockName.{is_unknown_mandatory}
-use Rattle.t3_blocks.specs.Spelling.{name_of, payload_of, masked, IsSpellable}
+use Rattle.t3_blocks.specs.Spelling.{name_of, payload_of, IsSpellable}
 use Rattle.t3_blocks.specs.declared.block.Block.{Block}
 use Rattle.t3_blocks.specs.declared.block.Block.TheVariants.{Entry, PoolDef, Page, Functions, Metas, Objects, Symbols, Opaque}
 use Rattle.t3_image_read.specs.declared.image.PlacedBlock.{PlacedBlock}
-use Rattle.t3_image_read.specs.ImageText.{ImageValue, head_text, header_text, block_text, front_text, end_header, text}
+use Rattle.t3_image_read.specs.ImageText.{ImageValue, block_text}
 use Rattle.t3_image_read.specs.Validity.{IsGood, IsValid}
 use Rattle.t3_image_read.proofs.Blocks.{length-block_text}
+use Rattle.t3_blocks.proofs.Sizes.{length_page}
+use Rattle.t3_image_write.proofs.Parts.{length-parts}
 use Rattle.t3_image_write.specs.Masks.{remasked_block, remasked_placed, remasked}
 
 name_of-remasked : (mask : ℕ) (block : Block) → name_of (remasked_block mask block) ≡ name_of block
@@ -25,17 +25,10 @@ name_of-remasked mask (Objects metaclass flags objects) = refl
 name_of-remasked mask (Symbols symbols) = refl
 name_of-remasked mask (Opaque name bytes) = refl
 
-length-page : (pool index mask : ℕ) (bytes : List ℕ) → length (payload_of (Page pool index mask bytes)) ≡ length (little_endian 2 pool) + length (little_endian 4 index) + 1 + length bytes
-unfolding payload_of
-length-page pool index mask bytes =
-    let here = mask ∷ masked mask bytes in
-    let under : length (masked mask bytes) ≡ length bytes = length-map bytes (λ byte. bit_xor byte mask) in
-    omega (arith, under, length-append (little_endian 2 pool) (little_endian 4 index ++ here), length-append (little_endian 4 index) here)
-
 length-remasked : (mask : ℕ) (block : Block) → length (payload_of (remasked_block mask block)) ≡ length (payload_of block)
 length-remasked mask (Entry code method_size exception_size debug tail) = refl
 length-remasked mask (PoolDef pool count size) = refl
-length-remasked mask (Page pool index own bytes) = omega (arith, length-page pool index mask bytes, length-page pool index own bytes)
+length-remasked mask (Page pool index own bytes) = omega (arith, length_page pool index mask bytes, length_page pool index own bytes)
 length-remasked mask (Functions names) = refl
 length-remasked mask (Metas metas) = refl
 length-remasked mask (Objects metaclass flags objects) = refl
@@ -73,12 +66,6 @@ length-blocks mask [] fits good = refl
 length-blocks mask (placed ∷ blocks) fits good =
     let after = map (remasked_placed mask) blocks in
     omega (arith, length-append (block_text placed) (flat_map block_text blocks), length-append (block_text (remasked_placed mask placed)) (flat_map block_text after), length-block mask placed fits good.0, length-blocks mask blocks fits good.1)
-
-length-parts : (image : ImageValue) → length (text image) ≡ length (head_text image.head) + length (flat_map block_text image.blocks) + length (header_text (end_header image.eof_flags))
-unfolding text front_text
-length-parts image =
-    let blocks = flat_map block_text image.blocks in
-    omega (arith, length-append (head_text image.head ++ blocks) (header_text (end_header image.eof_flags)), length-append (head_text image.head) blocks)
 
 pub IsValid-remasked : (mask : ℕ) (image : ImageValue) → mask < 256 → IsValid image → IsValid (remasked mask image)
 IsValid-remasked mask image fits valid = record {

@@ -4,6 +4,7 @@
 mod append;
 mod laws;
 mod masking;
+mod size;
 #[cfg(test)]
 mod tests;
 mod write;

@@ -16,7 +16,7 @@ const OTHERS: [&[u8]; 8] = [
     b"ZZZZ\x03\0\0\0\xFE\xFF\x01\x02\x03",
 ];
 
-/// The page AB 0D under the mask FF.
+/// The page 54 F2 under the mask FF.
 const MASKED: &[u8] = b"CPPG\x09\0\0\0\x01\0\x01\0\0\0\0\0\xFF\xAB\x0D";
 
 /// The same page under no mask.

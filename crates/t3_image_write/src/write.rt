@@ -5,6 +5,7 @@ ghost use Rattle.t3_image_read.specs.ImageText.{block_text, text};
 ghost use Rattle.t3_image_read.specs.Validity.{IsGood};
 
 use crate::append::{append_end, append_head, append_placed};
+use crate::size::text_size;
 use std::alloc::Global;
 use t3_holder::NoMemory;
 use t3_image_read::{Image, Placed};
@@ -16,7 +17,7 @@ use t3_image_read::{Image, Placed};
 pub fn write_image(alloc: Global, image: &Image) -> Result<Vec<u8>, NoMemory>
     ensures { IfOk result (λ bytes. bytes.items ≡ text image.now) }
 {
-    let mut out = Vec::new(alloc);
+    let mut out = Vec::with_capacity(alloc, text_size(image))?;
     append_head(image.head, &mut out)?;
     append_blocks(&image.blocks, &mut out)?;
     append_end(image.eof_flags, &mut out)?;

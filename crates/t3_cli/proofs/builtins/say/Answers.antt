@@ -1,7 +1,7 @@
 use Rattle.std.proofs.Common.{◌-◌, arith}
 use Rattle.std.specs.Prelude.{string_bytes}
 use Rattle.t3_cli.specs.Instructions.{said_text}
-use Rattle.t3_cli.proofs.Saying.{says_none, says_more, saying_faults, has_none, has_some}
+use Rattle.t3_cli.proofs.Saying.{says_none, saying_faults, has_none}
 use Rattle.t3_cli.proofs.builtins.say.Goals as goal
 
 pub returns-then-not-branch : goal.returns-then-not-branch

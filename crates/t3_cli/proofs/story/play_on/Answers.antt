@@ -1,4 +1,4 @@
-use Rattle.std.proofs.Common.{◌≡◌, ◌-◌, ◌∙◌, List, ℕ, not, length, Err, Ok, ap, arith, subst, sym}
+use Rattle.std.proofs.Common.{◌≡◌, ◌-◌, ◌∙◌, List, ℕ, not, length, Err, Ok, ap, arith, subst}
 use Rattle.std.proofs.lemmas.Result.{err_from_is_err_and}
 use Rattle.t3_cli.specs.declared.turn.Event.TheVariants.{Went, Said, Ended}
 use Rattle.t3_cli.specs.Lines.{is_nonempty}

@@ -1,11 +1,10 @@
-use Rattle.std.proofs.Common.{◌≡◌, Some, refl, sym, ap, subst, ◌∙◌, arith}
+use Rattle.std.proofs.Common.{refl, sym, subst, arith}
 use Rattle.std.specs.Prelude.{IfSome, map, string_bytes}
-use Rattle.t3_cli.specs.declared.status.Status.TheVariants.{Done, Absent, ImageRefused, LoadRefused, Unhandled, BadCode, StepLimit}
 use Rattle.t3_cli.specs.Command.{view, command}
-use Rattle.t3_cli.specs.Top.{Told}
+use Rattle.t3_cli.specs.Top.{CutsShort, IsWholeOfFiles, Told}
 use Rattle.t3_cli.specs.Checking.{GivesStatus, Stands}
 use Rattle.t3_cli.proofs.Commands.{names_fit}
-use Rattle.t3_cli.proofs.Outcomes.{usage_stands, usage_status, whole_of, front_of, told_whole, not_yields, usage_says, usage_no_depot, usage_no_console}
+use Rattle.t3_cli.proofs.Outcomes.{usage_stands, usage_status, usage_whole, whole_of, front_of, told_whole, not_yields, usage_says, usage_no_depot, usage_no_console}
 use Rattle.t3_cli.proofs.Causes.{absent_comes, refused_comes, unloaded_comes, unhandled_comes, bad_code_comes, step_limit_comes, done_comes}
 use Rattle.t3_cli.proofs.top.t3_main.Goals as goal
 
@@ -40,11 +39,19 @@ returns-in-None-clause-complete g c no_depot no_console memory =
     let not = not_yields c.end.result (usage_no_depot (g.C.Console.session c.args.console.now) (g.C.Console.session c.end.new.console) _ c.end.result c.end.ensures.shown) (λ e. usage_no_console _ _ no_console (c.end.ensures.cause e)) memory in
     told_whole (command (map string_bytes c.args.words.now)) (g.D.Depot.files c.args.depot.now) (g.C.Console.session c.args.console.now) (g.C.Console.session c.end.new.console) c.end.result (g.D.Depot.files c.args.depot.now) not (whole_of (command (map string_bytes c.args.words.now)) (g.D.Depot.files c.args.depot.now) (g.C.Console.session c.args.console.now) (g.C.Console.session c.end.new.console) c.end.result (g.D.Depot.files c.args.depot.now) (no_command g c))
 
+pub returns-in-None-clause-whole_files : goal.returns-in-None-clause-whole_files
+returns-in-None-clause-whole_files g c =
+    let all = g.D.Depot.files c.args.depot.now in
+    subst (λ asked. IfSome all (λ files. ¬ CutsShort c.end.result → IsWholeOfFiles asked files c.end.result all)) c.in-None.ensures (usage_whole all (g.C.Console.session c.args.console.now) (g.C.Console.session c.end.new.console) c.end.result c.end.ensures.shown)
+
 pub returns-in-None-clause-usage_shown : goal.returns-in-None-clause-usage_shown
 returns-in-None-clause-usage_shown g c = usage_says (g.C.Console.session c.args.console.now) (g.C.Console.session c.end.new.console) c.end.result c.end.ensures.shown
 
 pub carry_out-requires-clause-name : goal.carry_out-requires-clause-name
-carry_out-requires-clause-name g c = names_fit (map string_bytes c.args.words.now) (view c.in-Some.command) (sym c.in-Some.ensures)
+carry_out-requires-clause-name g c = (names_fit (map string_bytes c.args.words.now) (view c.in-Some.command) (sym c.in-Some.ensures)).input
+
+pub carry_out-requires-clause-out : goal.carry_out-requires-clause-out
+carry_out-requires-clause-out g c = (names_fit (map string_bytes c.args.words.now) (view c.in-Some.command) (sym c.in-Some.ensures)).output
 
 pub returns-in-Some-clause-whole : goal.returns-in-Some-clause-whole
 returns-in-Some-clause-whole g c = whole_of (command (map string_bytes c.args.words.now)) (g.D.Depot.files c.args.depot.now) (g.C.Console.session c.args.console.now) (g.C.Console.session c.carry_out.new.console) c.carry_out.result (g.D.Depot.files c.carry_out.new.depot) (carried g c)

@@ -1,6 +1,6 @@
 use Rattle.std.proofs.Common.{◌*◌, ℕ, length, ap, arith}
 use Rattle.t3_blocks.proofs.Appending.{length-meta_body}
-use Rattle.t3_blocks.proofs.append.entry_size.Goals as goal
+use Rattle.t3_blocks.proofs.size.entry_size.Goals as goal
 
 pub overflow_cast-result : goal.overflow_cast-result
 overflow_cast-result c =
