@@ -1,6 +1,6 @@
 #!/bin/sh
-# Makes the sample images: one with a block that is kept as bytes, a story that says 42, and one with a
-# block of every kind.
+# Makes the sample images: one with a block that is kept as bytes, one that is refused, a story that
+# says 42, and one with a block of every kind.
 set -eu
 cd "$(dirname "$0")"
 
@@ -20,6 +20,13 @@ end_bytes() {
     printf 'ZZZZ\003\000\000\000\000\000\001\002\003'
     end_bytes
 } > sample.t3
+
+{
+    head_bytes
+    # A list that says that it has two names, and has one.
+    printf 'FNSD\021\000\000\000\001\000\002\000\016tads-io/030007'
+    end_bytes
+} > list.t3
 
 {
     head_bytes

@@ -107,11 +107,19 @@ fn append_numbers(numbers: &[u16], out: &mut Vec<u8>) -> Result<(), NoMemory>
 fn append_masked(bytes: &[u8], mask: u8, out: &mut Vec<u8>) -> Result<(), NoMemory>
     ensures { Appends out.old.items out.new.items (masked mask bytes.now) result }
 {
-    out.reserve(bytes.len())?;
-    for byte in bytes {
-        out.push(*byte ^ mask)?;
-    }
+    let start = out.len();
+    out.extend_from_slice(bytes)?;
+    lay_mask(&mut out[start..], mask);
     Ok(())
+}
+
+/// Lays a mask on each byte.
+fn lay_mask(bytes: &mut [u8], mask: u8)
+    ensures { bytes.new ≡ masked mask bytes.old }
+{
+    for byte in bytes.iter_mut() {
+        *byte ^= mask;
+    }
 }
 
 fn append_name(name: &[u8], out: &mut Vec<u8>) -> Result<(), NoMemory>

@@ -4,7 +4,7 @@ use Rattle.std.specs.Prelude.{codes}
 use Rattle.std.specs.Option.{option_map, option_and_then}
 use Rattle.std.specs.Str.{bytes_eq}
 use Rattle.t3_holder.specs.FileName.{is_file_name, IsFileName}
-use Rattle.t3_cli.specs.Command.{Asked, Check, Show, Run, Rewrite, default_steps, steps_option, mask_option, named, rewriting, with_second, with_third, command}
+use Rattle.t3_cli.specs.Command.{Asked, Check, Show, Run, Rewrite, steps_of, mask_of, file_name, only_name, running, rewriting, command}
 use Rattle.t3_cli.specs.Outcome.{input_file}
 use Rattle.t3_cli.specs.Checking.{HasGoodOutput}
 
@@ -15,79 +15,72 @@ pub record NamesFit (asked : Asked) : Type 0 where
   pub input : IsFileName (input_file asked)
   pub output : HasGoodOutput asked
 
--- the command reads the file of this name
-record Reads (name : List ℕ) (asked : Asked) : Type 0 where
-  input : name ≡ input_file asked
-  output : HasGoodOutput asked
+-- what is made of a value is made of one that there is
+record IsMadeOf {A : Type 0} (good : A → Type 0) (o : Option A) : Type 0 where
+  value : A
+  there : o ≡ Some value
+  makes : good value
 
-both : (fits : Bool) (found : Option Asked) (asked : Asked) → cond fits found None ≡ Some asked → (fits ≡ true) × (found ≡ Some asked)
-both true found asked is = (refl, is)
-both false found asked is = absurd cc
+of_map : {A B : Type 0} (f : A → B) (o : Option A) (b : B) → option_map f o ≡ Some b → IsMadeOf (λ a. f a ≡ b) o
+of_map f (Some a) b is = record { value = a; there = refl; makes = cc }
+of_map f None b is = absurd cc
 
-of_same : (name : List ℕ) (found asked : Asked) → Reads name found → Some found ≡ Some asked → Reads name asked
-of_same name found asked reads is = let same : found ≡ asked = cc in subst (Reads name) same reads
+of_then : {A B : Type 0} (f : A → Option B) (o : Option A) (b : B) → option_and_then f o ≡ Some b → IsMadeOf (λ a. f a ≡ Some b) o
+of_then f (Some a) b is = record { value = a; there = refl; makes = is }
+of_then f None b is = absurd cc
 
-by_tests : (check show run : Bool) (name : List ℕ) (asked : Asked) → cond check (Some (Check name)) (cond show (Some (Show name)) (cond run (Some (Run name default_steps)) None)) ≡ Some asked → Reads name asked
-by_tests true show run name asked is = of_same name (Check name) asked (record { input = refl; output = tt }) is
-by_tests false true run name asked is = of_same name (Show name) asked (record { input = refl; output = tt }) is
-by_tests false false true name asked is = of_same name (Run name default_steps) asked (record { input = refl; output = tt }) is
-by_tests false false false name asked is = absurd cc
+file_fits : (word name : List ℕ) → file_name word ≡ Some name → IsFileName name
+file_fits word name is = by (is_file_name word) refl is
+  where
+    by : (good : Bool) → is_file_name word ≡ good → cond good (Some word) None ≡ Some name → IsFileName name
+    by true good same = let one : word ≡ name = cc in subst IsFileName one good
+    by false good same = absurd cc
 
-by_steps : (steps : Option ℕ) (name : List ℕ) (asked : Asked) → option_map (Run name) steps ≡ Some asked → Reads name asked
-by_steps (Some steps) name asked is = of_same name (Run name steps) asked (record { input = refl; output = tt }) is
-by_steps None name asked is = absurd cc
+only_fits : (words : List (List ℕ)) (name : List ℕ) → only_name words ≡ Some name → IsFileName name
+only_fits [] name is = absurd cc
+only_fits (word ∷ []) name is = file_fits word name is
+only_fits (word ∷ more ∷ words) name is = absurd cc
 
-by_output : (name out : List ℕ) (mask : Option ℕ) (asked : Asked) → rewriting name out mask ≡ Some asked → Reads name asked
-by_output name out mask asked is =
-    let parts = both (is_file_name out) (Some (Rewrite name out mask)) asked is in
-    of_same name (Rewrite name out mask) asked (record { input = refl; output = parts.0 }) parts.1
+check_fits : (words : List (List ℕ)) (asked : Asked) → option_map Check (only_name words) ≡ Some asked → NamesFit asked
+check_fits words asked is =
+    let made = of_map Check (only_name words) asked is in
+    subst NamesFit made.makes (record { input = only_fits words made.value made.there; output = tt })
 
-by_second : (run rewrite : Bool) (steps : Option ℕ) (name out : List ℕ) (asked : Asked) → cond run (option_map (Run name) steps) (cond rewrite (rewriting name out None) None) ≡ Some asked → Reads name asked
-by_second true rewrite steps name out asked is = by_steps steps name asked is
-by_second false true steps name out asked is = by_output name out None asked is
-by_second false false steps name out asked is = absurd cc
+show_fits : (words : List (List ℕ)) (asked : Asked) → option_map Show (only_name words) ≡ Some asked → NamesFit asked
+show_fits words asked is =
+    let made = of_map Show (only_name words) asked is in
+    subst NamesFit made.makes (record { input = only_fits words made.value made.there; output = tt })
 
-by_mask : (mask : Option ℕ) (name out : List ℕ) (asked : Asked) → option_and_then (λ mask. rewriting name out (Some mask)) mask ≡ Some asked → Reads name asked
-by_mask (Some mask) name out asked is = by_output name out (Some mask) asked is
-by_mask None name out asked is = absurd cc
+run_fits : (words : List (List ℕ)) (asked : Asked) → running words ≡ Some asked → NamesFit asked
+run_fits [] asked is = absurd cc
+run_fits (name ∷ options) asked is =
+    let image = of_then (λ image. option_map (Run image) (steps_of options)) (file_name name) asked is in
+    let made = of_map (Run image.value) (steps_of options) asked image.makes in
+    subst NamesFit made.makes (record { input = file_fits name image.value image.there; output = tt })
 
-by_third : (rewrite : Bool) (mask : Option ℕ) (name out : List ℕ) (asked : Asked) → cond rewrite (option_and_then (λ mask. rewriting name out (Some mask)) mask) None ≡ Some asked → Reads name asked
-by_third true mask name out asked is = by_mask mask name out asked is
-by_third false mask name out asked is = absurd cc
+rewrite_fits : (words : List (List ℕ)) (asked : Asked) → rewriting words ≡ Some asked → NamesFit asked
+rewrite_fits [] asked is = absurd cc
+rewrite_fits (name ∷ []) asked is = absurd cc
+rewrite_fits (name ∷ second ∷ options) asked is =
+    let image = of_then (λ image. option_and_then (λ out. option_map (Rewrite image out) (mask_of options)) (file_name second)) (file_name name) asked is in
+    let out = of_then (λ out. option_map (Rewrite image.value out) (mask_of options)) (file_name second) asked image.makes in
+    let made = of_map (Rewrite image.value out.value) (mask_of options) asked out.makes in
+    subst NamesFit made.makes (record { input = file_fits name image.value image.there; output = file_fits second out.value out.there })
 
-fit : (name : List ℕ) (asked : Asked) → is_file_name name ≡ true → Reads name asked → NamesFit asked
-fit name asked good reads = record { input = subst IsFileName reads.input good; output = reads.output }
+by_verb : (check show run rewrite : Bool) (words : List (List ℕ)) (asked : Asked) → cond check (option_map Check (only_name words)) (cond show (option_map Show (only_name words)) (cond run (running words) (cond rewrite (rewriting words) None))) ≡ Some asked → NamesFit asked
+by_verb true show run rewrite words asked is = check_fits words asked is
+by_verb false true run rewrite words asked is = show_fits words asked is
+by_verb false false true rewrite words asked is = run_fits words asked is
+by_verb false false false true words asked is = rewrite_fits words asked is
+by_verb false false false false words asked is = absurd cc
 
 pub names_fit : (words : List (List ℕ)) (asked : Asked) → command words ≡ Some asked → NamesFit asked
 names_fit [] asked is = absurd cc
-names_fit (verb ∷ []) asked is = absurd cc
-names_fit (verb ∷ name ∷ []) asked is =
-    let parts = both (is_file_name name) (named verb name) asked is in
-    fit name asked parts.0 (by_tests (bytes_eq verb (codes "check")) (bytes_eq verb (codes "show")) (bytes_eq verb (codes "run")) name asked parts.1)
-names_fit (verb ∷ name ∷ second ∷ []) asked is =
-    let parts = both (is_file_name name) (with_second verb name second) asked is in
-    fit name asked parts.0 (by_second (bytes_eq verb (codes "run")) (bytes_eq verb (codes "rewrite")) (steps_option second) name second asked parts.1)
-names_fit (verb ∷ name ∷ second ∷ third ∷ []) asked is =
-    let parts = both (is_file_name name) (with_third verb name second third) asked is in
-    fit name asked parts.0 (by_third (bytes_eq verb (codes "rewrite")) (mask_option third) name second asked parts.1)
-names_fit (verb ∷ name ∷ second ∷ third ∷ more ∷ words) asked is = absurd cc
+names_fit (verb ∷ words) asked is = by_verb (bytes_eq verb (codes "check")) (bytes_eq verb (codes "show")) (bytes_eq verb (codes "run")) (bytes_eq verb (codes "rewrite")) words asked is
 
 -- ---- words that are no command
 
-pub few_words : {A : Type 0} (f : A → List ℕ) (words : List A) → length words < 2 → None ≡ command (map f words)
-few_words f [] few = refl
-few_words f (verb ∷ []) few = refl
-few_words f (verb ∷ name ∷ words) few = absurd (omega arith)
-
-pub many_words : {A : Type 0} (f : A → List ℕ) (words : List A) → 4 < length words → None ≡ command (map f words)
-many_words f [] many = refl
-many_words f (verb ∷ []) many = refl
-many_words f (verb ∷ name ∷ []) many = absurd (omega arith)
-many_words f (verb ∷ name ∷ second ∷ []) many = absurd (omega arith)
-many_words f (verb ∷ name ∷ second ∷ third ∷ []) many = absurd (omega arith)
-many_words f (verb ∷ name ∷ second ∷ third ∷ more ∷ words) many = refl
-
-pub other_second : {A : Type 0} (run rewrite : Bool) (a b : Option A) → (run ≡ true → ⊥) → (rewrite ≡ true → ⊥) → None ≡ cond run a (cond rewrite b None)
-other_second true rewrite a b no_run no_rewrite = absurd (no_run refl)
-other_second false true a b no_run no_rewrite = absurd (no_rewrite refl)
-other_second false false a b no_run no_rewrite = refl
+pub one_name : {A : Type 0} (f : A → List ℕ) (words : List A) → length words < 2 → None ≡ rewriting (map f words)
+one_name f [] few = refl
+one_name f (name ∷ []) few = refl
+one_name f (name ∷ second ∷ words) few = absurd (omega arith)

@@ -33,31 +33,46 @@ steps_option word = if bytes_eq (take 8 word) (codes "--steps=") then positive_o
 abbrev pub mask_option : List ℕ → Option ℕ
 mask_option word = if bytes_eq (take 7 word) (codes "--mask=") then byte_of (drop 7 word) else None
 
--- a command that has one name
-abbrev pub named : List ℕ → List ℕ → Option Asked
-named verb name =
-    if bytes_eq verb (codes "check") then Some (Check name)
-    else (if bytes_eq verb (codes "show") then Some (Show name)
-    else (if bytes_eq verb (codes "run") then Some (Run name default_steps) else None))
+-- the steps of a run: those of its option, if it has one
+abbrev pub steps_of : List (List ℕ) → Option ℕ
+steps_of [] = Some default_steps
+steps_of (option ∷ []) = steps_option option
+steps_of _ = None
 
--- a rewriting, if a file may have the name to which it is put
-abbrev pub rewriting : List ℕ → List ℕ → Option ℕ → Option Asked
-rewriting name out mask = if is_file_name out then Some (Rewrite name out mask) else None
+-- the mask of a rewriting: that of its option, if it has one
+abbrev pub mask_of : List (List ℕ) → Option (Option ℕ)
+mask_of [] = Some None
+mask_of (option ∷ []) = option_map Some (mask_option option)
+mask_of _ = None
 
--- a command that has a name and one word more: an option, or a second name
-abbrev pub with_second : List ℕ → List ℕ → List ℕ → Option Asked
-with_second verb name second =
-    if bytes_eq verb (codes "run") then option_map (Run name) (steps_option second)
-    else (if bytes_eq verb (codes "rewrite") then rewriting name second None else None)
+-- a word, if a file may have that name
+abbrev pub file_name : List ℕ → Option (List ℕ)
+file_name word = if is_file_name word then Some word else None
 
--- a command that has two names and an option
-abbrev pub with_third : List ℕ → List ℕ → List ℕ → List ℕ → Option Asked
-with_third verb name out option =
-    if bytes_eq verb (codes "rewrite") then option_and_then (λ mask. rewriting name out (Some mask)) (mask_option option) else None
+-- one name, and nothing behind it
+abbrev pub only_name : List (List ℕ) → Option (List ℕ)
+only_name (name ∷ []) = file_name name
+only_name _ = None
 
--- the command that the words are, if they are one
+-- a name, and options
+abbrev pub running : List (List ℕ) → Option Asked
+running [] = None
+running (name ∷ options) = option_and_then (λ image. option_map (Run image) (steps_of options)) (file_name name)
+
+-- two names, and options
+abbrev pub rewriting : List (List ℕ) → Option Asked
+rewriting (name ∷ second ∷ options) = option_and_then (λ image. option_and_then (λ out. option_map (Rewrite image out) (mask_of options)) (file_name second)) (file_name name)
+rewriting _ = None
+
+-- what comes behind each verb
+abbrev pub command_of : List ℕ → List (List ℕ) → Option Asked
+command_of verb words =
+    if bytes_eq verb (codes "check") then option_map Check (only_name words)
+    else (if bytes_eq verb (codes "show") then option_map Show (only_name words)
+    else (if bytes_eq verb (codes "run") then running words
+    else (if bytes_eq verb (codes "rewrite") then rewriting words else None)))
+
+-- the command that the words are, if they are one: a verb, names in order, and options
 abbrev pub command : List (List ℕ) → Option Asked
-command (verb ∷ name ∷ []) = if is_file_name name then named verb name else None
-command (verb ∷ name ∷ second ∷ []) = if is_file_name name then with_second verb name second else None
-command (verb ∷ name ∷ second ∷ third ∷ []) = if is_file_name name then with_third verb name second third else None
-command _ = None
+command [] = None
+command (verb ∷ words) = command_of verb words

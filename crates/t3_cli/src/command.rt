@@ -1,7 +1,7 @@
 //! The words of the command line.
 ghost use Rattle.std.specs.Prelude.{◌≡◌, map, string_bytes};
-ghost use Rattle.std.specs.Option.{option_map};
-ghost use Rattle.t3_cli.specs.Command.{view, command, named as named_by, with_second as with_second_by, with_third as with_third_by, rewriting as rewriting_by, steps_option as steps_by, mask_option as mask_by};
+ghost use Rattle.std.specs.Option.{option_map, option_copied};
+ghost use Rattle.t3_cli.specs.Command.{Check, Show, view, command, running, rewriting, only_name as only_name_of, file_name as file_name_of, steps_of, mask_of, steps_option as steps_by, mask_option as mask_by};
 ghost use Rattle.t3_cli.specs.Outcome.{input_file};
 
 use crate::file_name::is_file_name;
@@ -44,17 +44,14 @@ impl<'w> Command<'w> {
     pub(crate) fn parse(words: &'w [String]) -> Option<Command<'w>>
         ensures { option_map view result ≡ command (map string_bytes words.now) }
     {
-        let [verb, name, more @ ..] = words else {
+        let [verb, words @ ..] = words else {
             return None;
         };
-        if !is_file_name(name.as_bytes()) {
-            return None;
-        }
-        let (verb, name) = (verb.as_str(), name.as_str());
-        match more {
-            [] => named(verb, name),
-            [second] => with_second(verb, name, second.as_str()),
-            [second, third] => with_third(verb, name, second.as_str(), third.as_str()),
+        match verb.as_str() {
+            "check" => check(words),
+            "show" => show(words),
+            "run" => run(words),
+            "rewrite" => rewrite(words),
             _ => None,
         }
     }
@@ -72,54 +69,84 @@ impl<'w> Command<'w> {
     }
 }
 
-/// The command that has one name.
-fn named<'w>(verb: &str, image: &'w str) -> Option<Command<'w>>
-    ensures { option_map view result ≡ named_by verb.now image.now }
+fn check<'w>(words: &'w [String]) -> Option<Command<'w>>
+    ensures { option_map view result ≡ option_map Check (only_name_of (map string_bytes words.now)) }
 {
-    match verb {
-        "check" => Some(Command::Check { image }),
-        "show" => Some(Command::Show { image }),
-        "run" => Some(Command::Run {
-            image,
-            steps: DEFAULT_STEPS,
-        }),
-        _ => None,
-    }
+    let image = only_name(words)?;
+    Some(Command::Check { image })
 }
 
-/// The command that has a name and one word more: an option, or a second name.
-fn with_second<'w>(verb: &str, image: &'w str, second: &'w str) -> Option<Command<'w>>
-    ensures { option_map view result ≡ with_second_by verb.now image.now second.now }
+fn show<'w>(words: &'w [String]) -> Option<Command<'w>>
+    ensures { option_map view result ≡ option_map Show (only_name_of (map string_bytes words.now)) }
 {
-    match verb {
-        "run" => {
-            let steps = steps_option(second)?;
-            Some(Command::Run { image, steps })
-        }
-        "rewrite" => rewriting(image, second, None),
-        _ => None,
-    }
+    let image = only_name(words)?;
+    Some(Command::Show { image })
 }
 
-/// The command that has two names and an option.
-fn with_third<'w>(verb: &str, image: &'w str, out: &'w str, option: &str) -> Option<Command<'w>>
-    ensures { option_map view result ≡ with_third_by verb.now image.now out.now option.now }
+fn run<'w>(words: &'w [String]) -> Option<Command<'w>>
+    ensures { option_map view result ≡ running (map string_bytes words.now) }
 {
-    if verb != "rewrite" {
+    let [image, options @ ..] = words else {
         return None;
-    }
-    let mask = mask_option(option)?;
-    rewriting(image, out, Some(mask))
+    };
+    let image = file_name(image.as_str())?;
+    let steps = steps(options)?;
+    Some(Command::Run { image, steps })
 }
 
-/// The command that writes an image to a file, if one may have that name.
-fn rewriting<'w>(image: &'w str, out: &'w str, mask: Option<u8>) -> Option<Command<'w>>
-    ensures { option_map view result ≡ rewriting_by image.now out.now mask }
+fn rewrite<'w>(words: &'w [String]) -> Option<Command<'w>>
+    ensures { option_map view result ≡ rewriting (map string_bytes words.now) }
 {
-    if !is_file_name(out.as_bytes()) {
+    let [image, out, options @ ..] = words else {
         return None;
-    }
+    };
+    let image = file_name(image.as_str())?;
+    let out = file_name(out.as_str())?;
+    let mask = mask(options)?;
     Some(Command::Rewrite { image, out, mask })
+}
+
+/// The one word that there is, if a file may have that name.
+fn only_name<'w>(words: &'w [String]) -> Option<&'w str>
+    ensures { option_copied result ≡ only_name_of (map string_bytes words.now) }
+{
+    match words {
+        [name] => file_name(name.as_str()),
+        _ => None,
+    }
+}
+
+/// A word, if a file may have that name.
+fn file_name<'w>(word: &'w str) -> Option<&'w str>
+    ensures { option_copied result ≡ file_name_of word.now }
+{
+    if is_file_name(word.as_bytes()) {
+        Some(word)
+    } else {
+        None
+    }
+}
+
+/// The steps of a run: those of its option, if it has one.
+fn steps(options: &[String]) -> Option<u32>
+    ensures { result ≡ steps_of (map string_bytes options.now) }
+{
+    match options {
+        [] => Some(DEFAULT_STEPS),
+        [option] => steps_option(option.as_str()),
+        _ => None,
+    }
+}
+
+/// The mask of a rewriting: that of its option, if it has one.
+fn mask(options: &[String]) -> Option<Option<u8>>
+    ensures { result ≡ mask_of (map string_bytes options.now) }
+{
+    match options {
+        [] => Some(None),
+        [option] => Some(Some(mask_option(option.as_str())?)),
+        _ => None,
+    }
 }
 
 /// The steps that an option gives.

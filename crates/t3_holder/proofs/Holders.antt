@@ -1,6 +1,6 @@
 -- Raw holders and their texts, and which holders they mean.
-use Rattle.std.proofs.Common.{◌≡◌, ℕ, ℤ, pos, negsuc, ◌%◌, ◌^◌, ◌<◌, true, List, [], ◌∷◌, length, take, drop, get_or, refl, sym, ap, ◌∙◌, inl, inr, arith}
-use Rattle.std.specs.Prelude.{◌==◌, if◌then◌else◌, FitsSigned}
+use Rattle.std.proofs.Common.{◌≡◌, ℕ, ◌%◌, ◌^◌, ◌<◌, true, List, [], ◌∷◌, length, take, drop, get_or, refl, sym, ap, ◌∙◌, inl, inr, arith}
+use Rattle.std.specs.Prelude.{◌==◌, if◌then◌else◌}
 use Rattle.std.specs.Int.{w32, cast_signed}
 use Rattle.std.specs.List.{list_any}
 use Rattle.std.proofs.lemmas.Int.{to_z-of_z}
@@ -9,7 +9,7 @@ use Rattle.t3_holder.specs.NumberText.{little_endian, value_of, AreBytes}
 use Rattle.t3_holder.specs.declared.holder.Raw.{Raw}
 use Rattle.t3_holder.specs.declared.holder.Holder.{Holder}
 use Rattle.t3_holder.specs.declared.holder.Holder.TheVariants as holders
-use Rattle.t3_holder.specs.HolderText.{raw_text, twos_complement, tag_of, bits_of, IsRaw, IsHolder, IsGood, Means, meant_tags, IsNoHolder}
+use Rattle.t3_holder.specs.HolderText.{raw_text, tag_of, bits_of, IsRaw, IsHolder, IsGood, Means, meant_tags, IsNoHolder}
 use Rattle.t3_holder.proofs.Numbers.{same_number, value_fits, little_endian-value_of, length-little_endian, four_parts}
 
 -- ---- five bytes
@@ -48,11 +48,6 @@ holder_from tag bits =
     if tag == 12 then holders.Func bits else
     holders.Enum bits)))))))))
 
--- an integer is read from its bits
-pub signed : (number : ℤ) → FitsSigned w32 number → cast_signed w32 (twos_complement number) ≡ number
-signed (pos n) fits = to_z-of_z w32 (pos n) fits
-signed (negsuc n) fits = to_z-of_z w32 (negsuc n) fits
-
 at_tag : (raw : Raw) (holder : Holder) (tag : ℕ) → raw.tag ≡ tag → holder_from tag raw.bits ≡ holder → holder_from raw.tag raw.bits ≡ holder
 at_tag raw holder tag is e = ap (λ t. holder_from t raw.bits) is ∙ e
 
@@ -61,7 +56,7 @@ of_means raw holders.Nil means = at_tag raw holders.Nil 1 means.tag refl
 of_means raw holders.True means = at_tag raw holders.True 2 means.tag refl
 of_means raw (holders.Obj number) means = at_tag raw (holders.Obj number) 5 means.tag (ap holders.Obj means.bits)
 of_means raw (holders.Prop number) means = at_tag raw (holders.Prop number) 6 means.tag (ap holders.Prop means.bits)
-of_means raw (holders.Int number) means = at_tag raw (holders.Int number) 7 means.tag (ap holders.Int (ap (cast_signed w32) means.bits ∙ signed number means.fits))
+of_means raw (holders.Int number) means = at_tag raw (holders.Int number) 7 means.tag (ap holders.Int (ap (cast_signed w32) means.bits ∙ to_z-of_z w32 number means.fits))
 of_means raw (holders.Text address) means = at_tag raw (holders.Text address) 8 means.tag (ap holders.Text means.bits)
 of_means raw (holders.Shown address) means = at_tag raw (holders.Shown address) 9 means.tag (ap holders.Shown means.bits)
 of_means raw (holders.List address) means = at_tag raw (holders.List address) 10 means.tag (ap holders.List means.bits)

@@ -1,6 +1,6 @@
 -- Data holders: their five bytes, and what they mean (the chapter on the image format).
-use Rattle.std.specs.Prelude.{◌≡◌, ℕ, suc, ℤ, pos, negsuc, ◌-◌, ◌%◌, ◌^◌, ◌<◌, ◌⊎◌, false, ◌==◌, List, [], ◌∷◌, FitsSigned}
-use Rattle.std.specs.Int.{w32}
+use Rattle.std.specs.Prelude.{◌≡◌, ℕ, ◌%◌, ◌^◌, ◌<◌, ◌⊎◌, false, ◌==◌, List, [], ◌∷◌, FitsSigned}
+use Rattle.std.specs.Int.{w32, cast_unsigned}
 use Rattle.std.specs.List.{list_any}
 use Rattle.t3_holder.specs.NumberText.{little_endian}
 use Rattle.t3_holder.specs.declared.holder.Raw.{Raw}
@@ -16,11 +16,6 @@ pub record IsRaw (raw : Raw) : Type 0 where
   pub tag : raw.tag < 256
   pub bits : raw.bits < 2 ^ 32
 
--- an integer in 32 bits: a negative one stands as that much below 2 to the power 32
-abbrev pub twos_complement : ℤ → ℕ
-twos_complement (pos n) = n
-twos_complement (negsuc n) = 2 ^ 32 - suc n
-
 -- the number of each type
 abbrev pub tag_of : Holder → ℕ
 tag_of holders.Nil = 1
@@ -35,13 +30,13 @@ tag_of (holders.Code address) = 11
 tag_of (holders.Func address) = 12
 tag_of (holders.Enum number) = 15
 
--- the value of each holder in 32 bits, of which those that its type doesn't use are 0
+-- the value of each holder in 32 bits, of which those that its type doesn't use are 0; what is negative in two's complement
 abbrev pub bits_of : Holder → ℕ
 bits_of holders.Nil = 0
 bits_of holders.True = 0
 bits_of (holders.Obj number) = number
 bits_of (holders.Prop number) = number
-bits_of (holders.Int number) = twos_complement number
+bits_of (holders.Int number) = cast_unsigned w32 number
 bits_of (holders.Text address) = address
 bits_of (holders.Shown address) = address
 bits_of (holders.List address) = address
