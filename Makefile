@@ -14,8 +14,10 @@ build/t3: $(SOURCES)
 	cd crates/t3_cli && rm -f out/t3_cli && { rt run || true; } && test -x out/t3_cli
 	cp crates/t3_cli/out/t3_cli $@
 
-demo: build/t3 examples/answer.t3
-	cd examples && ../build/t3 run answer.t3
+# A first look, within a minute: built without its proofs, and run once.
+demo: examples/answer.t3
+	@echo 'This build is not proved: make proves the program and builds it.'
+	@cd crates/t3_cli && rt try --data answer.t3=../../examples/answer.t3 -- run answer.t3 2>/dev/null
 
 examples/answer.t3: examples/make.sh
 	sh examples/make.sh
@@ -29,8 +31,9 @@ bench: build/t3
 	bench/run
 
 install: build/t3
-	install -d "$(DESTDIR)$(PREFIX)/bin"
+	install -d "$(DESTDIR)$(PREFIX)/bin" "$(DESTDIR)$(PREFIX)/share/man/man1"
 	install -m 755 build/t3 "$(DESTDIR)$(PREFIX)/bin/t3"
+	install -m 644 docs/t3.1 "$(DESTDIR)$(PREFIX)/share/man/man1/t3.1"
 
 clean:
 	rm -rf build

@@ -18,20 +18,22 @@ use Rattle.t3_image_read.specs.ImageText.{ImageValue, text}
 use Rattle.t3_image_read.specs.Refusal.{Refused}
 use Rattle.t3_image_read.specs.Reader.{Reading, Taking, Ended, Failed, RefusesBy, EndsIn, TakesPiece}
 use Rattle.t3_image_read.proofs.Lists.{take_add}
-use Rattle.t3_cli.specs.declared.read.ReadImage.{ReadImage}
-use Rattle.t3_cli.specs.declared.read.ReadImage.TheVariants as read
+use Rattle.t3_cli.specs.declared.images.read.ReadImage.{ReadImage}
+use Rattle.t3_cli.specs.declared.images.read.ReadImage.TheVariants as read
 use Rattle.t3_cli.specs.Outcome.{read_bytes, read_limit}
-use Rattle.t3_cli.specs.Reading.{ReadsBytes, ReadsImage, IsPiece, PieceOf, GivesPiece, Concludes, FrontOf, SoFar, HasRead, used_of, Uses}
+use Rattle.t3_cli.specs.Inner.Reading.{ReadsBytes, ReadsImage, IsPiece, PieceOf, GivesPiece, Concludes, TakesPrefix, TakesSoFar, HasRead, IsFed}
 
 -- ---- one file
 
--- the front and the piece are the front up to the end of the piece
-front_and_piece : (file taken buffer : List ℕ) (at want count : ℕ) → taken ≡ take at file → IsPiece file at want buffer count → taken ++ take count buffer ≡ take (at + count) file
-front_and_piece file taken buffer at want count so_far piece = (λ i. so_far i ++ piece.is i) ∙ sym (take_add at count file)
+-- the prefix and the piece are the prefix up to the end of the piece
+prefix_and_piece : (file taken buffer : List ℕ) (at want count : ℕ) → taken ≡ take at file → IsPiece file at want buffer count
+    → taken ++ take count buffer ≡ take (at + count) file
+prefix_and_piece file taken buffer at want count so_far piece = (λ i. so_far i ++ piece.is i) ∙ sym (take_add at count file)
 
--- a front of the file is one of what is read of it
-front_of_read : (file : List ℕ) (at : ℕ) → at ≤ read_limit → read_bytes file ≡ take at file ++ drop at (read_bytes file)
-front_of_read file at le = sym (take-append-drop at (read_bytes file)) ∙ ap (λ t. t ++ drop at (read_bytes file)) (take-take at read_limit file le)
+-- a prefix of the file is one of what is read of it
+prefix_of_read : (file : List ℕ) (at : ℕ) → at ≤ read_limit → read_bytes file ≡ take at file ++ drop at (read_bytes file)
+prefix_of_read file at le =
+    sym (take-append-drop at (read_bytes file)) ∙ ap (λ t. t ++ drop at (read_bytes file)) (take-take at read_limit file le)
 
 -- a whole file, or all that is read of it
 whole_file : (file : List ℕ) (at : ℕ) → at ≤ read_limit → length file ≤ at → take at file ≡ read_bytes file
@@ -39,12 +41,14 @@ whole_file file at le short = take_all at file short ∙ sym (take_all read_limi
 
 -- ---- the file of a name, if there is one
 
-more_of : (o : Option (List ℕ)) (taken buffer : List ℕ) (at want count : ℕ) → FrontOf o taken at → PieceOf o at want buffer (got.Count count) → FrontOf o (taken ++ take count buffer) (at + count)
+more_of : (o : Option (List ℕ)) (taken buffer : List ℕ) (at want count : ℕ) → TakesPrefix o taken at
+    → PieceOf o at want buffer (got.Count count) → TakesPrefix o (taken ++ take count buffer) (at + count)
 more_of None taken buffer at want count so_far piece = absurd piece
-more_of (Some file) taken buffer at want count so_far piece = front_and_piece file taken buffer at want count so_far piece
+more_of (Some file) taken buffer at want count so_far piece = prefix_and_piece file taken buffer at want count so_far piece
 
-done_of : (o : Option (List ℕ)) (taken buffer : List ℕ) (at want count used : ℕ) (image : ImageValue) → FrontOf o taken at → PieceOf o at want buffer (got.Count count) → length taken ≡ at → count ≤ length buffer → at + want ≤ read_limit
-    → EndsIn taken (take count buffer) used image → ReadsBytes o (read.Image image (at + used))
+done_of : (o : Option (List ℕ)) (taken buffer : List ℕ) (at want count used : ℕ) (image : ImageValue) → TakesPrefix o taken at
+    → PieceOf o at want buffer (got.Count count) → length taken ≡ at → count ≤ length buffer → at + want ≤ read_limit
+    → EndsIn taken (take count buffer) used image → ReadsBytes o (read.Image image)
 done_of None taken buffer at want count used image so_far piece long there near ends = absurd piece
 done_of (Some file) taken buffer at want count used image so_far piece long there near ends =
     let within : used ≤ count = omega (arith, ends.within, length-take-le count buffer there) in
@@ -52,69 +56,75 @@ done_of (Some file) taken buffer at want count used image so_far piece long ther
     let is : text image ≡ take (at + used) file = ends.is ∙ (λ i. so_far i ++ part i) ∙ sym (take_add at used file) in
     let fits = piece.fits in
     record {
-      behind = drop (at + used) (read_bytes file);
+      trailing = drop (at + used) (read_bytes file);
       valid = ends.valid;
-      begins = front_of_read file (at + used) (omega arith) ∙ ap (λ t. t ++ drop (at + used) (read_bytes file)) (sym is);
-      used_is = omega (arith, ap length ends.is, length-append taken (take used (take count buffer)), length-take-le used (take count buffer) ends.within);
+      begins = prefix_of_read file (at + used) (omega arith) ∙ ap (λ t. t ++ drop (at + used) (read_bytes file)) (sym is);
     }
 
-refused_of : (o : Option (List ℕ)) (taken buffer : List ℕ) (at want count : ℕ) (place : ℕ) (why : _) → FrontOf o taken at → PieceOf o at want buffer (got.Count count) → at + want ≤ read_limit
+refused_of : (o : Option (List ℕ)) (taken buffer : List ℕ) (at want count : ℕ) (place : ℕ) (why : _) → TakesPrefix o taken at
+    → PieceOf o at want buffer (got.Count count) → at + want ≤ read_limit
     → RefusesBy (taken ++ take count buffer) (At place why) → ReadsBytes o (read.Refused place why)
 refused_of None taken buffer at want count place why so_far piece near refuses = absurd piece
 refused_of (Some file) taken buffer at want count place why so_far piece near refuses =
     let fits = piece.fits in
-    let whole : (taken ++ take count buffer) ++ drop (at + count) (read_bytes file) ≡ read_bytes file = ap (λ t. t ++ drop (at + count) (read_bytes file)) (front_and_piece file taken buffer at want count so_far piece) ∙ sym (front_of_read file (at + count) (omega arith)) in
+    let whole : (taken ++ take count buffer) ++ drop (at + count) (read_bytes file) ≡ read_bytes file = ap (λ t. t ++ drop (at + count) (read_bytes file)) (prefix_and_piece file taken buffer at want count so_far piece) ∙ sym (prefix_of_read file (at + count) (omega arith)) in
     subst (λ s. Refused s place why) whole (refuses.1 (drop (at + count) (read_bytes file)))
 
 -- ---- the device's files, where it tells them
 
-pub begins_reading : (files : Option Files) (name : List ℕ) (reader : Reading) → reader ≡ Taking [] → HasRead files name reader 0 0
-begins_reading files name reader is = subst (λ r. HasRead files name r 0 0) (sym is) (refl, refl, none_so_far files)
+pub begins_reading : (files : Option Files) (name : List ℕ) (reader : Reading) → reader ≡ Taking [] → HasRead files name reader 0
+begins_reading files name reader is = subst (λ r. HasRead files name r 0) (sym is) (refl, none_so_far files)
   where
-    front_none : (o : Option (List ℕ)) → FrontOf o [] 0
-    front_none None = refl
-    front_none (Some file) = refl
+    prefix_none : (o : Option (List ℕ)) → TakesPrefix o [] 0
+    prefix_none None = refl
+    prefix_none (Some file) = refl
 
-    none_so_far : (files : Option Files) → SoFar files name [] 0
+    none_so_far : (files : Option Files) → TakesSoFar files name [] 0
     none_so_far None = tt
-    none_so_far (Some files) = front_none (get files name)
+    none_so_far (Some files) = prefix_none (get files name)
 
-so_far_more : (files : Option Files) (name taken buffer : List ℕ) (at want count : ℕ) → SoFar files name taken at → GivesPiece files name at want buffer (Ok (got.Count count)) → SoFar files name (taken ++ take count buffer) (at + count)
+so_far_more : (files : Option Files) (name taken buffer : List ℕ) (at want count : ℕ) → TakesSoFar files name taken at
+    → GivesPiece files name at want buffer (Ok (got.Count count)) → TakesSoFar files name (taken ++ take count buffer) (at + count)
 so_far_more None name taken buffer at want count so_far piece = tt
 so_far_more (Some files) name taken buffer at want count so_far piece = more_of (get files name) taken buffer at want count so_far piece
 
 -- the answer is that of the file where the device tells it
-told : (files : Option Files) (name : List ℕ) (found : ReadImage) → ((all : Files) → files ≡ Some all → ReadsBytes (get all name) found) → ReadsImage files name (Ok found)
+told : (files : Option Files) (name : List ℕ) (found : ReadImage) → ((all : Files) → files ≡ Some all → ReadsBytes (get all name) found)
+    → ReadsImage files name (Ok found)
 told None name found reads = tt
 told (Some files) name found reads = reads files refl
 
 -- what a piece adds to what is known, where the reader was taking
-taking_more : (files : Option Files) (name taken buffer : List ℕ) (after : Reading) (at want count : ℕ) (answer : Result Fed ReadRefusal) → length taken ≡ at → SoFar files name taken at → GivesPiece files name at want buffer (Ok (got.Count count)) → count ≤ length buffer → at + want ≤ read_limit
-    → TakesPiece taken (take count buffer) answer after → HasRead files name after (at + count) (at + used_of count answer)
+taking_more : (files : Option Files) (name taken buffer : List ℕ) (after : Reading) (at want count : ℕ) (answer : Result Fed ReadRefusal)
+    → length taken ≡ at → TakesSoFar files name taken at → GivesPiece files name at want buffer (Ok (got.Count count))
+    → count ≤ length buffer → at + want ≤ read_limit
+    → TakesPiece taken (take count buffer) answer after → HasRead files name after (at + count)
 taking_more files name taken buffer after at want count (Ok More) long so_far piece there near took =
-    subst (λ r. HasRead files name r (at + count) (at + count)) (sym took.0) (refl, omega (arith, long, length-append taken (take count buffer), length-take-le count buffer there), so_far_more files name taken buffer at want count so_far piece)
+    subst (λ r. HasRead files name r (at + count)) (sym took.0) (omega (arith, long, length-append taken (take count buffer), length-take-le count buffer there), so_far_more files name taken buffer at want count so_far piece)
 taking_more files name taken buffer after at want count (Ok (Done used)) long so_far piece there near (image, is, ends) =
-    subst (λ r. HasRead files name r (at + count) (at + used)) (sym is) (
-    told files name (read.Image image (at + used)) (λ all e.
-    done_of (get all name) taken buffer at want count used image (subst (λ f. SoFar f name taken at) e so_far) (subst (λ f. GivesPiece f name at want buffer (Ok (got.Count count))) e piece) long there near ends)
+    subst (λ r. HasRead files name r (at + count)) (sym is) (
+    told files name (read.Image image) (λ all e.
+    done_of (get all name) taken buffer at want count used image (subst (λ f. TakesSoFar f name taken at) e so_far) (subst (λ f. GivesPiece f name at want buffer (Ok (got.Count count))) e piece) long there near ends)
     )
 taking_more files name taken buffer after at want count (Err (At place why)) long so_far piece there near took =
-    subst (λ r. HasRead files name r (at + count) (at + 0)) (sym took.0) (
+    subst (λ r. HasRead files name r (at + count)) (sym took.0) (
     told files name (read.Refused place why) (λ all e.
-    refused_of (get all name) taken buffer at want count place why (subst (λ f. SoFar f name taken at) e so_far) (subst (λ f. GivesPiece f name at want buffer (Ok (got.Count count))) e piece) near took.1)
+    refused_of (get all name) taken buffer at want count place why (subst (λ f. TakesSoFar f name taken at) e so_far) (subst (λ f. GivesPiece f name at want buffer (Ok (got.Count count))) e piece) near took.1)
     )
-taking_more files name taken buffer after at want count (Err NoMemory) long so_far piece there near took = subst (λ r. HasRead files name r (at + count) (at + 0)) (sym took.0) tt
+taking_more files name taken buffer after at want count (Err NoMemory) long so_far piece there near took =
+    subst (λ r. HasRead files name r (at + count)) (sym took.0) tt
 
-pub reads_more : (files : Option Files) (name buffer : List ℕ) (reader after : Reading) (at want count used more : ℕ) → HasRead files name reader at used → GivesPiece files name at want buffer (Ok (got.Count count)) → count ≤ length buffer → at + want ≤ read_limit
-    → Uses reader (take count buffer) more after → HasRead files name after (at + count) (used + more)
-reads_more files name buffer (Taking taken) after at want count used more has piece there near uses =
-    let size : used_of (length (take count buffer)) uses.answer ≡ used_of count uses.answer = ap (λ n. used_of n uses.answer) (length-take-le count buffer there) in
-    subst (λ n. HasRead files name after (at + count) n) ((λ i. sym has.0 i + sym (uses.used_is ∙ size) i)) (taking_more files name taken buffer after at want count uses.answer has.1 has.2 piece there near uses.feeds)
-reads_more files name buffer (Ended image) after at want count used more has piece there near uses =
-    let none : more ≡ 0 = uses.used_is ∙ ap (λ a. used_of (length (take count buffer)) a) uses.feeds.0 in
-    subst (λ r. HasRead files name r (at + count) (used + more)) (sym uses.feeds.1) (subst (λ n. ReadsImage files name (Ok (read.Image image n))) (omega (arith, none)) has)
-reads_more files name buffer (Failed (At place why)) after at want count used more has piece there near uses = subst (λ r. HasRead files name r (at + count) (used + more)) (sym uses.feeds.1) has
-reads_more files name buffer (Failed NoMemory) after at want count used more has piece there near uses = subst (λ r. HasRead files name r (at + count) (used + more)) (sym uses.feeds.1) tt
+pub reads_more : (files : Option Files) (name buffer : List ℕ) (reader after : Reading) (at want count : ℕ) → HasRead files name reader at
+    → GivesPiece files name at want buffer (Ok (got.Count count)) → count ≤ length buffer → at + want ≤ read_limit
+    → IsFed reader (take count buffer) after → HasRead files name after (at + count)
+reads_more files name buffer (Taking taken) after at want count has piece there near fed =
+    taking_more files name taken buffer after at want count fed.0 has.0 has.1 piece there near fed.1
+reads_more files name buffer (Ended image) after at want count has piece there near fed =
+    subst (λ r. HasRead files name r (at + count)) (sym fed.1.1) has
+reads_more files name buffer (Failed (At place why)) after at want count has piece there near fed =
+    subst (λ r. HasRead files name r (at + count)) (sym fed.1.1) has
+reads_more files name buffer (Failed NoMemory) after at want count has piece there near fed =
+    subst (λ r. HasRead files name r (at + count)) (sym fed.1.1) tt
 
 -- ---- what a reader is concluded with
 
@@ -127,27 +137,33 @@ abbrev IsEnd : Option Files → List ℕ → ℕ → Type 0
 IsEnd None name at = Unit {0}
 IsEnd (Some files) name at = IsEndOf (get files name) at
 
-cut_of : (o : Option (List ℕ)) (taken : List ℕ) (at place : ℕ) → FrontOf o taken at → IsEndOf o at → Refused taken place Truncated → ReadsBytes o (read.Refused place Truncated)
+cut_of : (o : Option (List ℕ)) (taken : List ℕ) (at place : ℕ) → TakesPrefix o taken at → IsEndOf o at → Refused taken place Truncated
+    → ReadsBytes o (read.Refused place Truncated)
 cut_of None taken at place so_far ended refused = absurd (ended so_far)
 cut_of (Some file) taken at place so_far ended refused = subst (λ s. Refused s place Truncated) (so_far ∙ ended) refused
 
-concludes_at : (files : Option Files) (name : List ℕ) (reader : Reading) (at used : ℕ) (answer : Result ReadImage DeviceRefusal) → HasRead files name reader at used → IsEnd files name at → Concludes reader used answer → ReadsImage files name answer
-concludes_at files name (Taking taken) at used answer has ended concludes =
+concludes_at : (files : Option Files) (name : List ℕ) (reader : Reading) (at : ℕ) (answer : Result ReadImage DeviceRefusal)
+    → HasRead files name reader at → IsEnd files name at → Concludes reader answer
+    → ReadsImage files name answer
+concludes_at files name (Taking taken) at answer has ended concludes =
     subst (λ a. ReadsImage files name a) (sym concludes.1) (
     told files name (read.Refused concludes.0 Truncated) (λ all e.
-    cut_of (get all name) taken at concludes.0 (subst (λ f. SoFar f name taken at) e has.2) (subst (λ f. IsEnd f name at) e ended) concludes.2)
+    cut_of (get all name) taken at concludes.0 (subst (λ f. TakesSoFar f name taken at) e has.1) (subst (λ f. IsEnd f name at) e ended) concludes.2)
     )
-concludes_at files name (Ended image) at used answer has ended concludes = subst (λ a. ReadsImage files name a) (sym concludes) has
-concludes_at files name (Failed (At place why)) at used answer has ended concludes = subst (λ a. ReadsImage files name a) (sym concludes) has
-concludes_at files name (Failed NoMemory) at used answer has ended concludes = subst (λ a. ReadsImage files name a) (sym concludes) (wanting files)
+concludes_at files name (Ended image) at answer has ended concludes = subst (λ a. ReadsImage files name a) (sym concludes) has
+concludes_at files name (Failed (At place why)) at answer has ended concludes = subst (λ a. ReadsImage files name a) (sym concludes) has
+concludes_at files name (Failed NoMemory) at answer has ended concludes =
+    subst (λ a. ReadsImage files name a) (sym concludes) (wanting files)
   where
     wanting : (files : Option Files) → ReadsImage files name (Err device.NoMemory)
     wanting None = tt
     wanting (Some files) = tt
 
-pub reads_ended : (files : Option Files) (name buffer : List ℕ) (reader : Reading) (at want used : ℕ) (answer : Result ReadImage DeviceRefusal) → HasRead files name reader at used → GivesPiece files name at want buffer (Ok (got.Count 0)) → at ≤ read_limit
-    → Concludes reader used answer → ReadsImage files name answer
-reads_ended files name buffer reader at want used answer has piece near concludes = concludes_at files name reader at used answer has (ended files piece) concludes
+pub reads_ended : (files : Option Files) (name buffer : List ℕ) (reader : Reading) (at want : ℕ) (answer : Result ReadImage DeviceRefusal)
+    → HasRead files name reader at → GivesPiece files name at want buffer (Ok (got.Count 0)) → at ≤ read_limit
+    → Concludes reader answer → ReadsImage files name answer
+reads_ended files name buffer reader at want answer has piece near concludes =
+    concludes_at files name reader at answer has (ended files piece) concludes
   where
     ended_of : (o : Option (List ℕ)) → PieceOf o at want buffer (got.Count 0) → IsEndOf o at
     ended_of None piece = absurd piece
@@ -157,9 +173,10 @@ reads_ended files name buffer reader at want used answer has piece near conclude
     ended None piece = tt
     ended (Some files) piece = ended_of (get files name) piece
 
-pub reads_limit : (files : Option Files) (name : List ℕ) (reader : Reading) (at used : ℕ) (answer : Result ReadImage DeviceRefusal) → HasRead files name reader at used → at ≡ read_limit
-    → Concludes reader used answer → ReadsImage files name answer
-reads_limit files name reader at used answer has limit concludes = concludes_at files name reader at used answer has (ended files) concludes
+pub reads_limit : (files : Option Files) (name : List ℕ) (reader : Reading) (at : ℕ) (answer : Result ReadImage DeviceRefusal)
+    → HasRead files name reader at → at ≡ read_limit
+    → Concludes reader answer → ReadsImage files name answer
+reads_limit files name reader at answer has limit concludes = concludes_at files name reader at answer has (ended files) concludes
   where
     ended_of : (o : Option (List ℕ)) → IsEndOf o at
     ended_of None = λ none. absurd (omega (arith, limit, none))
@@ -173,25 +190,30 @@ absent_of : (o : Option (List ℕ)) (buffer : List ℕ) (at want : ℕ) → Piec
 absent_of None buffer at want piece = tt
 absent_of (Some file) buffer at want piece = piece
 
-pub reads_absent : (files : Option Files) (name buffer : List ℕ) (at want : ℕ) → GivesPiece files name at want buffer (Ok got.Absent) → ReadsImage files name (Ok read.Absent)
+pub reads_absent : (files : Option Files) (name buffer : List ℕ) (at want : ℕ) → GivesPiece files name at want buffer (Ok got.Absent)
+    → ReadsImage files name (Ok read.Absent)
 reads_absent None name buffer at want piece = tt
 reads_absent (Some files) name buffer at want piece = absent_of (get files name) buffer at want piece
 
 -- a reader that is done with answers no fault
-pub concluded_cause : (reader : Reading) (used before after : ℕ) (answer : Result ReadImage DeviceRefusal) → after ≡ before → Concludes reader used answer → MovesFaults before after answer
-concluded_cause (Taking stream) used before after answer same is = subst (λ a. MovesFaults before after a) (sym is.1) same
-concluded_cause (Ended image) used before after answer same is = subst (λ a. MovesFaults before after a) (sym is) same
-concluded_cause (Failed (At place why)) used before after answer same is = subst (λ a. MovesFaults before after a) (sym is) same
-concluded_cause (Failed NoMemory) used before after answer same is = subst (λ a. MovesFaults before after a) (sym is) same
+pub concluded_cause : (reader : Reading) (before after : ℕ) (answer : Result ReadImage DeviceRefusal) → after ≡ before
+    → Concludes reader answer → MovesFaults before after answer
+concluded_cause (Taking stream) before after answer same is = subst (λ a. MovesFaults before after a) (sym is.1) same
+concluded_cause (Ended image) before after answer same is = subst (λ a. MovesFaults before after a) (sym is) same
+concluded_cause (Failed (At place why)) before after answer same is = subst (λ a. MovesFaults before after a) (sym is) same
+concluded_cause (Failed NoMemory) before after answer same is = subst (λ a. MovesFaults before after a) (sym is) same
 
 -- ---- what one read gave, as the steps of the loop have it
 
-pub piece_is : (a b : Option Files) (name buffer : List ℕ) (at want : ℕ) (gave found : Got) → a ≡ b → gave ≡ found → GivesPiece a name at want buffer (Ok gave) → GivesPiece b name at want buffer (Ok found)
-piece_is a b name buffer at want gave found same is piece = subst (λ f. GivesPiece f name at want buffer (Ok found)) same (subst (λ x. GivesPiece a name at want buffer (Ok x)) is piece)
+pub piece_is : (a b : Option Files) (name buffer : List ℕ) (at want : ℕ) (gave found : Got) → a ≡ b → gave ≡ found
+    → GivesPiece a name at want buffer (Ok gave) → GivesPiece b name at want buffer (Ok found)
+piece_is a b name buffer at want gave found same is piece =
+    subst (λ f. GivesPiece f name at want buffer (Ok found)) same (subst (λ x. GivesPiece a name at want buffer (Ok x)) is piece)
 
 pub count_within : (want count : ℕ) (gave : Got) → gave ≡ got.Count count → IsAtMost want gave → count ≤ want
 count_within want count gave is within = subst (λ x. IsAtMost want x) is within
 
-pub refused_device : (files : Option Files) (name : List ℕ) (refusal : DeviceRefusal) (answer : Result ReadImage DeviceRefusal) → answer ≡ Err refusal → ReadsImage files name answer
+pub refused_device : (files : Option Files) (name : List ℕ) (refusal : DeviceRefusal) (answer : Result ReadImage DeviceRefusal)
+    → answer ≡ Err refusal → ReadsImage files name answer
 refused_device None name refusal answer is = tt
 refused_device (Some files) name refusal answer is = subst (λ a. ReadsImage (Some files) name a) (sym is) tt

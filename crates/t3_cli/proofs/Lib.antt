@@ -1,8 +1,10 @@
 pub mod Lining
 pub mod FileRead
 pub mod Shown
-pub mod Outcomes
-pub mod Commands
+pub mod Results
+pub mod Followed
+pub mod Answered
+pub mod CommandNames
 pub mod Runs
 pub mod Spelled
 pub mod Stacks
@@ -10,5 +12,5 @@ pub mod Saying
 pub mod Taking
 pub mod Programs
 pub mod Stories
-pub mod Ending
 pub mod Causes
+pub mod OptionValues

@@ -11,26 +11,30 @@ use Rattle.t3_image_read.specs.Validity.{IsValid}
 use Rattle.t3_image_read.proofs.Heads.{length-head_text}
 use Rattle.t3_image_write.proofs.Parts.{length-text}
 use Rattle.t3_blocks.specs.Spelling.{image_limit}
-use Rattle.t3_cli.specs.BlockLines.{block_line, block_lines, end_line_at, image_lines}
-use Rattle.t3_cli.specs.Lines.{ok_line}
+use Rattle.t3_cli.specs.BlockLines.{block_line, block_lines, end_line_at, check_text, show_text}
 
--- two texts behind others
-pub appends_two : {T E : Type 0} (old mid new a b : List ℕ) (answer : Result T E) → mid ≡ old ++ a → IfOk answer (λ _. new ≡ mid ++ b) → IfOk answer (λ _. new ≡ old ++ (a ++ b))
+-- two texts after others
+pub appends_two : {T E : Type 0} (old mid new a b : List ℕ) (answer : Result T E) → mid ≡ old ++ a → IfOk answer (λ _. new ≡ mid ++ b)
+    → IfOk answer (λ _. new ≡ old ++ (a ++ b))
 appends_two old mid new a b (Ok done) first second = second ∙ ap (λ t. t ++ b) first ∙ append_assoc old a b
 appends_two old mid new a b (Err error) first second = tt
 
-front_size : (head : Head) (blocks : List PlacedBlock) → length (front_text head blocks) ≡ length (head_text head) + length (flat_map block_text blocks)
+front_size : (head : Head) (blocks : List PlacedBlock)
+    → length (front_text head blocks) ≡ length (head_text head) + length (flat_map block_text blocks)
 unfolding front_text
 front_size head blocks = length-append (head_text head) (flat_map block_text blocks)
 
--- the lines of so many blocks are there, and the rest stands behind the place
+-- the lines of so many blocks are there, and the rest stands after the place
 pub record AreLinedUpTo (first place index : ℕ) (blocks : List PlacedBlock) (old now : List ℕ) : Type 0 where
   pub place_is : place ≡ first + length (flat_map block_text (take index blocks))
-  pub lines : (head : Head) → length (head_text head) ≡ first → now ++ block_lines head (take index blocks) (drop index blocks) ≡ old ++ block_lines head [] blocks
+  pub lines : (head : Head) → length (head_text head) ≡ first
+      → now ++ block_lines head (take index blocks) (drop index blocks) ≡ old ++ block_lines head [] blocks
 
 -- one block more
-pub lined_more : (first place index size : ℕ) (blocks : List PlacedBlock) (old now new : List ℕ) (placed : PlacedBlock) → AreLinedUpTo first place index blocks old now → index < length blocks → placed ≡ get_or blocks index placed
-    → new ≡ now ++ block_line place placed → size ≡ length (block_text placed) → AreLinedUpTo first (place + size) (index + 1) blocks old new
+pub lined_more : (first place index size : ℕ) (blocks : List PlacedBlock) (old now new : List ℕ) (placed : PlacedBlock)
+    → AreLinedUpTo first place index blocks old now → index < length blocks → placed ≡ get_or blocks index placed
+    → new ≡ now ++ block_line place placed → size ≡ length (block_text placed)
+    → AreLinedUpTo first (place + size) (index + 1) blocks old new
 unfolding block_lines
 lined_more first place index size blocks old now new placed so_far less is line sized =
     let same : length (block_text placed) ≡ length (block_text (get_or blocks index placed)) = ap (λ p. length (block_text p)) is in
@@ -41,7 +45,8 @@ lined_more first place index size blocks old now new placed so_far less is line 
     let front = take index blocks in
     let more : take (index + 1) blocks ≡ front ++ placed ∷ [] = take_more blocks index placed less ∙ ap (λ p. front ++ p ∷ []) (sym is) in
     record {
-      place_is = omega (arith, so_far.place_is, sized, same, longer, apart, length-append (flat_map block_text front) (block_text (get_or blocks index placed) ++ []), length-append (block_text (get_or blocks index placed)) []);
+      place_is =
+          omega (arith, so_far.place_is, sized, same, longer, apart, length-append (flat_map block_text front) (block_text (get_or blocks index placed) ++ []), length-append (block_text (get_or blocks index placed)) []);
       lines = λ head starts.
           let stands : place ≡ length (front_text head front) = omega (arith, so_far.place_is, starts, front_size head front) in
           (λ i. line i ++ block_lines head (more i) rest)
@@ -51,26 +56,29 @@ lined_more first place index size blocks old now new placed so_far less is line 
           ∙ so_far.lines head starts;
     }
 
--- the place behind a block is within the whole
-pub place_within : (first place index size limit : ℕ) (blocks : List PlacedBlock) (old now : List ℕ) (placed : PlacedBlock) → AreLinedUpTo first place index blocks old now → index < length blocks → placed ≡ get_or blocks index placed
+-- the place after a block is within the whole
+pub place_within : (first place index size limit : ℕ) (blocks : List PlacedBlock) (old now : List ℕ) (placed : PlacedBlock)
+    → AreLinedUpTo first place index blocks old now → index < length blocks → placed ≡ get_or blocks index placed
     → size ≡ length (block_text placed) → first + length (flat_map block_text blocks) ≤ limit → place + size ≤ limit
 place_within first place index size limit blocks old now placed so_far less is sized within =
     let same : length (block_text placed) ≡ length (block_text (get_or blocks index placed)) = ap (λ p. length (block_text p)) is in
     omega (arith, so_far.place_is, sized, same, within, length-flat_map-take block_text blocks index placed less)
 
 -- all of them
-pub lined_all : (first place index : ℕ) (blocks : List PlacedBlock) (old now : List ℕ) → AreLinedUpTo first place index blocks old now → length blocks ≤ index → (head : Head) → length (head_text head) ≡ first → now ≡ old ++ block_lines head [] blocks
+pub lined_all : (first place index : ℕ) (blocks : List PlacedBlock) (old now : List ℕ) → AreLinedUpTo first place index blocks old now
+    → length blocks ≤ index → (head : Head) → length (head_text head) ≡ first → now ≡ old ++ block_lines head [] blocks
 unfolding block_lines
 lined_all first place index blocks old now so_far all head starts =
     sym (append-nil now) ∙ ap (λ ps. now ++ block_lines head (take index blocks) ps) (sym (drop_all index blocks all)) ∙ so_far.lines head starts
 
 -- the lines of all blocks, that of the end, and that of the whole
-pub image_lined : (image : ImageValue) (used end count : ℕ) (blocks ended all whole : List ℕ) → IsValid image → blocks ≡ [] ++ block_lines image.head [] image.blocks → end ≡ 69 + length (flat_map block_text image.blocks) → ended ≡ blocks ++ end_line_at end image.eof_flags
-    → count ≡ length image.blocks + 1 → whole ≡ ok_line count used → all ≡ ended ++ whole → all ≡ image_lines image ++ ok_line (length image.blocks + 1) used
-image_lined image used end count blocks ended all whole valid first place last counted is joined =
+pub image_lined : (image : ImageValue) (end : ℕ) (blocks ended whole all : List ℕ) → IsValid image
+    → blocks ≡ [] ++ block_lines image.head [] image.blocks
+    → end ≡ 69 + length (flat_map block_text image.blocks) → ended ≡ blocks ++ end_line_at end image.eof_flags → whole ≡ check_text image
+    → all ≡ ended ++ whole → all ≡ show_text image
+image_lined image end blocks ended whole all valid first place last is joined =
     let place_is : end ≡ length (front_text image.head image.blocks) = omega (arith, place, front_size image.head image.blocks, length-head_text image.head valid.head) in
-    let ok : whole ≡ ok_line (length image.blocks + 1) used = is ∙ ap (λ n. ok_line n used) counted in
-    joined ∙ (λ i. last i ++ ok i) ∙ (λ i. (first i ++ end_line_at (place_is i) image.eof_flags) ++ ok_line (length image.blocks + 1) used)
+    joined ∙ (λ i. last i ++ is i) ∙ (λ i. (first i ++ end_line_at (place_is i) image.eof_flags) ++ check_text image)
 
 -- the whole is within the limit
 pub blocks_within : (image : ImageValue) → IsValid image → 69 + length (flat_map block_text image.blocks) ≤ image_limit

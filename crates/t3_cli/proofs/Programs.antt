@@ -16,7 +16,7 @@ use Rattle.t3_methods.proofs.MethodHeaders.{one_header}
 use Rattle.t3_methods.proofs.Lookup.{some_header}
 use Rattle.t3_cli.specs.Machine.{ProgramValue}
 use Rattle.t3_cli.specs.Loading.{EntryValue, entries, name_lists, is_later, HasBase, HasSets, IsPlainMethod, LoadsAs, IsUnloaded}
-use Rattle.t3_cli.specs.Launching.{IsEntry, IsIoAlone}
+use Rattle.t3_cli.specs.Inner.Launching.{IsEntry, IsIoAlone}
 
 -- ---- one program
 
@@ -71,15 +71,18 @@ le_or_not m n =
     ]
 
 code_or_not : (d : Defined) (p : Paged) → IsCode d p ⊎ ¬ IsCode d p
-code_or_not d p = both (cases_eq d.pool 1) (both (cases_eq d.count 1) (both (cases_eq p.pool 1) (both (cases_eq p.index 0) (le_or_not (length p.bytes) d.size))))
+code_or_not d p =
+    both (cases_eq d.pool 1) (both (cases_eq d.count 1) (both (cases_eq p.pool 1) (both (cases_eq p.index 0) (le_or_not (length p.bytes) d.size))))
 
-has_page : (blocks : List PlacedBlock) (d : Defined) (p : Paged) → definitions blocks ≡ d ∷ [] → pages blocks ≡ p ∷ [] → IsCode d p → HasOneCodePage blocks
+has_page : (blocks : List PlacedBlock) (d : Defined) (p : Paged) → definitions blocks ≡ d ∷ [] → pages blocks ≡ p ∷ [] → IsCode d p
+    → HasOneCodePage blocks
 has_page blocks d p defines lists (pool, (count, (page_pool, (index, fits)))) =
     let defined : ◌≡◌ {A = List Defined} (d ∷ []) (record { pool = 1; count = 1; size = d.size } ∷ []) = λ i. record { pool = pool i; count = count i; size = d.size } ∷ [] in
     let paged : ◌≡◌ {A = List Paged} (p ∷ []) (record { pool = 1; index = 0; bytes = p.bytes } ∷ []) = λ i. record { pool = page_pool i; index = index i; bytes = p.bytes } ∷ [] in
     record { size = d.size; bytes = p.bytes; definition = defines ∙ defined; page = lists ∙ paged; fits = fits }
 
-is_code : (blocks : List PlacedBlock) (d : Defined) (p : Paged) → definitions blocks ≡ d ∷ [] → pages blocks ≡ p ∷ [] → HasOneCodePage blocks → IsCode d p
+is_code : (blocks : List PlacedBlock) (d : Defined) (p : Paged) → definitions blocks ≡ d ∷ [] → pages blocks ≡ p ∷ []
+    → HasOneCodePage blocks → IsCode d p
 is_code blocks d p defines lists has =
     let one : Defined = record { pool = 1; count = 1; size = has.size } in
     let first : Paged = record { pool = 1; index = 0; bytes = has.bytes } in
@@ -225,7 +228,8 @@ IsPlainHeader h = (parameters h.least h.varying ≡ 0) × (h.exceptions ≡ 0)
 pub plain_by_header : (code : Pool) (method : ℕ) (h : Header) → HasHeader code method h → IsPlainHeader h → IsPlainMethod code method
 plain_by_header code method h has plain = λ other has_other. subst IsPlainHeader (one_header code method h other has has_other) plain
 
-plain_from : (code : Pool) (method : ℕ) (found : Result Header CodeRefusal) → FindsHeader code method found → IsPlainMethod code method ⊎ ¬ IsPlainMethod code method
+plain_from : (code : Pool) (method : ℕ) (found : Result Header CodeRefusal) → FindsHeader code method found
+    → IsPlainMethod code method ⊎ ¬ IsPlainMethod code method
 plain_from code method (Err refusal) finds = inl (λ header has. absurd (finds.1 header has))
 plain_from code method (Ok header) finds =
     elim (both (cases_eq (parameters header.least header.varying) 0) (cases_eq header.exceptions 0)) [
@@ -270,7 +274,8 @@ page_there : (blocks : List PlacedBlock) → ¬ ¬ HasOneCodePage blocks → Has
 page_there blocks there = elim (page_or_not blocks) [ inl page ↦ page | inr none ↦ absurd (there none) ]
 
 -- the blocks of an image, read three times, and the pools built of it make the program
-pub loads_as : (image : ImageValue) (a b c : List PlacedBlock) (pools : PoolsValue) (entry : ℕ) (has_io : Bool) → a ≡ image.blocks → b ≡ image.blocks → c ≡ image.blocks
+pub loads_as : (image : ImageValue) (a b c : List PlacedBlock) (pools : PoolsValue) (entry : ℕ) (has_io : Bool) → a ≡ image.blocks
+    → b ≡ image.blocks → c ≡ image.blocks
     → pools ≡ pools_in image.blocks
     → (¬ HasOneCodePage image.blocks → IsErrOf {T = PoolsValue} (Ok pools) Unbuilt)
     → IsEntry a entry

@@ -81,7 +81,8 @@ digits_spell text digits long small first =
     record { is = sym is; some = above_zero text n is first; small = small }
 
 -- `parse` reads the number of a text that begins with a digit that is not 0
-pub parsed : {E : Type 0} (text : List ℕ) (read : Result ℕ E) → ParsesUnsigned 32 10 text read → IsInRange 49 57 (get_or text 0 0) → result_ok read ≡ positive_of text
+pub parsed : {E : Type 0} (text : List ℕ) (read : Result ℕ E) → ParsesUnsigned 32 10 text read → IsInRange 49 57 (get_or text 0 0)
+    → result_ok read ≡ positive_of text
 parsed {E} text (Ok n) parses first =
     let plain = parse_plain (numerals_by_value _ tells_digits) {E = E} 32 text (Ok n) parses (λ plus. omega arith) in
     ap Some plain.1 ∙ sym (some_of text (digits_spell text plain.0.0 plain.0.1 plain.0.2 first.0))
@@ -109,7 +110,8 @@ byte_spells text e =
     let both = both_true (bytes_eq text (decimal n)) (nat_lt n 256) e in
     ((bytes_eq-Decides text (decimal n)).0 both.0, ltb-true n 256 both.1)
 
-byte_some : (text : List ℕ) → text ≡ decimal (digits_value 10 text) → digits_value 10 text < 256 → byte_of text ≡ Some (digits_value 10 text)
+byte_some : (text : List ℕ) → text ≡ decimal (digits_value 10 text) → digits_value 10 text < 256
+    → byte_of text ≡ Some (digits_value 10 text)
 byte_some text is small =
     let n = digits_value 10 text in
     let same : bytes_eq text (decimal n) ≡ true = (bytes_eq-Decides text (decimal n)).1 is in

@@ -14,13 +14,14 @@ use Rattle.t3_cli.specs.Lines.{newline, ok_line}
 abbrev pub shown_byte : ℕ → ℕ
 shown_byte byte = if nat_le 0x20 byte && nat_le byte 0x7E then byte else 0x3F
 
--- a number behind what it is
+-- a number after what it is
 abbrev pub field : List ℕ → ℕ → List ℕ
 field what number = codes " " ++ (what ++ (codes "=" ++ decimal number))
 
 -- the name of a block, the place of its header, the size of its payload, and its flags
 abbrev pub header_fields : List ℕ → ℕ → ℕ → ℕ → List ℕ
-header_fields name place size flags = map shown_byte name ++ (field (codes "at") place ++ (field (codes "size") size ++ field (codes "flags") flags))
+header_fields name place size flags =
+    map shown_byte name ++ (field (codes "at") place ++ (field (codes "size") size ++ field (codes "flags") flags))
 
 -- what is shown of a block of each kind besides
 abbrev pub kind_fields : Block → List ℕ
@@ -35,12 +36,14 @@ kind_fields (Opaque name bytes) = []
 
 -- the line of a block whose header stands at a place
 abbrev pub block_line : ℕ → PlacedBlock → List ℕ
-block_line place placed = header_fields (name_of placed.block) place (length (payload_of placed.block)) placed.flags ++ (kind_fields placed.block ++ newline)
+block_line place placed =
+    header_fields (name_of placed.block) place (length (payload_of placed.block)) placed.flags ++ (kind_fields placed.block ++ newline)
 
--- the lines of the blocks behind some others; the header of each stands where the text of those in front of it ends
+-- the lines of the blocks after some others; the header of each stands where the text of those before it ends
 unfoldable pub block_lines : Head → List PlacedBlock → List PlacedBlock → List ℕ
 block_lines head before [] = []
-block_lines head before (placed ∷ rest) = block_line (length (front_text head before)) placed ++ block_lines head (before ++ placed ∷ []) rest
+block_lines head before (placed ∷ rest) =
+    block_line (length (front_text head before)) placed ++ block_lines head (before ++ placed ∷ []) rest
 
 -- the line of the block that ends an image
 abbrev pub end_line_at : ℕ → ℕ → List ℕ

@@ -1,4 +1,6 @@
 pub mod Status
+pub mod Number
+pub mod Options
 pub mod Command
 pub mod Lines
 pub mod BlockLines
@@ -7,12 +9,8 @@ pub mod Instructions
 pub mod Step
 pub mod Run
 pub mod Loading
+pub mod Act
 pub mod Outcome
+pub mod Cause
 pub mod Top
-pub mod Reading
-pub mod Showing
-pub mod Checking
-pub mod Acting
-pub mod Launching
-pub mod Number
-pub mod Playing
+pub mod Inner

@@ -2,12 +2,12 @@
 use Rattle.std.specs.Prelude.{ℕ, Bool, true, false, List, [], ◌∷◌, ◌++◌, codes, Option, Some, None}
 use Rattle.std.specs.Fmt.{decimal}
 use Rattle.t3_image_read.specs.declared.refusal.ReadWhy.{ReadWhy}
-use Rattle.t3_cli.specs.declared.turn.End.{End}
-use Rattle.t3_cli.specs.declared.turn.End.TheVariants.{Returned, Unhandled, BadCode}
-use Rattle.t3_cli.specs.declared.turn.Fault.{Fault}
-use Rattle.t3_cli.specs.declared.turn.Fault.TheVariants.{ArgCount, Kind, Overflow, NoBuiltin, StackFull}
-use Rattle.t3_cli.specs.declared.turn.CodeWhy.{CodeWhy}
-use Rattle.t3_cli.specs.declared.turn.CodeWhy.TheVariants as why
+use Rattle.t3_cli.specs.declared.run.turn.End.{End}
+use Rattle.t3_cli.specs.declared.run.turn.End.TheVariants.{Returned, Unhandled, BadCode}
+use Rattle.t3_cli.specs.declared.run.turn.Fault.{Fault}
+use Rattle.t3_cli.specs.declared.run.turn.Fault.TheVariants.{ArgCount, Kind, Overflow, NoBuiltin, StackFull}
+use Rattle.t3_cli.specs.declared.run.turn.CodeWhy.{CodeWhy}
+use Rattle.t3_cli.specs.declared.run.turn.CodeWhy.TheVariants as why
 use Rattle.t3_image_read.specs.declared.refusal.ReadWhy.TheVariants.{Signature, Version, TooLong, TooMany, UnknownMandatory, Malformed, EofSize, Truncated}
 
 -- a line ends in a newline
@@ -39,7 +39,8 @@ items_of _ = None
 -- why an image is refused, and where
 abbrev pub refused_text : List ℕ → ℕ → Option ℕ → List ℕ
 refused_text name place None = codes "refused " ++ (name ++ (codes " at " ++ (decimal place ++ newline)))
-refused_text name place (Some items) = codes "refused " ++ (name ++ (codes " at " ++ (decimal place ++ (codes " items=" ++ (decimal items ++ newline)))))
+refused_text name place (Some items) =
+    codes "refused " ++ (name ++ (codes " at " ++ (decimal place ++ (codes " items=" ++ (decimal items ++ newline)))))
 
 abbrev pub refused_line : ReadWhy → ℕ → List ℕ
 refused_line why place = refused_text (why_name why) place (items_of why)
@@ -75,7 +76,8 @@ cause_name why.Unbuilt = codes "Unbuilt"
 
 -- an object was thrown by a fault, and nothing caught it
 abbrev pub unhandled_line : ℕ → ℕ → List ℕ
-unhandled_line object fault = codes "[unhandled object=" ++ (decimal object ++ (codes " fault=" ++ (decimal fault ++ (codes "]" ++ newline))))
+unhandled_line object fault =
+    codes "[unhandled object=" ++ (decimal object ++ (codes " fault=" ++ (decimal fault ++ (codes "]" ++ newline))))
 
 -- no instruction could be carried out at an address
 abbrev pub bad_code_line : ℕ → List ℕ → List ℕ
@@ -92,7 +94,7 @@ abbrev pub is_nonempty : List ℕ → Bool
 is_nonempty [] = false
 is_nonempty (_ ∷ _) = true
 
--- behind a text that isn't empty the line is ended
+-- after a text that isn't empty the line is ended
 abbrev pub newline_if : Bool → List ℕ
 newline_if true = newline
 newline_if false = []

@@ -17,7 +17,8 @@ pub record EntryValue : Type 0 where
   pub exception_size : ℕ
 
 abbrev pub entry_of : Block → List EntryValue
-entry_of (Entry code method_size exception_size debug tail) = record { code = code; method_size = method_size; exception_size = exception_size } ∷ []
+entry_of (Entry code method_size exception_size debug tail) =
+    record { code = code; method_size = method_size; exception_size = exception_size } ∷ []
 entry_of _ = []
 
 -- the names of the function sets that a block lists
@@ -50,7 +51,8 @@ HasSets true blocks = (name : List ℕ) × HasBase (codes "tads-io") name × (na
 
 -- a header at the address, where there is one, takes no arguments and has no exception table
 abbrev pub IsPlainMethod : Pool → ℕ → Type 0
-IsPlainMethod code method = (header : Header) → HasHeader code method header → (parameters header.least header.varying ≡ 0) × (header.exceptions ≡ 0)
+IsPlainMethod code method =
+    (header : Header) → HasHeader code method header → (parameters header.least header.varying ≡ 0) × (header.exceptions ≡ 0)
 
 -- the image is run as this program: it has one page of code and no other pool, one entry with headers and exception entries of ten bytes,
 -- no metaclasses, objects or symbols, no list of function sets or one of the set for input and output alone, and where a header stands at the entry,

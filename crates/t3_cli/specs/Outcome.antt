@@ -1,19 +1,20 @@
--- What a command gives where nothing fails: the status, the bytes shown and the files.
-use Rattle.std.specs.Prelude.{◌≡◌, ℕ, ◌⊎◌, List, ◌++◌, length, take, Option, Some, None}
-use Rattle.std.specs.FinMap.{get, insert}
+-- What a command gives where nothing fails: a status, and what it does to the outside.
+use Rattle.std.specs.Prelude.{◌≡◌, ℕ, ◌⊎◌, List, [], ◌∷◌, ◌++◌, length, take, Option, Some, None}
+use Rattle.std.specs.FinMap.{get}
 use Rattle.t3_holder.specs.NumberText.{AreBytes}
 use Rattle.t3_io.specs.Files.{Files}
+use Rattle.t3_image_read.specs.declared.image.PlacedBlock.{PlacedBlock}
 use Rattle.t3_image_read.specs.declared.refusal.ReadWhy.{ReadWhy}
 use Rattle.t3_image_read.specs.ImageText.{ImageValue, text}
 use Rattle.t3_image_read.specs.Validity.{IsValid}
-use Rattle.t3_image_read.specs.Refusal.{Refused, IsRefused}
+use Rattle.t3_image_read.specs.Refusal.{Refused}
+use Rattle.t3_image_write.specs.Masks.{remasked}
 use Rattle.t3_cli.specs.declared.status.Status.{Status}
 use Rattle.t3_cli.specs.declared.status.Status.TheVariants.{Done, Usage, Absent, ImageRefused, LoadRefused, Unhandled, BadCode, StepLimit}
-use Rattle.t3_cli.specs.declared.turn.End.{End}
-use Rattle.t3_cli.specs.declared.turn.End.TheVariants as ends
-use Rattle.t3_image_read.specs.declared.image.PlacedBlock.{PlacedBlock}
-use Rattle.t3_image_write.specs.Masks.{remasked}
-use Rattle.t3_cli.specs.Command.{Asked, Check, Show, Run, Rewrite}
+use Rattle.t3_cli.specs.declared.run.turn.End.{End}
+use Rattle.t3_cli.specs.declared.run.turn.End.TheVariants as ends
+use Rattle.t3_cli.specs.Act.{Act, Shows, Puts}
+use Rattle.t3_cli.specs.Command.{CommandValue, Check, Show, Run, Rewrite, RunOptions}
 use Rattle.t3_cli.specs.Lines.{usage_line, absent_line, refused_line, put_line, unloaded_line, closing_text, is_nonempty}
 use Rattle.t3_cli.specs.BlockLines.{check_text, show_text}
 use Rattle.t3_cli.specs.Machine.{ProgramValue, initial}
@@ -22,8 +23,15 @@ use Rattle.t3_cli.specs.Run.{Ran, Runs}
 
 pub record Outcome : Type 0 where
   pub status : Status
-  pub shown : List ℕ
-  pub files : Files
+  pub acts : List Act
+
+-- a text is shown, and that is all
+abbrev pub showing : Status → List ℕ → Outcome
+showing status text = record { status = status; acts = Shows text ∷ [] }
+
+-- a file is put, and how many bytes it has is shown
+abbrev pub putting : List ℕ → List ℕ → Outcome
+putting name bytes = record { status = Done; acts = Puts name bytes ∷ Shows (put_line (length bytes)) ∷ [] }
 
 -- so much of a file is read: one byte more than an image may have
 abbrev pub read_limit : ℕ
@@ -32,28 +40,11 @@ read_limit = 268435457
 abbrev pub read_bytes : List ℕ → List ℕ
 read_bytes file = take read_limit file
 
--- the file isn't there
-abbrev pub not_there : List ℕ → Files → Outcome
-not_there name files = record { status = Absent; shown = absent_line name; files = files }
-
--- the bytes are refused, at the place and by the rule that are shown
-pub record IsRejected (bytes : List ℕ) (files : Files) (outcome : Outcome) : Type 0 where
-  pub place : ℕ
-  pub why : ReadWhy
-  pub refused : Refused bytes place why
-  pub is : outcome ≡ record { status = ImageRefused; shown = refused_line why place; files = files }
-
--- an image's text begins the bytes; of the image the outcome has what is told and which files are left
-pub record IsTold (tell : ImageValue → List ℕ) (leave : ImageValue → Files) (bytes : List ℕ) (outcome : Outcome) : Type 0 where
-  pub image : ImageValue
-  pub behind : List ℕ
+-- the bytes begin with this image
+pub record BeginsWith (bytes : List ℕ) (image : ImageValue) : Type 0 where
+  pub trailing : List ℕ
   pub valid : IsValid image
-  pub begins : bytes ≡ text image ++ behind
-  pub is : outcome ≡ record { status = Done; shown = tell image; files = leave image }
-
-abbrev pub Tells : (ImageValue → List ℕ) → (ImageValue → Files) → List ℕ → Option (List ℕ) → Files → Outcome → Type 0
-Tells tell leave name None files outcome = outcome ≡ not_there name files
-Tells tell leave name (Some file) files outcome = IsRejected (read_bytes file) files outcome ⊎ IsTold tell leave (read_bytes file) outcome
+  pub begins : bytes ≡ text image ++ trailing
 
 -- the image with every page under the mask, where one is given
 abbrev pub masked_image : Option ℕ → ImageValue → ImageValue
@@ -64,15 +55,7 @@ masked_image (Some mask) image = remasked mask image
 abbrev pub written_text : Option ℕ → ImageValue → List ℕ
 written_text mask image = text (masked_image mask image)
 
--- what `rewrite` shows: how many bytes it put
-abbrev pub put_text : Option ℕ → ImageValue → List ℕ
-put_text mask image = put_line (length (written_text mask image))
-
--- the files that it leaves: one has what is written, each other is as before
-abbrev pub put_files : List ℕ → Option ℕ → Files → ImageValue → Files
-put_files out mask files image = insert files out (written_text mask image)
-
--- what a run shows: what was said, and behind it how it ended
+-- what a run shows: what was said, and after it how it ended
 abbrev pub shown_of : Ran → List ℕ
 shown_of ran = ran.said ++ closing_text (is_nonempty ran.said) ran.end
 
@@ -84,78 +67,54 @@ status_of (Some (ends.BadCode at cause)) = BadCode
 status_of None = StepLimit
 
 -- an image is run as its program
-pub record RunsImage (blocks : List PlacedBlock) (steps : ℕ) (ran : Ran) : Type 0 where
+pub record RunsImage (blocks : List PlacedBlock) (options : RunOptions) (ran : Ran) : Type 0 where
   pub program : ProgramValue
   pub loads : LoadsAs blocks program
-  pub runs : Runs program steps initial ran
+  pub runs : Runs program options.steps initial ran
 
--- an image that can't be run yet, or is run: the status, and what is shown
-abbrev pub PlaysImage : List PlacedBlock → ℕ → Status → List ℕ → Type 0
-PlaysImage blocks steps status shown =
-    (IsUnloaded blocks × (status ≡ LoadRefused) × (shown ≡ unloaded_line)) ⊎ ((ran : Ran) × RunsImage blocks steps ran × (status ≡ status_of ran.end) × (shown ≡ shown_of ran))
+-- an image that can't be run yet, or is run
+abbrev pub IsRunOutcome : List PlacedBlock → RunOptions → Outcome → Type 0
+IsRunOutcome blocks options outcome =
+    (IsUnloaded blocks × (outcome ≡ showing LoadRefused unloaded_line))
+    ⊎ ((ran : Ran) × RunsImage blocks options ran × (outcome ≡ showing (status_of ran.end) (shown_of ran)))
 
--- an image's text begins the bytes, and it is played
-pub record IsPlayed (bytes : List ℕ) (steps : ℕ) (files : Files) (outcome : Outcome) : Type 0 where
-  pub image : ImageValue
-  pub behind : List ℕ
-  pub valid : IsValid image
-  pub begins : bytes ≡ text image ++ behind
-  pub plays : PlaysImage image.blocks steps outcome.status outcome.shown
-  pub files_are : outcome.files ≡ files
+-- what a command gives of the image that it reads
+abbrev pub IsImageOutcome : CommandValue → ImageValue → Outcome → Type 0
+IsImageOutcome (Check name) image outcome = outcome ≡ showing Done (check_text image)
+IsImageOutcome (Show name) image outcome = outcome ≡ showing Done (show_text image)
+IsImageOutcome (Rewrite name out mask) image outcome = outcome ≡ putting out (written_text mask image)
+IsImageOutcome (Run name options) image outcome = IsRunOutcome image.blocks options outcome
 
-abbrev pub Plays : List ℕ → Option (List ℕ) → ℕ → Files → Outcome → Type 0
-Plays name None steps files outcome = outcome ≡ not_there name files
-Plays name (Some file) steps files outcome = IsRejected (read_bytes file) files outcome ⊎ IsPlayed (read_bytes file) steps files outcome
+-- the bytes are refused, at the place and by the rule that are shown
+pub record IsRefusalOutcome (bytes : List ℕ) (outcome : Outcome) : Type 0 where
+  pub place : ℕ
+  pub why : ReadWhy
+  pub refused : Refused bytes place why
+  pub is : outcome ≡ showing ImageRefused (refused_line why place)
 
--- what the words give with these files and this input
-abbrev pub IsResult : Option Asked → Files → List ℕ → Outcome → Type 0
-IsResult None files input outcome = outcome ≡ record { status = Usage; shown = usage_line; files = files }
-IsResult (Some (Check name)) files input outcome = Tells check_text (λ _. files) name (get files name) files outcome
-IsResult (Some (Show name)) files input outcome = Tells show_text (λ _. files) name (get files name) files outcome
-IsResult (Some (Run name steps)) files input outcome = Plays name (get files name) steps files outcome
-IsResult (Some (Rewrite name out mask)) files input outcome = Tells (put_text mask) (put_files out mask files) name (get files name) files outcome
+-- of a file that is there: its bytes are refused, or begin with an image
+abbrev pub IsFileOutcome : CommandValue → List ℕ → Option (List ℕ) → Outcome → Type 0
+IsFileOutcome command name None outcome = outcome ≡ showing Absent (absent_line name)
+IsFileOutcome command name (Some file) outcome =
+    IsRefusalOutcome (read_bytes file) outcome ⊎ ((image : ImageValue) × BeginsWith (read_bytes file) image × IsImageOutcome command image outcome)
 
--- ---- the causes of the answers
+-- the file that a command reads, and what it is read as
+pub data InputFile : Type 0 where
+  ImageFile : (name : List ℕ) → InputFile
 
--- the file that a command reads first
-abbrev pub input_file : Asked → List ℕ
-input_file (Check name) = name
-input_file (Show name) = name
-input_file (Run name steps) = name
-input_file (Rewrite name out mask) = name
+abbrev pub input_of : CommandValue → InputFile
+input_of (Check name) = ImageFile name
+input_of (Show name) = ImageFile name
+input_of (Run name options) = ImageFile name
+input_of (Rewrite name out mask) = ImageFile name
 
-abbrev pub IsAbsent : Option Asked → Files → Type 0
-IsAbsent None files = ⊥
-IsAbsent (Some asked) files = get files (input_file asked) ≡ None
+abbrev pub IsInputOutcome : CommandValue → InputFile → Files → Outcome → Type 0
+IsInputOutcome command (ImageFile name) files outcome = IsFileOutcome command name (get files name) outcome
 
--- the command reads an image, and its file's bytes are refused
-abbrev pub IsNoImage : Option Asked → Files → Type 0
-IsNoImage None files = ⊥
-IsNoImage (Some asked) files = (file : List ℕ) × (get files (input_file asked) ≡ Some file) × IsRefused (read_bytes file)
-
--- an image begins the file that the command runs
-pub record RunsFile (asked : Option Asked) (files : Files) (blocks : List PlacedBlock) (steps : ℕ) : Type 0 where
-  pub name : List ℕ
-  pub file : List ℕ
-  pub image : ImageValue
-  pub behind : List ℕ
-  pub asked_is : asked ≡ Some (Run name steps)
-  pub there : get files name ≡ Some file
-  pub valid : IsValid image
-  pub begins : read_bytes file ≡ text image ++ behind
-  pub blocks_are : image.blocks ≡ blocks
-
--- the command runs an image that can't be run yet
-abbrev pub IsUnloadable : Option Asked → Files → Type 0
-IsUnloadable asked files = (blocks : List PlacedBlock) × (steps : ℕ) × RunsFile asked files blocks steps × IsUnloaded blocks
-
--- the command runs an image, and this is the run
-abbrev pub IsRun : Option Asked → Files → Ran → Type 0
-IsRun asked files ran = (blocks : List PlacedBlock) × (steps : ℕ) × RunsFile asked files blocks steps × RunsImage blocks steps ran
-
--- it ends by this status
-abbrev pub EndsBy : Status → Option Asked → Files → Type 0
-EndsBy status asked files = (ran : Ran) × IsRun asked files ran × (status_of ran.end ≡ status)
+-- what the words give with these files and this input, of which no command takes any yet
+abbrev pub IsResult : Option CommandValue → Files → List ℕ → Outcome → Type 0
+IsResult None files input outcome = outcome ≡ showing Usage usage_line
+IsResult (Some command) files input outcome = IsInputOutcome command (input_of command) files outcome
 
 -- all that the files hold is bytes
 abbrev pub HoldBytes : Files → Type 0

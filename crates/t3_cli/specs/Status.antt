@@ -1,5 +1,7 @@
 -- The exit status under each answer.
-use Rattle.std.specs.Prelude.{ℕ}
+use Rattle.std.specs.Prelude.{ℕ, Option, Some, None}
+use Rattle.std.specs.declared.io.ErrorKind.{ErrorKind}
+use Rattle.std.specs.declared.io.ErrorKind.TheVariants.{OutOfMemory}
 use Rattle.t3_cli.specs.declared.status.Status.{Status}
 use Rattle.t3_cli.specs.declared.status.Status.TheVariants.{Done, Usage, Absent, ImageRefused, LoadRefused, Unhandled, BadCode, StepLimit, DepotFault, ConsoleFault, NoMemory}
 
@@ -15,3 +17,8 @@ code_of StepLimit = 8
 code_of DepotFault = 11
 code_of ConsoleFault = 12
 code_of NoMemory = 13
+
+-- the status where the words couldn't be had for want of memory; any other error is a word that isn't text
+abbrev pub words_status : ErrorKind → Option Status
+words_status OutOfMemory = Some NoMemory
+words_status _ = None

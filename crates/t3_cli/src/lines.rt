@@ -2,7 +2,7 @@
 ghost use Rattle.std.specs.Prelude.{◌≡◌, ◌++◌, Some, IfOk, string_bytes};
 ghost use Rattle.t3_cli.specs.Lines.{absent_line, refused_line, ok_line, put_line, why_name as name_of, items_of, closing_text, end_line, unhandled_line, bad_code_line, newline_if as newline_by, cause_name as name_of_cause};
 
-use crate::turn::{CodeWhy, End};
+use crate::run::turn::{CodeWhy, End};
 use std::alloc::{AllocError, Global};
 use t3_image_read::ReadWhy;
 
@@ -40,7 +40,7 @@ fn items(why: ReadWhy) -> Option<u32>
 }
 
 /// The line of an image with so many blocks, its end among them, that uses so many bytes.
-pub(crate) fn ok(alloc: Global, blocks: usize, bytes: u64) -> Result<String, AllocError>
+pub(crate) fn ok(alloc: Global, blocks: usize, bytes: usize) -> Result<String, AllocError>
     ensures { IfOk result (λ line. string_bytes line ≡ ok_line blocks bytes) }
 {
     format!(in alloc; "ok blocks={blocks} bytes={bytes}\n")
@@ -79,27 +79,27 @@ pub(crate) fn closing(alloc: Global, has_said: bool, end: Option<End>) -> Result
     }
 }
 
-/// How a run ended, behind a text.
-fn ended(alloc: Global, front: &str, end: End) -> Result<String, AllocError>
-    ensures { IfOk result (λ text. string_bytes text ≡ front.now ++ end_line (Some end)) }
+/// How a run ended, after a text.
+fn ended(alloc: Global, prefix: &str, end: End) -> Result<String, AllocError>
+    ensures { IfOk result (λ text. string_bytes text ≡ prefix.now ++ end_line (Some end)) }
 {
     match end {
-        End::Returned => format!(in alloc; "{front}"),
-        End::Unhandled { object, fault } => unhandled(alloc, front, object, fault.number()),
-        End::BadCode { at, why } => bad_code(alloc, front, at, cause_name(why)),
+        End::Returned => format!(in alloc; "{prefix}"),
+        End::Unhandled { object, fault } => unhandled(alloc, prefix, object, fault.number()),
+        End::BadCode { at, why } => bad_code(alloc, prefix, at, cause_name(why)),
     }
 }
 
-fn unhandled(alloc: Global, front: &str, object: u32, fault: u8) -> Result<String, AllocError>
-    ensures { IfOk result (λ text. string_bytes text ≡ front.now ++ unhandled_line object fault) }
+fn unhandled(alloc: Global, prefix: &str, object: u32, fault: u8) -> Result<String, AllocError>
+    ensures { IfOk result (λ text. string_bytes text ≡ prefix.now ++ unhandled_line object fault) }
 {
-    format!(in alloc; "{front}[unhandled object={object} fault={fault}]\n")
+    format!(in alloc; "{prefix}[unhandled object={object} fault={fault}]\n")
 }
 
-fn bad_code(alloc: Global, front: &str, at: u32, why: &str) -> Result<String, AllocError>
-    ensures { IfOk result (λ text. string_bytes text ≡ front.now ++ bad_code_line at why.now) }
+fn bad_code(alloc: Global, prefix: &str, at: u32, why: &str) -> Result<String, AllocError>
+    ensures { IfOk result (λ text. string_bytes text ≡ prefix.now ++ bad_code_line at why.now) }
 {
-    format!(in alloc; "{front}[bad code at={at} why={why}]\n")
+    format!(in alloc; "{prefix}[bad code at={at} why={why}]\n")
 }
 
 /// What ends a line that was begun.

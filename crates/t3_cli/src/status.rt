@@ -1,5 +1,7 @@
 ghost use Rattle.std.specs.Prelude.{◌≡◌};
-ghost use Rattle.t3_cli.specs.Status.{code_of};
+ghost use Rattle.t3_cli.specs.Status.{code_of, words_status};
+
+use std::io::ErrorKind;
 
 /// How a call of the program ended. Its code is the exit status of the process.
 #[derive(Clone, Copy, Debug, PartialEq, Eq, Hash)]
@@ -29,6 +31,18 @@ pub enum Status {
 }
 
 impl Status {
+    /// The status of words that the system couldn't hand over, where memory was wanting for them. Any
+    /// other error means a word that isn't text. That is no word of any command, so the words are then
+    /// carried out as none.
+    pub(crate) fn of_words_error(kind: ErrorKind) -> Option<Status>
+        ensures { result ≡ words_status kind }
+    {
+        match kind {
+            ErrorKind::OutOfMemory => Some(Status::NoMemory),
+            _ => None,
+        }
+    }
+
     /// The exit status of the process.
     pub fn code(self) -> u8
         ensures { result ≡ code_of self }

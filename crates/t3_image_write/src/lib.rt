@@ -11,4 +11,5 @@ mod write;
 
 pub use laws::written_reads;
 pub use masking::remask;
+pub use size::text_size;
 pub use write::write_image;

@@ -6,8 +6,8 @@ ghost use Rattle.t3_image_read.specs.Validity.{IsGood};
 
 use t3_image_read::{HEAD_SIZE, HEADER_SIZE, Image, Placed};
 
-/// How many bytes the text of an image has.
-pub(crate) fn text_size(image: &Image) -> usize
+/// How many bytes the text of an image has: at most 268,435,456.
+pub fn text_size(image: &Image) -> usize
     ensures { result ≡ length (text image.now) }
 {
     HEAD_SIZE + blocks_size(&image.blocks) + HEADER_SIZE

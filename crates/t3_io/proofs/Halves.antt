@@ -6,7 +6,14 @@ use Rattle.t3_io.specs.Files.{Files}
 use Rattle.t3_io.specs.Putting.{MaySpoil}
 use Rattle.t3_io.specs.Failing.{half}
 
-pub half_spoils : {E : Type 0} (files after : Files) (name bytes : List ℕ) (answer : Result (Unit {0}) E) → OnOk answer (after ≡ insert files name (half bytes)) → OnErr answer (after ≡ files) → MaySpoil files name bytes (Some after)
+pub half_spoils : {E : Type 0} (files after : Files) (name bytes : List ℕ) (answer : Result (Unit {0}) E)
+    → OnOk answer (after ≡ insert files name (half bytes)) → OnErr answer (after ≡ files) → MaySpoil files name bytes (Some after)
 half_spoils files after name bytes (Ok _) ok err =
-    inr (inr (record { front = half bytes; rest = drop (length bytes / 2) bytes; is = sym (take-append-drop (length bytes / 2) bytes); left_is = ap Some ok }))
+    inr (inr (record {
+      prefix =
+          half bytes;
+      rest = drop (length bytes / 2) bytes;
+      is = sym (take-append-drop (length bytes / 2) bytes);
+      left_is = ap Some ok;
+    }))
 half_spoils files after name bytes (Err _) ok err = inl (ap Some err)

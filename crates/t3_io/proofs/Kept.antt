@@ -24,17 +24,21 @@ bytes_of-cond : (b : Bool) (v : Vec ℕ) (o : Option (Vec ℕ)) → bytes_of (co
 bytes_of-cond true v o = refl
 bytes_of-cond false v o = refl
 
-find-kept_entries : (name : List ℕ) (es : List (Vec ℕ × Vec ℕ)) → bytes_of (lookup (is_at (λ k. slice_cmp nat_cmp name k.items)) es) ≡ find (slice_cmp nat_cmp) name (kept_entries es)
+find-kept_entries : (name : List ℕ) (es : List (Vec ℕ × Vec ℕ))
+    → bytes_of (lookup (is_at (λ k. slice_cmp nat_cmp name k.items)) es) ≡ find (slice_cmp nat_cmp) name (kept_entries es)
 find-kept_entries name [] = refl
 find-kept_entries name (e ∷ es) =
     let test = is_eq (slice_cmp nat_cmp name e.0.items) in
     bytes_of-cond test e.1 (lookup (is_at (λ k. slice_cmp nat_cmp name k.items)) es) ∙ ap (cond test (Some e.1.items)) (find-kept_entries name es)
 
 -- what the tree answers is what the finite map has there
-pub get-kept : (name : List ℕ) (es : List (Vec ℕ × Vec ℕ)) (o : Option (Vec ℕ)) → o ≡ lookup (is_at (λ k. slice_cmp nat_cmp name k.items)) es → bytes_of o ≡ get {R = slice_cmp nat_cmp} (from_entries (kept_entries es)) name
+pub get-kept : (name : List ℕ) (es : List (Vec ℕ × Vec ℕ)) (o : Option (Vec ℕ))
+    → o ≡ lookup (is_at (λ k. slice_cmp nat_cmp name k.items)) es
+    → bytes_of o ≡ get {R = slice_cmp nat_cmp} (from_entries (kept_entries es)) name
 get-kept name es o is = ap bytes_of is ∙ find-kept_entries name es ∙ sym (get-from_entries nat_list_cmp_total (kept_entries es) name)
 
-kept_entries-insert_entry : (es : List (Vec ℕ × Vec ℕ)) (k v : Vec ℕ) → kept_entries (insert_entry vec_cmp es k v) ≡ put (slice_cmp nat_cmp) k.items v.items (kept_entries es)
+kept_entries-insert_entry : (es : List (Vec ℕ × Vec ℕ)) (k v : Vec ℕ)
+    → kept_entries (insert_entry vec_cmp es k v) ≡ put (slice_cmp nat_cmp) k.items v.items (kept_entries es)
 kept_entries-insert_entry [] k v = refl
 kept_entries-insert_entry (e ∷ es) k v =
     elim (slice_cmp nat_cmp k.items e.0.items) as (λ r. kept_entries (match_ordering r ((k, v) ∷ e ∷ es) ((e.0, v) ∷ es) (e ∷ insert_entry vec_cmp es k v)) ≡ by_order r ((k.items, v.items) ∷ (e.0.items, e.1.items) ∷ kept_entries es) ((e.0.items, v.items) ∷ kept_entries es) ((e.0.items, e.1.items) ∷ put (slice_cmp nat_cmp) k.items v.items (kept_entries es))) [
@@ -44,7 +48,9 @@ kept_entries-insert_entry (e ∷ es) k v =
     ]
 
 -- an insert into the tree is one into the finite map
-pub kept-insert : (es : List (Vec ℕ × Vec ℕ)) (k v : Vec ℕ) → from_entries {R = slice_cmp nat_cmp} (kept_entries (insert_entry vec_cmp es k v)) ≡ insert (from_entries (kept_entries es)) k.items v.items
+pub kept-insert : (es : List (Vec ℕ × Vec ℕ)) (k v : Vec ℕ)
+    → from_entries {R = slice_cmp nat_cmp} (kept_entries (insert_entry vec_cmp es k v)) ≡ insert
+    (from_entries (kept_entries es)) k.items v.items
 kept-insert es k v =
     let o = nat_list_cmp_total in
     same_map o (slice_cmp-IsAntisymmetric nat_cmp-IsAntisymmetric) _ _ (λ q.

@@ -1,5 +1,5 @@
 -- Devices in memory that fail at the calls whose numbers they were given.
-use Rattle.std.specs.Prelude.{◌≡◌, ◌⊎◌, ℕ, ◌+◌, ◌-◌, ◌/◌, ◌^◌, min, Bool, true, false, ◌==◌, if◌then◌else◌, List, length, take, Result, Ok, Err, refl}
+use Rattle.std.specs.Prelude.{◌≡◌, ◌⊎◌, ℕ, zero, suc, ◌+◌, ◌/◌, Bool, true, false, ◌==◌, if◌then◌else◌, List, [], ◌∷◌, length, take, Result, Ok, Err, refl}
 use Rattle.std.specs.List.{list_any}
 use Rattle.std.specs.Coded.{Coded, code_by, coded×, coded_ℕ, coded_list}
 use Rattle.std.specs.FinMap as map
@@ -8,25 +8,29 @@ use Rattle.t3_io.specs.Session.{Session}
 use Rattle.t3_io.specs.declared.refusal.DeviceRefusal.{DeviceRefusal}
 use Rattle.t3_io.specs.declared.refusal.DeviceRefusal.TheVariants.{Fault, NoMemory}
 
--- the numbers, from 0, of the calls that are to fail; how many calls were made; how many of those failed
+-- the numbers of the calls to come that are to fail, where the next call is 0; and how many calls have failed
 pub record Calls : Type 0 where
   pub failing : List ℕ
-  pub made : ℕ
   pub faults : ℕ
 
 -- no call was made yet
 abbrev pub no_calls : List ℕ → Calls
-no_calls failing = record { failing = failing; made = 0; faults = 0 }
+no_calls failing = record { failing = failing; faults = 0 }
 
--- the next call, whose number is how many were made before it, is to fail
+-- the next call is to fail
 abbrev pub is_to_fail : Calls → Bool
-is_to_fail calls = list_any (λ number. number == calls.made) calls.failing
+is_to_fail calls = list_any (λ number. number == 0) calls.failing
 
--- one more call was made. The count stops at the greatest u64, which is the number of no call that is to fail
-abbrev pub one_more : Calls → Calls
-one_more calls = record {
-  failing = calls.failing;
-  made = min (calls.made + 1) (2 ^ 64 - 1);
+-- the numbers one call later: that of the call just made is gone, and each other is less by one
+unfoldable pub numbers_after : List ℕ → List ℕ
+numbers_after [] = []
+numbers_after (zero ∷ numbers) = numbers_after numbers
+numbers_after (suc number ∷ numbers) = number ∷ numbers_after numbers
+
+-- the calls after one more was made
+abbrev pub calls_after : Calls → Calls
+calls_after calls = record {
+  failing = numbers_after calls.failing;
   faults = calls.faults + (if is_to_fail calls then 1 else 0);
 }
 
@@ -37,7 +41,7 @@ is_fault (Err NoMemory) = false
 
 -- one more call was made, and its answer is a fault exactly where it was to fail
 pub record Counts {T : Type 0} (before after : Calls) (answer : Result T DeviceRefusal) : Type 0 where
-  pub counted : after ≡ one_more before
+  pub counted : after ≡ calls_after before
   pub fails : is_fault answer ≡ is_to_fail before
 
 -- the first half of the bytes, rounded down: never all of them, unless there are none
@@ -61,8 +65,16 @@ pub record FailingConsole : Type 0 where
 -- how these are stored: as the tuples of their fields
 abbrev pub calls_code : Coded Calls
 calls_code =
-    code_by (List ℕ × (ℕ × ℕ)) (coded× (coded_list coded_ℕ) (coded× coded_ℕ coded_ℕ)) (λ c. (c.failing, (c.made, c.faults))) (λ p. record { failing = p.0; made = p.1.0; faults = p.1.1 }) (λ _. refl)
+    code_by (List ℕ × ℕ) (coded× (coded_list coded_ℕ) coded_ℕ) (λ c. (c.failing, c.faults)) (λ p. record {
+      failing =
+          p.0;
+      faults = p.1;
+    }) (λ _. refl)
 
 abbrev pub depot_code : Coded FailingDepot
 depot_code =
-    code_by (Files × Calls) (coded× (map.code (coded_list coded_ℕ) (coded_list coded_ℕ)) calls_code) (λ d. (d.files, d.calls)) (λ p. record { files = p.0; calls = p.1 }) (λ _. refl)
+    code_by (Files × Calls) (coded× (map.code (coded_list coded_ℕ) (coded_list coded_ℕ)) calls_code) (λ d. (d.files, d.calls)) (λ p. record {
+      files =
+          p.0;
+      calls = p.1;
+    }) (λ _. refl)

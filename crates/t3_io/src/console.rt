@@ -1,6 +1,6 @@
 ghost use Rattle.std.specs.Prelude.{◌-◌, ◌^◌, ◌<◌, ℕ, Option, length, IfOk};
 ghost use Rattle.t3_io.specs.Cause.{MovesFaults};
-ghost use Rattle.t3_io.specs.Session.{Session, Shows, IsProgress};
+ghost use Rattle.t3_io.specs.Session.{Session, ShowsPiece, IsProgress};
 
 use crate::refusal::DeviceRefusal;
 
@@ -20,7 +20,7 @@ pub trait Console {
     /// shows nothing. The input stays.
     fn write(&mut self, piece: &[u8]) -> Result<usize, DeviceRefusal>
         requires { faults self.old < 2 ^ 64 - 1 }
-        ensures shown { Shows (session self.old) (session self.new) piece.now result }
+        ensures shown { ShowsPiece (session self.old) (session self.new) piece.now result }
         ensures count { IfOk result (IsProgress (length piece.now)) }
         ensures cause { MovesFaults (faults self.old) (faults self.new) result };
 }

@@ -3,7 +3,7 @@ ghost use Rattle.std.specs.Prelude.{◌≡◌, [], length, IfOk, OnOk, OnErr};
 ghost use Rattle.std.specs.Option.{option_copied};
 ghost use Rattle.std.specs.FinMap as map;
 ghost use Rattle.t3_io.specs.Reading.{Copies, ReadsFile, IsAtMost};
-ghost use Rattle.t3_io.specs.Session.{showing};
+ghost use Rattle.t3_io.specs.Session.{after_showing};
 
 use crate::depot::Got;
 use std::alloc::Global;
@@ -61,7 +61,7 @@ impl KeptFiles {
     }
 
     pub(crate) fn read_at(&self, name: &[u8], at: u64, buf: &mut [u8]) -> Got
-        ensures read { ReadsFile (map.get self.now name.now) at buf.old buf.new result }
+        ensures read { ReadsFile (map.get self.now name.now) at buf.new result }
         ensures count { IsAtMost (length buf.old) result }
     {
         match self.file(name) {
@@ -71,9 +71,9 @@ impl KeptFiles {
     }
 }
 
-/// Copies bytes of a file, from a place on, to the front of the buffer, and says how many.
+/// Copies bytes of a file, from a place on, into the first bytes of the buffer, and says how many.
 fn copy_from(file: &[u8], at: u64, buf: &mut [u8]) -> usize
-    ensures { Copies file.now at buf.old buf.new result }
+    ensures { Copies file.now at buf.new result }
 {
     let start = file.len().min(at as usize);
     let rest = &file[start..];
@@ -109,7 +109,7 @@ impl KeptSession {
 
     /// Shows a piece whole, or nothing of it.
     pub(crate) fn show(&mut self, piece: &[u8]) -> Result<(), NoMemory>
-        ensures ok { OnOk result (self.new ≡ showing self.old piece.now) }
+        ensures ok { OnOk result (self.new ≡ after_showing self.old piece.now) }
         ensures err { OnErr result (self.new ≡ self.old) }
     {
         self.output.extend_from_slice(piece)?;

@@ -3,7 +3,7 @@ ghost use Rattle.t3_holder.specs.FileName.{IsFileName};
 ghost use Rattle.t3_io.specs.Files.{Files};
 ghost use Rattle.t3_io.specs.Cause.{MovesFaults};
 ghost use Rattle.t3_io.specs.Reading.{Reads, IsAtMost};
-ghost use Rattle.t3_io.specs.Putting.{Puts};
+ghost use Rattle.t3_io.specs.Putting.{PutsFile};
 
 use crate::refusal::DeviceRefusal;
 
@@ -12,7 +12,7 @@ use crate::refusal::DeviceRefusal;
 pub enum Got {
     /// There is no file of that name.
     Absent,
-    /// So many bytes of the file are now at the front of the buffer.
+    /// So many bytes of the file are now the first bytes of the buffer.
     Count(usize),
 }
 
@@ -27,26 +27,26 @@ pub trait Depot {
     /// How many faults have happened. It never falls.
     ghost faults: { Self → ℕ };
 
-    /// Reads bytes of a file, from the place `at` on, to the front of `buf`.
+    /// Reads bytes of a file, from the place `at` on, into the first bytes of `buf`.
     ///
     /// `Absent` exactly where the file isn't there. Else the count is at most the length of `buf`, and
-    /// for a `buf` that isn't empty it is 0 exactly where the file ends at or before `at`. What lies in
-    /// `buf` behind the bytes that were read stays. No file changes.
+    /// for a `buf` that isn't empty it is 0 exactly where the file ends at or before `at`. The bytes of
+    /// `buf` past the count may be anything afterwards. No file changes.
     fn read_at(&mut self, name: &[u8], at: u64, buf: &mut [u8]) -> Result<Got, DeviceRefusal>
         requires name { IsFileName name.now }
         requires faults { faults self.old < 2 ^ 64 - 1 }
-        ensures read { Reads (files self.old) name.now at buf.old buf.new result }
+        ensures read { Reads (files self.old) name.now at buf.new result }
         ensures count { IfOk result (IsAtMost (length buf.old)) }
         ensures files { files self.new ≡ files self.old }
         ensures cause { MovesFaults (faults self.old) (faults self.new) result };
 
     /// Sets one file to these bytes, and changes no other.
     ///
-    /// After `Fault` the file is as before, or absent, or has a front of the bytes. After `NoMemory` it
+    /// After `Fault` the file is as before, or absent, or has a prefix of the bytes. After `NoMemory` it
     /// is as before. The other files stay in every case.
     fn put(&mut self, name: &[u8], bytes: &[u8]) -> Result<(), DeviceRefusal>
         requires name { IsFileName name.now }
         requires faults { faults self.old < 2 ^ 64 - 1 }
-        ensures put { Puts (files self.old) (files self.new) name.now bytes.now result }
+        ensures put { PutsFile (files self.old) (files self.new) name.now bytes.now result }
         ensures cause { MovesFaults (faults self.old) (faults self.new) result };
 }

@@ -100,8 +100,8 @@ fn open_to_write<R: Files>(rt: &R, name: &[u8]) -> io::Result<Option<R::File>> {
     }
 }
 
-/// Writes the file that is there, emptied first, or a new one. After an error it may have a front of
-/// the bytes.
+/// Writes the file that is there, emptied first, or a new one. After an error it may have a prefix
+/// of the bytes.
 fn write_file<R: Files>(
     rt: &R,
     name: &[u8],

@@ -5,8 +5,8 @@ ghost use Rattle.std.specs.FinMap as map;
 ghost use Rattle.t3_holder.specs.FileName.{IsFileName};
 ghost use Rattle.t3_io.specs.Cause.{MovesFaults};
 ghost use Rattle.t3_io.specs.Reading.{Reads, IsAtMost};
-ghost use Rattle.t3_io.specs.Putting.{Puts};
-ghost use Rattle.t3_io.specs.Session.{Shows, IsProgress};
+ghost use Rattle.t3_io.specs.Putting.{PutsFile};
+ghost use Rattle.t3_io.specs.Session.{ShowsPiece, IsProgress};
 ghost use Rattle.t3_io.specs.Failing.{no_calls, Counts, LeavesHalf};
 
 use crate::console::Console;
@@ -19,8 +19,7 @@ use std::marker::Model;
 use t3_holder::NoMemory;
 
 /// Files in memory, whose `read_at` and `put` fault at chosen calls. Both are counted together, from 0,
-/// whatever they answer. Contracts see the files, which calls are to fail, how many were made, and how
-/// many of those faulted.
+/// whatever they answer. Contracts see the files, which calls to come are to fail, and how many have failed.
 #[derive(Drop)]
 pub struct MemoryDepot {
     files: KeptFiles,
@@ -74,7 +73,7 @@ impl Depot for MemoryDepot {
     fn read_at(&mut self, name: &[u8], at: u64, buf: &mut [u8]) -> Result<Got, DeviceRefusal>
         requires name { IsFileName name.now }
         requires faults { self.old.calls.faults < 2 ^ 64 - 1 }
-        ensures read { Reads (Some self.old.files) name.now at buf.old buf.new result }
+        ensures read { Reads (Some self.old.files) name.now at buf.new result }
         ensures count { IfOk result (IsAtMost (length buf.old)) }
         ensures files { self.new.files ≡ self.old.files }
         ensures cause { MovesFaults self.old.calls.faults self.new.calls.faults result }
@@ -92,7 +91,7 @@ impl Depot for MemoryDepot {
     fn put(&mut self, name: &[u8], bytes: &[u8]) -> Result<(), DeviceRefusal>
         requires name { IsFileName name.now }
         requires faults { self.old.calls.faults < 2 ^ 64 - 1 }
-        ensures put { Puts (Some self.old.files) (Some self.new.files) name.now bytes.now result }
+        ensures put { PutsFile (Some self.old.files) (Some self.new.files) name.now bytes.now result }
         ensures cause { MovesFaults self.old.calls.faults self.new.calls.faults result }
         ensures counts { Counts self.old.calls self.new.calls result }
         ensures half { LeavesHalf self.old.files self.new.files name.now bytes.now result }
@@ -107,7 +106,7 @@ impl Depot for MemoryDepot {
 }
 
 /// Input and output in memory, whose `write` faults at chosen calls, counted from 0 whatever they answer.
-/// Contracts see the session, which calls are to fail, how many were made, and how many of those faulted.
+/// Contracts see the session, which calls to come are to fail, and how many have failed.
 #[derive(Drop)]
 pub struct MemoryConsole {
     kept: KeptSession,
@@ -149,7 +148,7 @@ impl Console for MemoryConsole {
 
     fn write(&mut self, piece: &[u8]) -> Result<usize, DeviceRefusal>
         requires { self.old.calls.faults < 2 ^ 64 - 1 }
-        ensures shown { Shows (Some self.old.session) (Some self.new.session) piece.now result }
+        ensures shown { ShowsPiece (Some self.old.session) (Some self.new.session) piece.now result }
         ensures count { IfOk result (IsProgress (length piece.now)) }
         ensures cause { MovesFaults self.old.calls.faults self.new.calls.faults result }
         ensures counts { Counts self.old.calls self.new.calls result }

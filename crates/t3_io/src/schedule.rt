@@ -1,17 +1,17 @@
 //! Which calls of a device in memory are to fail.
-ghost use Rattle.std.specs.Prelude.{◌≡◌, ◌==◌, ◌-◌, ◌^◌, ◌<◌, IfOk};
+ghost use Rattle.std.specs.Prelude.{◌≡◌, ◌==◌, ◌-◌, ◌^◌, ◌<◌, take, IfOk};
 ghost use Rattle.std.specs.List.{list_any};
-ghost use Rattle.t3_io.specs.Failing.{no_calls, is_to_fail, one_more};
+ghost use Rattle.t3_io.specs.Failing.{no_calls, is_to_fail, numbers_after, calls_after};
 
 use std::alloc::Global;
 use std::marker::Model;
 use t3_holder::NoMemory;
 
-/// The numbers of the calls that are to fail, and how many calls were made and have failed.
+/// The numbers of the calls to come that are to fail, where the next call is 0, and how many calls have
+/// failed.
 #[derive(Drop)]
 pub(crate) struct Schedule {
     failing: Vec<u32>,
-    made: u64,
     faults: u64,
 }
 
@@ -22,7 +22,7 @@ impl Model for Schedule {
 
     ghost coded = { calls_code };
 
-    ghost view = { λ s. record { failing = s.failing.items; made = s.made; faults = s.faults } };
+    ghost view = { λ s. record { failing = s.failing.items; faults = s.faults } };
 }
 
 impl Schedule {
@@ -32,7 +32,6 @@ impl Schedule {
     {
         Ok(Schedule {
             failing: Vec::from_slice(alloc, failing)?,
-            made: 0,
             faults: 0,
         })
     }
@@ -41,10 +40,11 @@ impl Schedule {
     pub(crate) fn next_fails(&mut self) -> bool
         requires { self.old.faults < 2 ^ 64 - 1 }
         ensures fails { result ≡ is_to_fail self.old }
-        ensures counted { self.new ≡ one_more self.old }
+        ensures counted { self.new ≡ calls_after self.old }
     {
-        let fails = is_among(&self.failing, self.made);
-        self.made = self.made.saturating_add(1);
+        let fails = has_zero(&self.failing);
+        let kept = count_down(&mut self.failing);
+        self.failing.truncate(kept);
         if fails {
             self.faults += 1;
         }
@@ -52,9 +52,25 @@ impl Schedule {
     }
 }
 
-/// Whether a call's number is among these.
-fn is_among(numbers: &[u32], call: u64) -> bool
-    ensures { result ≡ list_any (λ number. number == call) numbers.now }
+/// Whether the next call's number is among these.
+fn has_zero(numbers: &[u32]) -> bool
+    ensures { result ≡ list_any (λ number. number == 0) numbers.now }
 {
-    numbers.iter().any(|number| u64::from(*number) == call)
+    numbers.iter().any(|number| *number == 0)
+}
+
+/// Makes each number less by one, but drops those that are 0. The numbers that are left are the first so
+/// many.
+fn count_down(numbers: &mut [u32]) -> usize
+    ensures { take result numbers.new ≡ numbers_after numbers.old }
+{
+    let mut kept = 0;
+    for at in 0..numbers.len() {
+        let number = numbers[at];
+        if number > 0 {
+            numbers[kept] = number - 1;
+            kept += 1;
+        }
+    }
+    kept
 }

@@ -24,6 +24,22 @@ fn a_folder_has_what_was_put_there(rt: HostRuntime) -> Result<(), Fail> {
     fs::remove_dir(&rt, "t3_io-folder")?;
     assert_eq!(rt; read, Err(DeviceRefusal::Fault), "a folder is no file");
     assert_eq!(rt; put, Err(DeviceRefusal::Fault), "a folder is no file");
+    // A link to itself can't be opened, though it is there.
+    fs::symlink(&rt, "t3_io-link", "t3_io-link")?;
+    let mut depot = FolderDepot::new(&rt);
+    let read = depot.read_at(b"t3_io-link", 0, &mut buf);
+    let put = depot.put(b"t3_io-link", b"text");
+    fs::remove_file(&rt, "t3_io-link")?;
+    assert_eq!(rt;
+        read,
+        Err(DeviceRefusal::Fault),
+        "a file that can't be opened isn't absent"
+    );
+    assert_eq!(rt;
+        put,
+        Err(DeviceRefusal::Fault),
+        "a file that can't be opened isn't absent"
+    );
     Ok(())
 }
 
@@ -47,6 +63,18 @@ fn the_sure_devices_keep_all(rt: HostRuntime) -> Result<(), Fail> {
     let mut console = SureConsole::new(rt.alloc(), b"input")?;
     assert_eq!(rt; console.write(b"shown")?, 5);
     assert_eq!(rt; console.shown(), b"shown".as_slice());
+    Ok(())
+}
+
+/// The example of the crate's first page.
+#[test]
+fn the_second_call_fails(rt: HostRuntime) -> Result<(), Fail> {
+    let mut depot = MemoryDepot::new(rt.alloc(), &[1])?;
+    depot.put(b"a", b"bytes")?;
+    let mut buf = [0; 3];
+    assert_eq!(rt; depot.read_at(b"a", 2, &mut buf), Err(DeviceRefusal::Fault));
+    assert_eq!(rt; depot.read_at(b"a", 2, &mut buf)?, Got::Count(3));
+    assert_eq!(rt; buf.as_slice(), b"tes".as_slice());
     Ok(())
 }
 

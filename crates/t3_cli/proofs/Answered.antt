@@ -1,0 +1,160 @@
+-- What followed an outcome of the words answers them.
+use Rattle.std.proofs.Common.{◌≡◌, ◌≢◌, ℕ, List, [], ◌++◌, Option, Some, None, Ok, IfSome, refl, sym, ap, subst, ◌∙◌, ◌⊎◌, inl, inr}
+use Rattle.t3_io.specs.Files.{Files}
+use Rattle.t3_io.specs.Session.{Session}
+use Rattle.t3_cli.specs.declared.images.read.ReadImage.{ReadImage}
+use Rattle.t3_cli.specs.declared.images.read.ReadImage.TheVariants as read
+use Rattle.t3_cli.specs.declared.status.Status.{Status}
+use Rattle.t3_cli.specs.declared.status.Status.TheVariants.{Done, Usage, Absent, ImageRefused, LoadRefused, DepotFault, ConsoleFault, NoMemory}
+use Rattle.t3_cli.specs.declared.run.turn.End.{End}
+use Rattle.t3_cli.specs.declared.run.turn.End.TheVariants as ends
+use Rattle.t3_cli.specs.Cause.{Cause}
+use Rattle.t3_cli.specs.Command.{CommandValue, Check, Show, Run, Rewrite}
+use Rattle.t3_cli.specs.Lines.{usage_line}
+use Rattle.t3_cli.specs.Outcome.{Outcome, showing, IsResult, IsImageOutcome, input_of, status_of}
+use Rattle.t3_cli.specs.Top.{CutsShort, IsInput, IsWhole, IsCut, IsShown, ShowsSome, HasExactCause}
+use Rattle.t3_cli.specs.Inner.Parsing.{file_of}
+use Rattle.t3_cli.specs.Inner.Reading.{ReadsImage}
+use Rattle.t3_cli.specs.Inner.Following.{Answers, Follows, FollowsSome, IsReadOutcome}
+use Rattle.t3_cli.proofs.Results.{read_result}
+use Rattle.t3_cli.proofs.Causes.{exact_cause, result_not_cut}
+use Rattle.t3_cli.proofs.Followed.{follows_shown}
+use Rattle.t3_cli.proofs.Shown.{shows_nothing}
+
+-- an input that a console may have
+input_in : (session : Option Session) → (input : List ℕ) × IsInput session input
+input_in None = ([], tt)
+input_in (Some session) = (session.left, refl)
+
+answers_by : (command : Option CommandValue) (files : Files) (left : Option Files) (before after : Option Session) (answer : Status) (outcome : Outcome)
+    → ((input : List ℕ) → IsResult command files input outcome) → Follows outcome (Some files) left before after answer
+    → Answers command files before answer left after
+answers_by command files left before after answer outcome result (inl whole) =
+    let input = input_in before in
+    inl (record {
+      input = input.0;
+      is_input = input.1;
+      outcome = outcome;
+      result = result input.0;
+      status = whole.status;
+      files_are = whole.leaves;
+      shows = whole.shows;
+    })
+answers_by command files left before after answer outcome result (inr breaks) =
+    let input = input_in before in
+    inr (
+      breaks.cut,
+      inr (record {
+        input = input.0;
+        is_input = input.1;
+        outcome = outcome;
+        result = result input.0;
+        done = breaks.done;
+        rest = breaks.rest;
+        acts_are = breaks.acts_are;
+        said = breaks.said;
+        stops = breaks.stops;
+        shows = breaks.shows;
+      }),
+    )
+
+-- ---- a command
+
+-- what was done with what was read of the command's file
+pub read_answers : (command : CommandValue) (all left : Option Files) (before after : Option Session) (answer : Status) (found : ReadImage)
+    → ReadsImage all (file_of (input_of command)) (Ok found) → FollowsSome (IsReadOutcome command found) all left before after answer
+    → IfSome all (λ files. Answers (Some command) files before answer left after)
+read_answers command None left before after answer found reads follows = tt
+read_answers command (Some files) left before after answer found reads (outcome, gives, follows) =
+    answers_by (Some command) files left before after answer outcome (λ input. read_result command files input found outcome reads gives) follows
+
+-- nothing was done
+pub untouched_answers : (command : Option CommandValue) (all left : Option Files) (before : Option Session) (answer : Status) → left ≡ all
+    → CutsShort answer
+    → IfSome all (λ files. Answers command files before answer left before)
+untouched_answers command None left before answer same cut = tt
+untouched_answers command (Some files) left before answer same cut = inr (cut, inl (same, refl))
+
+pub follows_some : (IsOutcome : Outcome → Type 0) (all left : Option Files) (before after : Option Session) (answer : Status)
+    → FollowsSome IsOutcome all left before after answer → ShowsSome before after
+follows_some IsOutcome all left before after answer (outcome, gives, inl whole) = (_, whole.shows)
+follows_some IsOutcome all left before after answer (outcome, gives, inr breaks) = (breaks.said, breaks.shows)
+
+pub some_nothing : (before : Option Session) → ShowsSome before before
+some_nothing before = ([], shows_nothing before)
+
+-- ---- only words that are no command end in the usage
+
+cut_not_usage : (answer : Status) → CutsShort answer → answer ≢ Usage
+cut_not_usage answer cut is = let P : Status → Type 0 = CutsShort in subst P is cut
+
+end_not_usage : (end : Option End) → status_of end ≢ Usage
+end_not_usage None = λ e. absurd cc
+end_not_usage (Some ends.Returned) = λ e. absurd cc
+end_not_usage (Some (ends.Unhandled object fault)) = λ e. absurd cc
+end_not_usage (Some (ends.BadCode at cause)) = λ e. absurd cc
+
+-- an outcome with another status
+other_status : (outcome : Outcome) (status : Status) (text : List ℕ) → outcome ≡ showing status text → status ≢ Usage
+    → outcome.status ≢ Usage
+other_status outcome status text is other same = other (sym (ap (λ (o : Outcome). o.status) is) ∙ same)
+
+image_not_usage : (command : CommandValue) (image : _) (outcome : Outcome) → IsImageOutcome command image outcome → outcome.status ≢ Usage
+image_not_usage (Check name) image outcome is = other_status outcome Done _ is (λ e. absurd cc)
+image_not_usage (Show name) image outcome is = other_status outcome Done _ is (λ e. absurd cc)
+image_not_usage (Rewrite name out mask) image outcome is =
+    λ same. let clash : Done ≡ Usage = sym (ap (λ (o : Outcome). o.status) is) ∙ same in absurd cc
+image_not_usage (Run name options) image outcome (inl none) = other_status outcome LoadRefused _ none.1 (λ e. absurd cc)
+image_not_usage (Run name options) image outcome (inr (ran, runs, is)) =
+    other_status outcome (status_of ran.end) _ is (end_not_usage ran.end)
+
+read_not_usage : (command : CommandValue) (found : ReadImage) (outcome : Outcome) → IsReadOutcome command found outcome
+    → outcome.status ≢ Usage
+read_not_usage command read.Absent outcome is = other_status outcome Absent _ is (λ e. absurd cc)
+read_not_usage command (read.Refused place why) outcome is = other_status outcome ImageRefused _ is (λ e. absurd cc)
+read_not_usage command (read.Image image) outcome is = image_not_usage command image outcome is
+
+pub follows_not_usage : (command : CommandValue) (found : ReadImage) (all left : Option Files) (before after : Option Session) (answer : Status)
+    → FollowsSome (IsReadOutcome command found) all left before after answer → answer ≢ Usage
+follows_not_usage command found all left before after answer (outcome, gives, inl whole) =
+    λ is. read_not_usage command found outcome gives (sym whole.status ∙ is)
+follows_not_usage command found all left before after answer (outcome, gives, inr breaks) = cut_not_usage answer breaks.cut
+
+-- ---- words that are no command
+
+pub usage_answers : (all : Option Files) (before after : Option Session) (answer : Status) → IsShown before after usage_line Usage answer
+    → IfSome all (λ files. Answers None files before answer all after)
+usage_answers None before after answer shown = tt
+usage_answers (Some files) before after answer shown =
+    answers_by None files (Some files) before after answer (showing Usage usage_line) (λ input. refl)
+    (follows_shown (Some files) before before after [] usage_line Usage answer (shows_nothing before) shown)
+
+pub shown_some : (before after : Option Session) (text : List ℕ) (status answer : Status) → IsShown before after text status answer
+    → ShowsSome before after
+shown_some before after text status answer (inl whole) = (text, whole.shows)
+shown_some before after text status answer (inr cut) = (cut.said, cut.shows)
+
+-- ---- the clauses
+
+pub whole_of : (command : Option CommandValue) (all left : Option Files) (before after : Option Session) (answer : Status)
+    → IfSome all (λ files. Answers command files before answer left after)
+    → IfSome all (λ files. ¬ CutsShort answer → IsWhole command files before answer left after)
+whole_of command None left before after answer answers = tt
+whole_of command (Some files) left before after answer (inl whole) = λ not_cut. whole
+whole_of command (Some files) left before after answer (inr (cut, part)) = λ not_cut. absurd (not_cut cut)
+
+pub cut_of : (command : Option CommandValue) (all left : Option Files) (before after : Option Session) (answer : Status)
+    → IfSome all (λ files. Answers command files before answer left after)
+    → IfSome all (λ files. CutsShort answer → IsCut command files before left after)
+cut_of command None left before after answer answers = tt
+cut_of command (Some files) left before after answer (inl whole) =
+    λ cut. absurd (result_not_cut command files whole.input whole.outcome whole.result (let P : Status → Type 0 =
+    CutsShort in subst P whole.status cut))
+cut_of command (Some files) left before after answer (inr (cut, part)) = λ again. part
+
+pub causes_of : (command : Option CommandValue) (all left : Option Files) (before after : Option Session) (answer : Status)
+    → IfSome all (λ files. Answers command files before answer left after)
+    → IfSome all (λ files. (status : Status) → ¬ CutsShort status → HasExactCause answer status before (Cause status command files))
+causes_of command None left before after answer answers = tt
+causes_of command (Some files) left before after answer answers =
+    λ status whole. exact_cause status command files before answer left after whole answers

@@ -1,0 +1,92 @@
+-- A command's names are file names, and which words are no command.
+use Rattle.std.proofs.Common.{◌≡◌, ℕ, ◌<◌, Bool, true, false, cond, List, [], ◌∷◌, length, map, Option, Some, None, refl, subst, arith}
+use Rattle.std.specs.Prelude.{codes}
+use Rattle.std.specs.Option.{option_map, option_and_then}
+use Rattle.std.specs.Str.{bytes_eq}
+use Rattle.t3_holder.specs.FileName.{is_file_name, IsFileName}
+use Rattle.t3_cli.specs.Command.{CommandValue, Check, Show, Run, Rewrite, RunOptions, run_options, mask_of, file_name, only_name, run_of, rewrite_of, command_of}
+use Rattle.t3_cli.specs.Outcome.{input_of}
+use Rattle.t3_cli.specs.Command.{HasFileNames}
+use Rattle.t3_cli.specs.Inner.Parsing.{file_of}
+
+-- ---- the names are file names
+
+pub input_fits : (command : CommandValue) → HasFileNames command → IsFileName (file_of (input_of command))
+input_fits (Check name) names = names
+input_fits (Show name) names = names
+input_fits (Run name options) names = names
+input_fits (Rewrite name out mask) names = names.0
+
+-- what is made of a value is made of one that there is
+record IsMadeOf {A : Type 0} (good : A → Type 0) (o : Option A) : Type 0 where
+  value : A
+  there : o ≡ Some value
+  makes : good value
+
+of_map : {A B : Type 0} (f : A → B) (o : Option A) (b : B) → option_map f o ≡ Some b → IsMadeOf (λ a. f a ≡ b) o
+of_map f (Some a) b is = record { value = a; there = refl; makes = cc }
+of_map f None b is = absurd cc
+
+of_then : {A B : Type 0} (f : A → Option B) (o : Option A) (b : B) → option_and_then f o ≡ Some b → IsMadeOf (λ a. f a ≡ Some b) o
+of_then f (Some a) b is = record { value = a; there = refl; makes = is }
+of_then f None b is = absurd cc
+
+file_fits : (word name : List ℕ) → file_name word ≡ Some name → IsFileName name
+file_fits word name is = by (is_file_name word) refl is
+  where
+    by : (good : Bool) → is_file_name word ≡ good → cond good (Some word) None ≡ Some name → IsFileName name
+    by true good same = let one : word ≡ name = cc in subst IsFileName one good
+    by false good same = absurd cc
+
+only_fits : (words : List (List ℕ)) (name : List ℕ) → only_name words ≡ Some name → IsFileName name
+only_fits [] name is = absurd cc
+only_fits (word ∷ []) name is = file_fits word name is
+only_fits (word ∷ more ∷ words) name is = absurd cc
+
+check_fits : (words : List (List ℕ)) (command : CommandValue) → option_map Check (only_name words) ≡ Some command → HasFileNames command
+check_fits words command is =
+    let made = of_map Check (only_name words) command is in
+    subst HasFileNames made.makes (only_fits words made.value made.there)
+
+show_fits : (words : List (List ℕ)) (command : CommandValue) → option_map Show (only_name words) ≡ Some command → HasFileNames command
+show_fits words command is =
+    let made = of_map Show (only_name words) command is in
+    subst HasFileNames made.makes (only_fits words made.value made.there)
+
+run_fits : (words : List (List ℕ)) (command : CommandValue) → run_of words ≡ Some command → HasFileNames command
+run_fits [] command is = absurd cc
+run_fits (name ∷ options) command is =
+    let image = of_then (λ image. option_map (Run image) (run_options options)) (file_name name) command is in
+    let made = of_map (Run image.value) (run_options options) command image.makes in
+    subst HasFileNames made.makes (file_fits name image.value image.there)
+
+rewrite_fits : (words : List (List ℕ)) (command : CommandValue) → rewrite_of words ≡ Some command → HasFileNames command
+rewrite_fits [] command is = absurd cc
+rewrite_fits (name ∷ []) command is = absurd cc
+rewrite_fits (name ∷ second ∷ options) command is =
+    let image = of_then (λ image. option_and_then (λ out. option_map (Rewrite image out) (mask_of options)) (file_name second)) (file_name name) command is in
+    let out = of_then (λ out. option_map (Rewrite image.value out) (mask_of options)) (file_name second) command image.makes in
+    let made = of_map (Rewrite image.value out.value) (mask_of options) command out.makes in
+    subst HasFileNames made.makes (file_fits name image.value image.there, file_fits second out.value out.there)
+
+by_verb : (check show run rewrite : Bool) (words : List (List ℕ)) (command : CommandValue)
+    → cond check (option_map Check (only_name words))
+    (cond show (option_map Show (only_name words)) (cond run (run_of words) (cond rewrite (rewrite_of words) None))) ≡ Some command
+    → HasFileNames command
+by_verb true show run rewrite words command is = check_fits words command is
+by_verb false true run rewrite words command is = show_fits words command is
+by_verb false false true rewrite words command is = run_fits words command is
+by_verb false false false true words command is = rewrite_fits words command is
+by_verb false false false false words command is = absurd cc
+
+pub names_fit : (words : List (List ℕ)) (command : CommandValue) → command_of words ≡ Some command → HasFileNames command
+names_fit [] command is = absurd cc
+names_fit (verb ∷ words) command is =
+    by_verb (bytes_eq verb (codes "check")) (bytes_eq verb (codes "show")) (bytes_eq verb (codes "run")) (bytes_eq verb (codes "rewrite")) words command is
+
+-- ---- words that are no command
+
+pub one_name : {A : Type 0} (f : A → List ℕ) (words : List A) → length words < 2 → None ≡ rewrite_of (map f words)
+one_name f [] few = refl
+one_name f (name ∷ []) few = refl
+one_name f (name ∷ second ∷ words) few = absurd (omega arith)

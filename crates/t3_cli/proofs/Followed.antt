@@ -1,0 +1,259 @@
+-- How what was shown and put follows an outcome.
+use Rattle.std.proofs.Common.{◌≡◌, ℕ, Bool, List, [], ◌∷◌, ◌++◌, length, Option, Some, None, Result, Ok, Err, IfOk, refl, sym, ap, subst, ◌∙◌, ◌⊎◌, inl, inr, append_assoc}
+use Rattle.std.proofs.lemmas.List.{append-nil}
+use Rattle.t3_io.specs.Files.{Files}
+use Rattle.t3_io.specs.Session.{Session}
+use Rattle.t3_io.specs.Putting.{PutsFile}
+use Rattle.t3_io.specs.declared.refusal.DeviceRefusal.{DeviceRefusal}
+use Rattle.t3_image_read.specs.declared.image.PlacedBlock.{PlacedBlock}
+use Rattle.t3_cli.specs.declared.run.turn.End.{End}
+use Rattle.t3_cli.specs.declared.status.Status.{Status}
+use Rattle.t3_cli.specs.declared.status.Status.TheVariants.{Done, LoadRefused, NoMemory}
+use Rattle.t3_cli.specs.Act.{Act, Shows, Puts, ShowsPrefix}
+use Rattle.t3_cli.specs.declared.images.read.ReadImage.{ReadImage}
+use Rattle.t3_cli.specs.Command.{CommandValue, RunOptions}
+use Rattle.t3_cli.specs.Lines.{closing_text, is_nonempty, put_line, unloaded_line}
+use Rattle.t3_cli.specs.Loading.{LoadsAs, IsUnloaded}
+use Rattle.t3_cli.specs.Machine.{ProgramValue, initial}
+use Rattle.t3_cli.specs.Outcome.{Outcome, showing, putting, shown_of, status_of, IsRunOutcome}
+use Rattle.t3_cli.specs.Run.{Ran, Runs}
+use Rattle.t3_cli.specs.Top.{CutsShort, ShowsMore, IsShown, IsShownWhole, IsShownCut}
+use Rattle.t3_cli.specs.Inner.Showing.{AnswersLine, ShowsOrWants}
+use Rattle.t3_cli.specs.Inner.Following.{Follows, FollowsSome, IsReadOutcome, LeavesActs, StopsBehind}
+use Rattle.t3_cli.specs.Inner.Playing.{IsProgramOutcome, HasPlayed, HasBegun}
+use Rattle.t3_cli.proofs.Results.{some_run_outcome}
+use Rattle.t3_cli.proofs.Shown.{shows_after, shows_nothing}
+
+-- ---- one text, shown in one piece or after what was shown of it
+
+leaves_same : (files : Option Files) (text : List ℕ) → LeavesActs files files (Shows text ∷ [])
+leaves_same None text = tt
+leaves_same (Some files) text = refl
+
+stops_within : (files : Option Files) (text said rest : List ℕ) → text ≡ said ++ rest → StopsBehind files [] (Shows text ∷ []) files said
+stops_within None text said rest is = tt
+stops_within (Some files) text said rest is = (refl, record { part = said; rest = rest; is = is; said_is = refl })
+
+-- all of it was shown
+follows_whole : (files : Option Files) (before after : Option Session) (text : List ℕ) (status answer : Status) → answer ≡ status
+    → ShowsMore before after text
+    → Follows (showing status text) files files before after answer
+follows_whole files before after text status answer same shows =
+    let P : List ℕ → Type 0 = ShowsMore before after in
+    inl (record { status = same; leaves = leaves_same files text; shows = subst P (sym (append-nil text)) shows })
+
+-- a prefix was, and then the call was cut short
+follows_cut : (files : Option Files) (before after : Option Session) (text said rest : List ℕ) (status answer : Status) → CutsShort answer
+    → text ≡ said ++ rest
+    → ShowsMore before after said → Follows (showing status text) files files before after answer
+follows_cut files before after text said rest status answer cut is shows =
+    inr (record {
+      cut =
+          cut;
+      done = [];
+      rest = Shows text ∷ [];
+      acts_are = refl;
+      said = said;
+      stops = stops_within files text said rest is;
+      shows = shows;
+    })
+
+-- a text of which so much was shown already, and the rest is shown now
+pub follows_shown : (files : Option Files) (before mid after : Option Session) (said text : List ℕ) (status answer : Status)
+    → ShowsMore before mid said
+    → IsShown mid after text status answer → Follows (showing status (said ++ text)) files files before after answer
+follows_shown files before mid after said text status answer first (inl whole) =
+    follows_whole files before after (said ++ text) status answer whole.same (shows_after before mid after said text first whole.shows)
+follows_shown files before mid after said text status answer first (inr cut) =
+    let prefix = cut.prefix in
+    let is : said ++ text ≡ (said ++ cut.said) ++ prefix.rest =
+    ap (λ t. said ++ t) (prefix.is ∙ ap (λ t. t ++ prefix.rest) (sym prefix.said_is)) ∙ sym (append_assoc said cut.said prefix.rest) in
+    follows_cut files before after (said ++ text) (said ++ cut.said) prefix.rest status answer cut.cut is (shows_after before mid after said cut.said first cut.shows)
+
+-- no memory was there for the rest
+follows_wanting : (files : Option Files) (before mid after : Option Session) (said text : List ℕ) (status answer : Status)
+    → ShowsMore before mid said
+    → answer ≡ NoMemory → after ≡ mid → Follows (showing status (said ++ text)) files files before after answer
+follows_wanting files before mid after said text status answer first wants stays =
+    let P : Option Session → Type 0 = λ s. ShowsMore before s said in
+    let Q : Status → Type 0 = CutsShort in
+    follows_cut files before after (said ++ text) said text status answer (subst Q (sym wants) tt) refl (subst P (sym stays) first)
+
+pub follows_or_wants : (files : Option Files) (before mid after : Option Session) (said text : List ℕ) (status answer : Status)
+    → ShowsMore before mid said
+    → ShowsOrWants mid after text status answer → Follows (showing status (said ++ text)) files files before after answer
+follows_or_wants files before mid after said text status answer first (inl shown) =
+    follows_shown files before mid after said text status answer first shown
+follows_or_wants files before mid after said text status answer first (inr wants) =
+    follows_wanting files before mid after said text status answer first wants.0 wants.1
+
+-- a line with a known text is shown, or there was no memory for it
+pub shows_line : {Line Error : Type 0}
+    → (text_of : Line → List ℕ) (before after : Option Session) (line : Result Line Error) (text : List ℕ) (status answer : Status)
+    → IfOk line (λ l. text_of l ≡ text) → AnswersLine text_of before after line status answer → ShowsOrWants before after text status answer
+shows_line text_of before after (Ok line) text status answer is answers =
+    let P : List ℕ → Type 0 = λ t. IsShown before after t status answer in inl (subst P is answers)
+shows_line text_of before after (Err e) text status answer is answers = inr answers
+
+-- a command that shows one line
+pub line_follows : {Line Error : Type 0}
+    → (text_of : Line → List ℕ) (files : Option Files) (before after : Option Session) (line : Result Line Error) (text : List ℕ)
+    (status answer : Status)
+    → IfOk line (λ l. text_of l ≡ text) → AnswersLine text_of before after line status answer
+    → Follows (showing status text) files files before after answer
+line_follows text_of files before after line text status answer is answers =
+    follows_or_wants files before before after [] text status answer (shows_nothing before) (shows_line text_of before after line text status answer is answers)
+
+-- ---- a file that is put, and then a line
+
+leaves_put : (files left : Option Files) (name bytes text : List ℕ) → PutsFile files left name bytes (Ok tt)
+    → LeavesActs files left (Puts name bytes ∷ Shows text ∷ [])
+leaves_put None left name bytes text puts = tt
+leaves_put (Some files) left name bytes text puts = puts
+
+stops_after : (files left : Option Files) (name bytes text said rest : List ℕ) → PutsFile files left name bytes (Ok tt)
+    → text ≡ said ++ rest
+    → StopsBehind files (Puts name bytes ∷ []) (Shows text ∷ []) left said
+stops_after None left name bytes text said rest puts is = tt
+stops_after (Some files) left name bytes text said rest puts is = (puts, record { part = said; rest = rest; is = is; said_is = refl })
+
+after_put : (files left : Option Files) (name bytes text : List ℕ) (before after : Option Session) (answer : Status)
+    → PutsFile files left name bytes (Ok tt)
+    → ShowsOrWants before after text Done answer
+    → Follows (record { status = Done; acts = Puts name bytes ∷ Shows text ∷ [] }) files left before after answer
+after_put files left name bytes text before after answer puts (inl (inl whole)) =
+    let P : List ℕ → Type 0 = ShowsMore before after in
+    inl (record {
+      status =
+          whole.same;
+      leaves = leaves_put files left name bytes text puts;
+      shows = subst P (sym (append-nil text)) whole.shows;
+    })
+after_put files left name bytes text before after answer puts (inl (inr cut)) =
+    let prefix = cut.prefix in
+    inr (record {
+      cut = cut.cut;
+      done = Puts name bytes ∷ [];
+      rest = Shows text ∷ [];
+      acts_are = refl;
+      said = cut.said;
+      stops =
+          stops_after files left name bytes text cut.said prefix.rest puts (prefix.is ∙ ap (λ t. t ++ prefix.rest) (sym prefix.said_is));
+      shows = cut.shows;
+    })
+after_put files left name bytes text before after answer puts (inr wants) =
+    let P : Option Session → Type 0 = λ s. ShowsMore before s [] in
+    let Q : Status → Type 0 = CutsShort in
+    inr (record {
+      cut = subst Q (sym wants.0) tt;
+      done = Puts name bytes ∷ [];
+      rest = Shows text ∷ [];
+      acts_are = refl;
+      said = [];
+      stops = stops_after files left name bytes text [] text puts refl;
+      shows = subst P (sym wants.1) (shows_nothing before);
+    })
+
+pub put_follows : {Line Error : Type 0}
+    → (text_of : Line → List ℕ) (files left : Option Files) (name bytes : List ℕ) (before after : Option Session) (line : Result Line Error)
+    (answer : Status)
+    → PutsFile files left name bytes (Ok tt) → IfOk line (λ l. text_of l ≡ put_line (length bytes))
+    → AnswersLine text_of before after line Done answer
+    → Follows (putting name bytes) files left before after answer
+put_follows text_of files left name bytes before after line answer puts is answers =
+    after_put files left name bytes (put_line (length bytes)) before after answer puts (shows_line text_of before after line (put_line (length bytes)) Done answer is answers)
+
+stops_putting : (files left : Option Files) (name bytes : List ℕ) (rest : List Act) (answer : Result (Unit {0}) DeviceRefusal)
+    → PutsFile files left name bytes answer
+    → StopsBehind files [] (Puts name bytes ∷ rest) left []
+stops_putting None left name bytes rest answer puts = tt
+stops_putting (Some files) left name bytes rest answer puts = (answer, puts, refl)
+
+-- the file couldn't be put
+pub put_cut : (files left : Option Files) (name bytes : List ℕ) (before : Option Session) (refusal : DeviceRefusal) (answer : Status)
+    → PutsFile files left name bytes (Err refusal)
+    → CutsShort answer → Follows (putting name bytes) files left before before answer
+put_cut files left name bytes before refusal answer puts cut =
+    let rest = Shows (put_line (length bytes)) ∷ [] in
+    inr (record {
+      cut =
+          cut;
+      done = [];
+      rest = Puts name bytes ∷ rest;
+      acts_are = refl;
+      said = [];
+      stops = stops_putting files left name bytes rest (Err refusal) puts;
+      shows = shows_nothing before;
+    })
+
+-- ---- a run
+
+pub run_follows : (program : ProgramValue) (steps : ℕ) (files : Option Files) (before mid after : Option Session) (has_said : Bool) (end : Option End) (answer : Status)
+    → HasPlayed program steps before mid has_said end → ShowsOrWants mid after (closing_text has_said end) (status_of end) answer
+    → FollowsSome (IsProgramOutcome program steps) files files before after answer
+run_follows program steps files before mid after has_said end answer played closes =
+    let ran : Ran = record { said = played.said; end = end } in
+    let outcome = showing (status_of end) (played.said ++ closing_text has_said end) in (
+      outcome,
+      (ran, played.runs, ap (λ b. showing (status_of end) (played.said ++ closing_text b end)) played.has),
+      follows_or_wants files before mid after played.said (closing_text has_said end) (status_of end) answer played.shows closes,
+    )
+
+-- it was cut short
+pub run_cut : (program : ProgramValue) (steps : ℕ) (files : Option Files) (before after : Option Session) (answer : Status)
+    → HasBegun program steps before after → CutsShort answer
+    → FollowsSome (IsProgramOutcome program steps) files files before after answer
+run_cut program steps files before after answer begun cut =
+    let ran = begun.ran in
+    let closing = closing_text (is_nonempty ran.said) ran.end in
+    let is : shown_of ran ≡ begun.said ++ (begun.unsaid ++ closing) = ap (λ t. t ++ closing) begun.is ∙ append_assoc begun.said begun.unsaid closing in (
+      showing (status_of ran.end) (shown_of ran),
+      (ran, begun.runs, refl),
+      follows_cut files before after (shown_of ran) begun.said (begun.unsaid ++ closing) (status_of ran.end) answer cut is begun.shows,
+    )
+
+-- an image that loads is run as its program
+pub image_follows : (blocks : List PlacedBlock) (program : ProgramValue) (options : RunOptions) (files : Option Files)
+    (before after : Option Session) (answer : Status) → LoadsAs blocks program
+    → FollowsSome (IsProgramOutcome program options.steps) files files before after answer
+    → FollowsSome (IsRunOutcome blocks options) files files before after answer
+image_follows blocks program options files before after answer loads (outcome, (ran, runs, is), follows) =
+    (outcome, inr (ran, record { program = program; loads = loads; runs = runs }, is), follows)
+
+-- one that doesn't has one line
+pub unloaded_follows : (blocks : List PlacedBlock) (options : RunOptions) (files : Option Files) (before after : Option Session)
+    (answer : Status) → IsUnloaded blocks
+    → IsShown before after unloaded_line LoadRefused answer → FollowsSome (IsRunOutcome blocks options) files files before after answer
+unloaded_follows blocks options files before after answer none shown =
+    (showing LoadRefused unloaded_line, inl (none, refl), follows_shown files before before after [] unloaded_line LoadRefused answer (shows_nothing before) shown)
+
+-- no memory was there to load it
+pub loading_cut : (blocks : List PlacedBlock) (options : RunOptions) (files : Option Files) (before : Option Session) (answer : Status)
+    → CutsShort answer
+    → FollowsSome (IsRunOutcome blocks options) files files before before answer
+loading_cut blocks options files before answer cut =
+    let some = some_run_outcome blocks options in
+    (showing some.0 some.1, some.2, follows_cut files before before some.1 [] some.1 some.0 answer cut refl (shows_nothing before))
+
+-- ---- what was matched
+
+-- what was done with what was read, as it was matched
+pub matched_follows : (command is : CommandValue) (found seen : ReadImage) (files left : Option Files) (before after : Option Session)
+    (answer : Status) → command ≡ is → found ≡ seen
+    → FollowsSome (IsReadOutcome is seen) files left before after answer
+    → FollowsSome (IsReadOutcome command found) files left before after answer
+matched_follows command is found seen files left before after answer same matched follows =
+    let P : CommandValue → Type 0 = λ c. FollowsSome (IsReadOutcome c seen) files left before after answer in
+    let Q : ReadImage → Type 0 = λ f. FollowsSome (IsReadOutcome command f) files left before after answer in
+    subst Q (sym matched) (subst P (sym same) follows)
+
+-- it was a line
+pub line_matched : {Line Error : Type 0}
+    → (command is : CommandValue) (found seen : ReadImage) (text_of : Line → List ℕ) (files : Option Files) (before after : Option Session)
+    (line : Result Line Error) (text : List ℕ) (status answer : Status) → command ≡ is → found ≡ seen
+    → IsReadOutcome is seen (showing status text)
+    → IfOk line (λ l. text_of l ≡ text) → AnswersLine text_of before after line status answer
+    → FollowsSome (IsReadOutcome command found) files files before after answer
+line_matched command is found seen text_of files before after line text status answer same matched gives told answers =
+    matched_follows command is found seen files files before after answer same matched
+    (showing status text, gives, line_follows text_of files before after line text status answer told answers)

@@ -1,0 +1,143 @@
+-- The words give exactly one outcome.
+use Rattle.std.proofs.Common.{◌≡◌, ℕ, List, ◌++◌, Option, Some, None, Ok, refl, sym, ap, subst, ◌∙◌, ◌⊎◌, inl, inr}
+use Rattle.std.specs.FinMap.{get}
+use Rattle.t3_io.specs.Files.{Files}
+use Rattle.t3_holder.specs.NumberText.{AreBytes}
+use Rattle.t3_blocks.proofs.Lists.{AreBytes-take}
+use Rattle.t3_image_read.specs.ImageText.{ImageValue, text}
+use Rattle.t3_image_read.specs.Refusal.{Refused}
+use Rattle.t3_image_read.specs.declared.refusal.ReadWhy.{ReadWhy}
+use Rattle.t3_image_read.specs.declared.image.PlacedBlock.{PlacedBlock}
+use Rattle.t3_image_read.proofs.Existence.{image_or_refused}
+use Rattle.t3_image_read.proofs.Uniqueness.{one_image, one_refusal, not_both}
+use Rattle.t3_cli.specs.declared.images.read.ReadImage.{ReadImage}
+use Rattle.t3_cli.specs.declared.images.read.ReadImage.TheVariants as read
+use Rattle.t3_cli.specs.declared.status.Status.{Status}
+use Rattle.t3_cli.specs.declared.status.Status.TheVariants.{Done, Usage, Absent, ImageRefused, LoadRefused}
+use Rattle.t3_cli.specs.Command.{CommandValue, Check, Show, Run, Rewrite, RunOptions}
+use Rattle.t3_cli.specs.Lines.{usage_line, absent_line, refused_line, unloaded_line}
+use Rattle.t3_cli.specs.BlockLines.{check_text, show_text}
+use Rattle.t3_cli.specs.Machine.{ProgramValue, initial}
+use Rattle.t3_cli.specs.Run.{Ran, Runs}
+use Rattle.t3_cli.specs.Outcome.{Outcome, showing, putting, IsResult, IsInputOutcome, IsFileOutcome, IsImageOutcome, IsRunOutcome, IsRefusalOutcome, BeginsWith, InputFile, ImageFile, input_of, written_text, HoldBytes, read_bytes, read_limit, shown_of, status_of}
+use Rattle.t3_cli.specs.Inner.Parsing.{file_of}
+use Rattle.t3_cli.specs.Inner.Reading.{ReadsBytes, ReadsImage}
+use Rattle.t3_cli.specs.Inner.Following.{IsReadOutcome}
+use Rattle.t3_cli.proofs.Runs.{one_run, some_run}
+use Rattle.t3_cli.proofs.Programs.{one_program, some_program}
+
+-- ---- one outcome
+
+one_run_outcome : (blocks : List PlacedBlock) (options : RunOptions) (a b : Outcome) → IsRunOutcome blocks options a
+    → IsRunOutcome blocks options b → a ≡ b
+one_run_outcome blocks options a b (inl x) (inl y) = x.1 ∙ sym y.1
+one_run_outcome blocks options a b (inl x) (inr y) = absurd (x.0 y.1.program y.1.loads)
+one_run_outcome blocks options a b (inr x) (inl y) = absurd (y.0 x.1.program x.1.loads)
+one_run_outcome blocks options a b (inr x) (inr y) =
+    let P : ProgramValue → Type 0 = λ p. Runs p options.steps initial y.0 in
+    let runs = subst P (one_program blocks y.1.program x.1.program y.1.loads x.1.loads) y.1.runs in
+    let same = one_run x.1.program options.steps initial x.0 y.0 x.1.runs runs in
+    x.2 ∙ ap (λ (ran : Ran). showing (status_of ran.end) (shown_of ran)) same ∙ sym y.2
+
+one_image_outcome : (command : CommandValue) (image : ImageValue) (a b : Outcome) → IsImageOutcome command image a
+    → IsImageOutcome command image b → a ≡ b
+one_image_outcome (Check name) image a b x y = x ∙ sym y
+one_image_outcome (Show name) image a b x y = x ∙ sym y
+one_image_outcome (Rewrite name out mask) image a b x y = x ∙ sym y
+one_image_outcome (Run name options) image a b x y = one_run_outcome image.blocks options a b x y
+
+-- bytes that begin with an image aren't refused
+begins_or_refused : (bytes : List ℕ) (place : ℕ) (why : ReadWhy) (image : ImageValue) → Refused bytes place why → BeginsWith bytes image → ⊥
+begins_or_refused bytes place why image refused begins =
+    not_both image begins.trailing place why begins.valid (subst (λ s. Refused s place why) begins.begins refused)
+
+-- and with one image
+begins_with_one : (bytes : List ℕ) (a b : ImageValue) → BeginsWith bytes a → BeginsWith bytes b → a ≡ b
+begins_with_one bytes a b x y = (one_image a b x.trailing y.trailing x.valid y.valid (sym x.begins ∙ y.begins)).0
+
+one_file_outcome : (command : CommandValue) (name : List ℕ) (file : Option (List ℕ)) (a b : Outcome) → IsFileOutcome command name file a
+    → IsFileOutcome command name file b → a ≡ b
+one_file_outcome command name None a b x y = x ∙ sym y
+one_file_outcome command name (Some file) a b (inl x) (inl y) =
+    let same = one_refusal (read_bytes file) x.place y.place x.why y.why x.refused y.refused in
+    x.is ∙ (λ i. showing ImageRefused (refused_line (same.1 i) (same.0 i))) ∙ sym y.is
+one_file_outcome command name (Some file) a b (inl x) (inr (image, begins, y)) =
+    absurd (begins_or_refused (read_bytes file) x.place x.why image x.refused begins)
+one_file_outcome command name (Some file) a b (inr (image, begins, x)) (inl y) =
+    absurd (begins_or_refused (read_bytes file) y.place y.why image y.refused begins)
+one_file_outcome command name (Some file) a b (inr (image, begins, x)) (inr (other, also, y)) =
+    let P : ImageValue → Type 0 = λ i. IsImageOutcome command i b in
+    one_image_outcome command image a b x (subst P (begins_with_one (read_bytes file) other image also begins) y)
+
+one_input_outcome : (command : CommandValue) (input : InputFile) (files : Files) (a b : Outcome) → IsInputOutcome command input files a
+    → IsInputOutcome command input files b → a ≡ b
+one_input_outcome command (ImageFile name) files a b x y = one_file_outcome command name (get files name) a b x y
+
+pub one_outcome : (command : Option CommandValue) (files : Files) (input : List ℕ) (a b : Outcome) → IsResult command files input a
+    → IsResult command files input b → a ≡ b
+one_outcome None files input a b x y = x ∙ sym y
+one_outcome (Some command) files input a b x y = one_input_outcome command (input_of command) files a b x y
+
+-- ---- some outcome
+
+pub some_run_outcome : (blocks : List PlacedBlock) (options : RunOptions)
+    → (status : Status) × (shown : List ℕ) × IsRunOutcome blocks options (showing status shown)
+some_run_outcome blocks options =
+    elim (some_program blocks) [
+      | inl (program, loads) ↦
+          let run = some_run program options.steps initial in
+          (status_of run.0.end, shown_of run.0, inr (run.0, record { program = program; loads = loads; runs = run.1 }, refl))
+      | inr none ↦ (LoadRefused, unloaded_line, inl (none, refl))
+    ]
+
+some_image_outcome : (command : CommandValue) (image : ImageValue) → (outcome : Outcome) × IsImageOutcome command image outcome
+some_image_outcome (Check name) image = (showing Done (check_text image), refl)
+some_image_outcome (Show name) image = (showing Done (show_text image), refl)
+some_image_outcome (Rewrite name out mask) image = (putting out (written_text mask image), refl)
+some_image_outcome (Run name options) image =
+    let some = some_run_outcome image.blocks options in
+    (showing some.0 some.1, some.2)
+
+some_file_outcome : (command : CommandValue) (name : List ℕ) (file : Option (List ℕ))
+    → ((bytes : List ℕ) → file ≡ Some bytes → AreBytes bytes) → (outcome : Outcome) × IsFileOutcome command name file outcome
+some_file_outcome command name None bytes = (showing Absent (absent_line name), refl)
+some_file_outcome command name (Some file) bytes =
+    elim (image_or_refused (read_bytes file) (AreBytes-take read_limit file (bytes file refl))) [
+      | inl (image, trailing, valid, begins) ↦
+          let some = some_image_outcome command image in
+          (some.0, inr (image, record { trailing = trailing; valid = valid; begins = begins }, some.1))
+      | inr (place, why, refused) ↦ (showing ImageRefused (refused_line why place), inl (record { place = place; why = why; refused = refused; is = refl }))
+    ]
+
+some_input_outcome : (command : CommandValue) (input : InputFile) (files : Files) → HoldBytes files
+    → (outcome : Outcome) × IsInputOutcome command input files outcome
+some_input_outcome command (ImageFile name) files bytes = some_file_outcome command name (get files name) (bytes name)
+
+pub some_outcome : (command : Option CommandValue) (files : Files) (input : List ℕ) → HoldBytes files
+    → (outcome : Outcome) × IsResult command files input outcome
+some_outcome None files input bytes = (showing Usage usage_line, refl)
+some_outcome (Some command) files input bytes = some_input_outcome command (input_of command) files bytes
+
+-- ---- what was read gives the outcome of the file
+
+file_outcome : (command : CommandValue) (name : List ℕ) (file : Option (List ℕ)) (found : ReadImage) (outcome : Outcome)
+    → file_of (input_of command) ≡ name → ReadsBytes file found
+    → IsReadOutcome command found outcome → IsFileOutcome command name file outcome
+file_outcome command name None read.Absent outcome named reads is = is ∙ ap (λ n. showing Absent (absent_line n)) named
+file_outcome command name None (read.Refused place why) outcome named reads is = absurd reads
+file_outcome command name None (read.Image image) outcome named reads is = absurd reads
+file_outcome command name (Some file) read.Absent outcome named reads is = absurd reads
+file_outcome command name (Some file) (read.Refused place why) outcome named reads is =
+    inl (record { place = place; why = why; refused = reads; is = is })
+file_outcome command name (Some file) (read.Image image) outcome named reads is = inr (image, reads, is)
+
+input_outcome : (command : CommandValue) (input : InputFile) (files : Files) (found : ReadImage) (outcome : Outcome)
+    → input_of command ≡ input → ReadsBytes (get files (file_of input)) found
+    → IsReadOutcome command found outcome → IsInputOutcome command input files outcome
+input_outcome command (ImageFile name) files found outcome is reads gives =
+    file_outcome command name (get files name) found outcome (ap file_of is) reads gives
+
+pub read_result : (command : CommandValue) (files : Files) (input : List ℕ) (found : ReadImage) (outcome : Outcome)
+    → ReadsImage (Some files) (file_of (input_of command)) (Ok found)
+    → IsReadOutcome command found outcome → IsResult (Some command) files input outcome
+read_result command files input found outcome reads gives = input_outcome command (input_of command) files found outcome refl reads gives

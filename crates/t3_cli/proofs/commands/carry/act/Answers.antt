@@ -1,0 +1,51 @@
+use Rattle.std.proofs.Common.{◌≡◌, ℕ, List, IfOk, ap, subst, refl}
+use Rattle.std.specs.Prelude.{string_bytes}
+use Rattle.t3_cli.specs.declared.images.read.ReadImage.TheVariants as read
+use Rattle.t3_cli.specs.declared.status.Status.TheVariants.{Done, Absent, ImageRefused}
+use Rattle.t3_cli.specs.Lines.{absent_line, refused_line}
+use Rattle.t3_cli.specs.BlockLines.{check_text, show_text}
+use Rattle.t3_cli.specs.Command.{Check, Show, Run, Rewrite}
+use Rattle.t3_cli.specs.Outcome.{putting, written_text, input_of}
+use Rattle.t3_cli.specs.Command.{command_value, options_value, HasFileNames}
+use Rattle.t3_cli.specs.Inner.Parsing.{file_of}
+use Rattle.t3_cli.proofs.Followed.{line_matched, matched_follows}
+use Rattle.t3_cli.proofs.commands.carry.act.Goals as goal
+
+pub rewrite-requires-clause-out : goal.rewrite-requires-clause-out
+rewrite-requires-clause-out g c =
+    let names : HasFileNames (Rewrite c.in-Rewrite.image.now c.in-Rewrite.out.now c.in-Rewrite.mask) = subst HasFileNames (ap command_value c.in-Rewrite.is) c.requires.names in
+    names.1
+
+pub returns-in-Absent-clause-follows : goal.returns-in-Absent-clause-follows
+returns-in-Absent-clause-follows g c =
+    let command = command_value c.args.command in
+    let line = subst (λ (n : List ℕ). IfOk c.absent-line.result (λ l. string_bytes l ≡ absent_line n)) c.image.ensures c.absent-line.ensures in
+    line_matched command command c.args.read read.Absent string_bytes (g.D.Depot.files c.args.depot.now) _ _ c.absent-line.result (absent_line (file_of (input_of command))) Absent _ refl c.in-Absent.is refl
+    line c.answer.ensures.shown
+
+pub returns-in-Refused-clause-follows : goal.returns-in-Refused-clause-follows
+returns-in-Refused-clause-follows g c =
+    let command = command_value c.args.command in
+    line_matched command command c.args.read (read.Refused c.in-Refused.place c.in-Refused.why) string_bytes (g.D.Depot.files c.args.depot.now) _ _ c.refused-line.result
+    (refused_line c.in-Refused.why c.in-Refused.place) ImageRefused _ refl c.in-Refused.is refl c.refused-line.ensures c.answer-in-Refused.ensures.shown
+
+pub returns-in-Check-clause-follows : goal.returns-in-Check-clause-follows
+returns-in-Check-clause-follows g c =
+    line_matched (command_value c.args.command) (Check c.in-Check.image.now) c.args.read (read.Image c.in-Image.image) string_bytes (g.D.Depot.files c.args.depot.now) _ _ c.check_line.result
+    (check_text c.in-Image.image) Done _ (ap command_value c.in-Check.is) c.in-Image.is refl c.check_line.ensures c.answer-in-Check.ensures.shown
+
+pub returns-in-Show-clause-follows : goal.returns-in-Show-clause-follows
+returns-in-Show-clause-follows g c =
+    line_matched (command_value c.args.command) (Show c.in-Show.image.now) c.args.read (read.Image c.in-Image.image) string_bytes (g.D.Depot.files c.args.depot.now) _ _ c.image_lines.result
+    (show_text c.in-Image.image) Done _ (ap command_value c.in-Show.is) c.in-Image.is refl c.image_lines.ensures c.answer-in-Show.ensures.shown
+
+pub returns-in-Run-clause-follows : goal.returns-in-Run-clause-follows
+returns-in-Run-clause-follows g c =
+    matched_follows (command_value c.args.command) (Run c.in-Run.image.now (options_value c.in-Run.options)) c.args.read (read.Image c.in-Image.image)
+    (g.D.Depot.files c.args.depot.now) _ _ _ c.launch.result (ap command_value c.in-Run.is) c.in-Image.is (c.launch.ensures.follows (g.D.Depot.files c.args.depot.now))
+
+pub returns-in-Rewrite-clause-follows : goal.returns-in-Rewrite-clause-follows
+returns-in-Rewrite-clause-follows g c =
+    matched_follows (command_value c.args.command) (Rewrite c.in-Rewrite.image.now c.in-Rewrite.out.now c.in-Rewrite.mask) c.args.read (read.Image c.in-Image.image)
+    (g.D.Depot.files c.args.depot.now) _ _ _ c.rewrite.result (ap command_value c.in-Rewrite.is) c.in-Image.is
+    (putting c.in-Rewrite.out.now (written_text c.in-Rewrite.mask c.in-Image.image), refl, c.rewrite.ensures.follows)

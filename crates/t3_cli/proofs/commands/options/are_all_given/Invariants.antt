@@ -1,0 +1,6 @@
+use Rattle.std.proofs.Common.{◌≡◌, true, nat_eq, take, string_bytes}
+use Rattle.std.specs.List.{list_all, starts_with}
+use Rattle.t3_cli.proofs.commands.options.are_all_given.Given as goal
+
+abbrev pub invariant-loop-word : goal.invariant-loop-word
+invariant-loop-word l = list_all (λ word. starts_with nat_eq (string_bytes word) l.prefix) (take l.word-index l.words) ≡ true

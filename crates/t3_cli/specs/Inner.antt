@@ -1,0 +1,8 @@
+-- What only the contracts of private functions cite.
+pub mod Parsing
+pub mod Reading
+pub mod Showing
+pub mod Following
+pub mod Acting
+pub mod Launching
+pub mod Playing

@@ -1,0 +1,67 @@
+-- How what a call did follows an outcome.
+use Rattle.std.specs.Prelude.{◌≡◌, ℕ, ◌⊎◌, List, ◌++◌, length, Option, Some, None, Result, Ok, Err}
+use Rattle.t3_io.specs.Files.{Files}
+use Rattle.t3_io.specs.Session.{Session}
+use Rattle.t3_io.specs.Putting.{PutsFile}
+use Rattle.t3_io.specs.declared.refusal.DeviceRefusal.{DeviceRefusal}
+use Rattle.t3_cli.specs.declared.images.read.ReadImage.{ReadImage}
+use Rattle.t3_cli.specs.declared.images.read.ReadImage.TheVariants as read
+use Rattle.t3_cli.specs.declared.status.Status.{Status}
+use Rattle.t3_cli.specs.declared.status.Status.TheVariants.{Absent, ImageRefused}
+use Rattle.t3_cli.specs.Act.{Act, shown_by, files_by, StopsIn}
+use Rattle.t3_cli.specs.Command.{CommandValue}
+use Rattle.t3_cli.specs.Lines.{absent_line, refused_line}
+use Rattle.t3_cli.specs.Outcome.{Outcome, showing, input_of, IsImageOutcome}
+use Rattle.t3_cli.specs.Top.{CutsShort, ShowsMore, IsWhole, IsCut}
+use Rattle.t3_cli.specs.Inner.Parsing.{file_of}
+
+-- the files after acts, where they are told
+abbrev pub LeavesActs : Option Files → Option Files → List Act → Type 0
+LeavesActs None left acts = Unit {0}
+LeavesActs (Some files) left acts = left ≡ Some (files_by files acts)
+
+-- cut short within an act after these, where the files are told
+abbrev pub StopsBehind : Option Files → List Act → List Act → Option Files → List ℕ → Type 0
+StopsBehind None done rest left said = Unit {0}
+StopsBehind (Some files) done rest left said = StopsIn (files_by files done) (shown_by done) rest left said
+
+-- all acts were done, and the status is that of the outcome
+pub record Completes (outcome : Outcome) (files left : Option Files) (before after : Option Session) (answer : Status) : Type 0 where
+  pub status : answer ≡ outcome.status
+  pub leaves : LeavesActs files left outcome.acts
+  pub shows : ShowsMore before after (shown_by outcome.acts)
+
+-- the call was cut short within one of them
+pub record Breaks (acts : List Act) (files left : Option Files) (before after : Option Session) (answer : Status) : Type 0 where
+  pub cut : CutsShort answer
+  pub done : List Act
+  pub rest : List Act
+  pub acts_are : acts ≡ done ++ rest
+  pub said : List ℕ
+  pub stops : StopsBehind files done rest left said
+  pub shows : ShowsMore before after said
+
+abbrev pub Follows : Outcome → Option Files → Option Files → Option Session → Option Session → Status → Type 0
+Follows outcome files left before after answer =
+    Completes outcome files left before after answer ⊎ Breaks outcome.acts files left before after answer
+
+-- it follows one of these outcomes
+abbrev pub FollowsSome : (Outcome → Type 0) → Option Files → Option Files → Option Session → Option Session → Status → Type 0
+FollowsSome IsOutcome files left before after answer =
+    (outcome : Outcome) × IsOutcome outcome × Follows outcome files left before after answer
+
+-- what a command gives of what was read
+abbrev pub IsReadOutcome : CommandValue → ReadImage → Outcome → Type 0
+IsReadOutcome command read.Absent outcome = outcome ≡ showing Absent (absent_line (file_of (input_of command)))
+IsReadOutcome command (read.Refused place why) outcome = outcome ≡ showing ImageRefused (refused_line why place)
+IsReadOutcome command (read.Image image) outcome = IsImageOutcome command image outcome
+
+-- how many bytes were put, or why they weren't
+abbrev pub PutsSized : Option Files → Option Files → List ℕ → List ℕ → Result ℕ DeviceRefusal → Type 0
+PutsSized files left name bytes (Ok size) = (size ≡ length bytes) × PutsFile files left name bytes (Ok tt)
+PutsSized files left name bytes (Err refusal) = PutsFile files left name bytes (Err refusal)
+
+-- the whole outcome stands, or the call was cut short
+abbrev pub Answers : Option CommandValue → Files → Option Session → Status → Option Files → Option Session → Type 0
+Answers command files before answer left after =
+    IsWhole command files before answer left after ⊎ (CutsShort answer × IsCut command files before left after)

@@ -1,0 +1,13 @@
+-- What the words give, part by part.
+use Rattle.std.specs.Prelude.{ℕ, List, [], ◌∷◌, Option, Some, None}
+use Rattle.t3_cli.specs.Outcome.{InputFile, ImageFile}
+
+-- the name of the file that is read
+abbrev pub file_of : InputFile → List ℕ
+file_of (ImageFile name) = name
+
+-- the one value, if there is one; none where there are more
+abbrev pub only_value : List (List ℕ) → Option (Option (List ℕ))
+only_value [] = Some None
+only_value (value ∷ []) = Some (Some value)
+only_value (value ∷ more ∷ values) = None

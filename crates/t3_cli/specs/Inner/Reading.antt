@@ -1,0 +1,75 @@
+-- What is read of an image's file, as the commands hand it on.
+use Rattle.std.specs.Prelude.{◌≡◌, ℕ, ◌≤◌, List, length, take, drop, Option, Some, None, Result, Ok, Err}
+use Rattle.std.specs.FinMap.{get}
+use Rattle.t3_io.specs.Files.{Files}
+use Rattle.t3_io.specs.declared.depot.Got.{Got}
+use Rattle.t3_io.specs.declared.depot.Got.TheVariants as got
+use Rattle.t3_io.specs.declared.refusal.DeviceRefusal.{DeviceRefusal}
+use Rattle.t3_io.specs.declared.refusal.DeviceRefusal.TheVariants as device
+use Rattle.t3_image_read.specs.declared.reader.Fed.{Fed}
+use Rattle.t3_image_read.specs.declared.refusal.ReadRefusal.{ReadRefusal}
+use Rattle.t3_image_read.specs.declared.refusal.ReadRefusal.TheVariants as refusal
+use Rattle.t3_image_read.specs.declared.refusal.ReadWhy.TheVariants.{Truncated}
+use Rattle.t3_image_read.specs.Refusal.{Refused}
+use Rattle.t3_image_read.specs.Reader.{Reading, Taking, Ended, Failed, Feeds}
+use Rattle.t3_cli.specs.declared.images.read.ReadImage.{ReadImage}
+use Rattle.t3_cli.specs.declared.images.read.ReadImage.TheVariants as read
+use Rattle.t3_cli.specs.Outcome.{read_bytes, BeginsWith}
+
+abbrev pub ReadsBytes : Option (List ℕ) → ReadImage → Type 0
+ReadsBytes None read.Absent = Unit {0}
+ReadsBytes None _ = ⊥
+ReadsBytes (Some file) read.Absent = ⊥
+ReadsBytes (Some file) (read.Refused place why) = Refused (read_bytes file) place why
+ReadsBytes (Some file) (read.Image image) = BeginsWith (read_bytes file) image
+
+-- what is read of a file, where the device tells its files
+abbrev pub ReadsImage : Option Files → List ℕ → Result ReadImage DeviceRefusal → Type 0
+ReadsImage None name answer = Unit {0}
+ReadsImage (Some files) name (Err _) = Unit {0}
+ReadsImage (Some files) name (Ok found) = ReadsBytes (get files name) found
+
+-- a read gave bytes of the file from the place on, at most so many, and none only at its end
+pub record IsPiece (file : List ℕ) (at want : ℕ) (buffer : List ℕ) (count : ℕ) : Type 0 where
+  pub fits : count ≤ want
+  pub there : count ≤ length (drop at file)
+  pub is : take count buffer ≡ take count (drop at file)
+  pub ended : count ≡ 0 → length file ≤ at
+
+abbrev pub PieceOf : Option (List ℕ) → ℕ → ℕ → List ℕ → Got → Type 0
+PieceOf None at want buffer got.Absent = Unit {0}
+PieceOf None at want buffer (got.Count count) = ⊥
+PieceOf (Some file) at want buffer got.Absent = ⊥
+PieceOf (Some file) at want buffer (got.Count count) = IsPiece file at want buffer count
+
+abbrev pub GivesPiece : Option Files → List ℕ → ℕ → ℕ → List ℕ → Result Got DeviceRefusal → Type 0
+GivesPiece None name at want buffer answer = Unit {0}
+GivesPiece (Some files) name at want buffer (Err _) = Unit {0}
+GivesPiece (Some files) name at want buffer (Ok found) = PieceOf (get files name) at want buffer found
+
+-- what a reader that is done with is handed on as
+abbrev pub Concludes : Reading → Result ReadImage DeviceRefusal → Type 0
+Concludes (Taking stream) answer = (place : ℕ) × (answer ≡ Ok (read.Refused place Truncated)) × Refused stream place Truncated
+Concludes (Ended image) answer = answer ≡ Ok (read.Image image)
+Concludes (Failed (refusal.At place why)) answer = answer ≡ Ok (read.Refused place why)
+Concludes (Failed refusal.NoMemory) answer = answer ≡ Err device.NoMemory
+
+-- the reader has taken the prefix of the file up to the place
+abbrev pub TakesPrefix : Option (List ℕ) → List ℕ → ℕ → Type 0
+TakesPrefix None taken at = at ≡ 0
+TakesPrefix (Some file) taken at = taken ≡ take at file
+
+abbrev pub TakesSoFar : Option Files → List ℕ → List ℕ → ℕ → Type 0
+TakesSoFar None name taken at = Unit {0}
+TakesSoFar (Some files) name taken at = TakesPrefix (get files name) taken at
+
+-- what is known of the file when it was read up to the place
+abbrev pub HasRead : Option Files → List ℕ → Reading → ℕ → Type 0
+HasRead files name (Taking taken) at = (length taken ≡ at) × TakesSoFar files name taken at
+HasRead files name (Ended image) at = ReadsImage files name (Ok (read.Image image))
+HasRead files name (Failed (refusal.At place why)) at = ReadsImage files name (Ok (read.Refused place why))
+HasRead files name (Failed refusal.NoMemory) at = Unit {0}
+
+-- a piece was fed
+abbrev pub IsFed : Reading → List ℕ → Reading → Type 0
+IsFed before piece after = (answer : Result Fed ReadRefusal) × Feeds before piece answer after

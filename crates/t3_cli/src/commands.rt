@@ -1,0 +1,9 @@
+//! The words of the command line, and how a command is carried out.
+
+pub(crate) mod carry;
+pub(crate) mod command;
+mod file_name;
+mod number;
+#[cfg(test)]
+mod number_tests;
+mod options;

@@ -1,0 +1,116 @@
+//! Carries commands out: reads their image, and shows what it is or what it says, or writes it anew.
+ghost use Rattle.std.specs.Prelude.{◌≡◌, ◌≢◌, ◌<◌, ◌-◌, ◌^◌, ◌⊎◌, Some, IfSome};
+ghost use Rattle.t3_holder.specs.FileName.{IsFileName};
+ghost use Rattle.t3_cli.specs.Outcome.{putting, written_text};
+ghost use Rattle.t3_cli.specs.Top.{CutsShort, ShowsSome};
+ghost use Rattle.t3_cli.specs.Command.{command_value, HasFileNames};
+ghost use Rattle.t3_cli.specs.Inner.Following.{Answers, FollowsSome, Follows, IsReadOutcome};
+
+use crate::commands::command::Command;
+use crate::console::answer;
+use crate::images::image_lines::{check_line, image_lines};
+use crate::images::read::{ReadImage, read_image};
+use crate::images::rewrite::put_image;
+use crate::lines;
+use crate::run::story::launch;
+use crate::status::Status;
+use std::alloc::Global;
+use t3_image_read::Image;
+use t3_io::{Console, Depot, DeviceRefusal};
+
+/// Reads the command's image, and does with it what the command does.
+pub(crate) fn carry_out<D: Depot, C: Console>(
+    alloc: Global,
+    command: Command,
+    depot: &mut D,
+    console: &mut C,
+) -> Status
+    requires names { HasFileNames (command_value command) }
+    requires depot { D.faults depot.old < 2 ^ 64 - 1 }
+    requires console { C.faults console.old < 2 ^ 64 - 1 }
+    ensures answers { IfSome (D.files depot.old) (λ files.
+        Answers (Some (command_value command.entry)) files (C.session console.old) result (D.files depot.new) (C.session console.new)) }
+    ensures shown { ShowsSome (C.session console.old) (C.session console.new) }
+    ensures no_usage { result ≢ Status.Usage }
+    ensures depot_fault { result ≡ Status.DepotFault → D.faults depot.old < D.faults depot.new }
+    ensures depot_rise { (result ≡ Status.DepotFault) ⊎ (D.faults depot.new ≡ D.faults depot.old) }
+    ensures console_fault { result ≡ Status.ConsoleFault → C.faults console.old < C.faults console.new }
+    ensures console_rise { (result ≡ Status.ConsoleFault) ⊎ (C.faults console.new ≡ C.faults console.old) }
+{
+    match read_image(alloc, command.image().as_bytes(), depot) {
+        Ok(read) => act(alloc, command, read, depot, console),
+        Err(refusal) => depot_status(refusal),
+    }
+}
+
+/// The status of a depot that failed, or found no memory.
+fn depot_status(refusal: DeviceRefusal) -> Status
+    ensures cut { CutsShort result }
+    ensures fault { result ≡ Status.DepotFault → refusal ≡ DeviceRefusal.Fault }
+    ensures rise { (result ≡ Status.DepotFault) ⊎ (refusal ≡ DeviceRefusal.NoMemory) }
+    ensures no_console { result ≢ Status.ConsoleFault }
+{
+    match refusal {
+        DeviceRefusal::Fault => Status::DepotFault,
+        DeviceRefusal::NoMemory => Status::NoMemory,
+    }
+}
+
+/// Does with what was read what the command does.
+fn act<D: Depot, C: Console>(
+    alloc: Global,
+    command: Command,
+    read: ReadImage,
+    depot: &mut D,
+    console: &mut C,
+) -> Status
+    requires names { HasFileNames (command_value command) }
+    requires depot { D.faults depot.old < 2 ^ 64 - 1 }
+    requires console { C.faults console.old < 2 ^ 64 - 1 }
+    ensures follows { FollowsSome (IsReadOutcome (command_value command.entry) read) (D.files depot.old) (D.files depot.new) (C.session console.old) (C.session console.new) result }
+    ensures depot_fault { result ≡ Status.DepotFault → D.faults depot.old < D.faults depot.new }
+    ensures depot_rise { (result ≡ Status.DepotFault) ⊎ (D.faults depot.new ≡ D.faults depot.old) }
+    ensures console_fault { result ≡ Status.ConsoleFault → C.faults console.old < C.faults console.new }
+    ensures console_rise { (result ≡ Status.ConsoleFault) ⊎ (C.faults console.new ≡ C.faults console.old) }
+{
+    match read {
+        ReadImage::Absent => {
+            let line = lines::absent(alloc, command.image());
+            answer(console, line, Status::Absent)
+        }
+        ReadImage::Refused { place, why } => {
+            let line = lines::refused(alloc, place, why);
+            answer(console, line, Status::ImageRefused)
+        }
+        ReadImage::Image(image) => match command {
+            Command::Check { .. } => answer(console, check_line(alloc, &image), Status::Done),
+            Command::Show { .. } => answer(console, image_lines(alloc, &image), Status::Done),
+            Command::Run { options, .. } => launch(alloc, &image, options, console),
+            Command::Rewrite { out, mask, .. } => rewrite(alloc, image, out, mask, depot, console),
+        },
+    }
+}
+
+/// Puts what is written of an image, and shows how many bytes that were.
+fn rewrite<D: Depot, C: Console>(
+    alloc: Global,
+    image: Image,
+    out: &str,
+    mask: Option<u8>,
+    depot: &mut D,
+    console: &mut C,
+) -> Status
+    requires out { IsFileName out.now }
+    requires depot { D.faults depot.old < 2 ^ 64 - 1 }
+    requires console { C.faults console.old < 2 ^ 64 - 1 }
+    ensures follows { Follows (putting out.now (written_text mask image)) (D.files depot.old) (D.files depot.new) (C.session console.old) (C.session console.new) result }
+    ensures depot_fault { result ≡ Status.DepotFault → D.faults depot.old < D.faults depot.new }
+    ensures depot_rise { (result ≡ Status.DepotFault) ⊎ (D.faults depot.new ≡ D.faults depot.old) }
+    ensures console_fault { result ≡ Status.ConsoleFault → C.faults console.old < C.faults console.new }
+    ensures console_rise { (result ≡ Status.ConsoleFault) ⊎ (C.faults console.new ≡ C.faults console.old) }
+{
+    match put_image(alloc, image, out, mask, depot) {
+        Ok(size) => answer(console, lines::put(alloc, size), Status::Done),
+        Err(refusal) => depot_status(refusal),
+    }
+}

@@ -1,0 +1,134 @@
+//! Which command the words are.
+ghost use Rattle.std.specs.Prelude.{◌≡◌, map, string_bytes};
+ghost use Rattle.std.specs.Option.{option_map, option_copied};
+ghost use Rattle.t3_cli.specs.Command.{Check, Show, run_of, rewrite_of, only_name as only_name_of, file_name as file_name_of};
+ghost use Rattle.t3_cli.specs.Command.{command_value};
+
+use crate::commands::file_name::is_file_name;
+use crate::commands::options::{mask, run_options};
+
+/// What the words ask for.
+#[derive(Clone, Copy, Debug)]
+pub(crate) enum Command<'w> {
+    /// Says whether a file is an image.
+    Check {
+        image: &'w str,
+    },
+    /// Shows the blocks of an image.
+    Show {
+        image: &'w str,
+    },
+    /// Runs an image.
+    Run {
+        image: &'w str,
+        options: RunOptions,
+    },
+    /// Writes an image anew, with its pages under the mask, where one is given.
+    Rewrite {
+        image: &'w str,
+        out: &'w str,
+        mask: Option<u8>,
+    },
+}
+
+/// What a run is told besides its image.
+#[derive(Clone, Copy, Debug)]
+pub(crate) struct RunOptions {
+    /// How many steps it makes at most.
+    pub(crate) steps: u32,
+}
+
+impl<'w> Command<'w> {
+    ghost use Rattle.std.specs.Prelude.{◌≡◌, map, string_bytes};
+    ghost use Rattle.std.specs.Option.{option_map};
+    ghost use Rattle.t3_cli.specs.Command.{command_of};
+    ghost use Rattle.t3_cli.specs.Outcome.{input_of};
+    ghost use Rattle.t3_cli.specs.Command.{command_value};
+    ghost use Rattle.t3_cli.specs.Inner.Parsing.{file_of};
+
+    /// The command that the words are, if they are one.
+    pub(crate) fn parse(words: &'w [String]) -> Option<Command<'w>>
+        ensures { option_map command_value result ≡ command_of (map string_bytes words.now) }
+    {
+        let [verb, words @ ..] = words else {
+            return None;
+        };
+        match verb.as_str() {
+            "check" => check(words),
+            "show" => show(words),
+            "run" => run(words),
+            "rewrite" => rewrite(words),
+            _ => None,
+        }
+    }
+
+    /// The file that the command reads.
+    pub(crate) fn image(self) -> &'w str
+        ensures { result.now ≡ file_of (input_of (command_value self.entry)) }
+    {
+        match self {
+            Command::Check { image }
+            | Command::Show { image }
+            | Command::Run { image, .. }
+            | Command::Rewrite { image, .. } => image,
+        }
+    }
+}
+
+fn check<'w>(words: &'w [String]) -> Option<Command<'w>>
+    ensures { option_map command_value result ≡ option_map Check (only_name_of (map string_bytes words.now)) }
+{
+    let image = only_name(words)?;
+    Some(Command::Check { image })
+}
+
+fn show<'w>(words: &'w [String]) -> Option<Command<'w>>
+    ensures { option_map command_value result ≡ option_map Show (only_name_of (map string_bytes words.now)) }
+{
+    let image = only_name(words)?;
+    Some(Command::Show { image })
+}
+
+fn run<'w>(words: &'w [String]) -> Option<Command<'w>>
+    ensures { option_map command_value result ≡ run_of (map string_bytes words.now) }
+{
+    let [image, words @ ..] = words else {
+        return None;
+    };
+    let image = file_name(image.as_str())?;
+    let options = run_options(words)?;
+    Some(Command::Run { image, options })
+}
+
+fn rewrite<'w>(words: &'w [String]) -> Option<Command<'w>>
+    ensures { option_map command_value result ≡ rewrite_of (map string_bytes words.now) }
+{
+    let [image, out, words @ ..] = words else {
+        return None;
+    };
+    let image = file_name(image.as_str())?;
+    let out = file_name(out.as_str())?;
+    let mask = mask(words)?;
+    Some(Command::Rewrite { image, out, mask })
+}
+
+/// The one word that there is, if a file may have that name.
+fn only_name<'w>(words: &'w [String]) -> Option<&'w str>
+    ensures { option_copied result ≡ only_name_of (map string_bytes words.now) }
+{
+    match words {
+        [name] => file_name(name.as_str()),
+        _ => None,
+    }
+}
+
+/// A word, if a file may have that name.
+fn file_name<'w>(word: &'w str) -> Option<&'w str>
+    ensures { option_copied result ≡ file_name_of word.now }
+{
+    if is_file_name(word.as_bytes()) {
+        Some(word)
+    } else {
+        None
+    }
+}

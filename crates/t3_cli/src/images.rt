@@ -1,0 +1,5 @@
+//! Images that are read, shown and written anew.
+
+pub(crate) mod image_lines;
+pub(crate) mod read;
+pub(crate) mod rewrite;
