@@ -10,7 +10,7 @@ use Rattle.std.specs.Map.{lookup}
 use Rattle.std.specs.BTreeMap.{is_at, insert_entry}
 use Rattle.std.specs.FinMap.{get, insert, find, put, from_entries, get-from_entries, get-insert, same_map, slice_cmp-IsAntisymmetric, nat_cmp-IsAntisymmetric}
 use Rattle.std.specs.FinMap.Entries.{find-put, by_order}
-use Rattle.t3_io.specs.Kept.{kept_entries}
+use Rattle.t3_io.specs.Inner.Kept.{kept_entries}
 
 -- the order of byte vectors, which is that of their bytes
 abbrev pub vec_cmp : Vec ℕ → Vec ℕ → Ordering

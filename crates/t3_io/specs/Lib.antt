@@ -3,5 +3,5 @@ pub mod Cause
 pub mod Reading
 pub mod Putting
 pub mod Session
-pub mod Kept
+pub mod Inner
 pub mod Failing

@@ -22,7 +22,7 @@ impl Model for KeptFiles {
     ghost use Rattle.std.specs.Coded.{coded_ℕ, coded_list};
     ghost use Rattle.std.specs.FinMap as map;
     ghost use Rattle.t3_io.specs.Files.{Files};
-    ghost use Rattle.t3_io.specs.Kept.{kept_files};
+    ghost use Rattle.t3_io.specs.Inner.Kept.{kept_files};
 
     ghost Value = { Files };
 

@@ -10,7 +10,7 @@ use Rattle.t3_holder.proofs.Numbers.{length-little_endian}
 use Rattle.t3_pools.specs.Pool.{Pool, HasBytes}
 use Rattle.t3_methods.specs.declared.cursor.Cursor.{Cursor}
 use Rattle.t3_methods.specs.Operands.{Operand, Ubyte, Sbyte, Jump, Int4, operand_text}
-use Rattle.t3_methods.specs.Cursor.{code_of, GoesOn, IsShort, IsNumber, IsRead, TakesNumber, HasKind, Kind, kind_of, size_of}
+use Rattle.t3_methods.specs.Inner.Cursor.{code_of, GoesOn, IsShort, IsNumber, IsRead, TakesNumber, HasKind, Kind, kind_of, size_of}
 use Rattle.t3_methods.proofs.Standing.{not_there}
 
 pub goes_nowhere : (a : Cursor) → GoesOn a a 0

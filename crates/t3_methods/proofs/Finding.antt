@@ -10,7 +10,7 @@ use Rattle.t3_methods.specs.declared.refusal.CodeRefusal.{CodeRefusal}
 use Rattle.t3_methods.specs.declared.refusal.CodeRefusal.TheVariants as refusal
 use Rattle.t3_methods.specs.Operands.{operand_text}
 use Rattle.t3_methods.specs.InstructionTable.{Row, row_of, row_text, Stands}
-use Rattle.t3_methods.specs.Cursor.{code_of, GoesOn, IsDecoded, Decodes, LacksOperands}
+use Rattle.t3_methods.specs.Inner.Cursor.{code_of, GoesOn, IsDecoded, Decodes, LacksOperands}
 use Rattle.t3_methods.specs.Answers.{FindsInstr}
 use Rattle.t3_methods.proofs.Instructions.{bare}
 

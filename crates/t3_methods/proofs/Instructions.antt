@@ -19,7 +19,7 @@ use Rattle.t3_methods.specs.declared.instr.MakeCode.TheVariants.{Builtina}
 use Rattle.t3_methods.specs.declared.instr.LocalCode.TheVariants.{Nop}
 use Rattle.t3_methods.specs.Operands.{Operand, Ubyte, Sbyte, Jump, Int4, operand_text, IsOperand}
 use Rattle.t3_methods.specs.InstructionTable.{Row, row_of, row_text, instr_text, Stands}
-use Rattle.t3_methods.specs.Cursor.{Kind, OfUbyte, OfSbyte, OfJump, OfInt4, kind_of, size_of, HasKinds, LacksOperands}
+use Rattle.t3_methods.specs.Inner.Cursor.{Kind, OfUbyte, OfSbyte, OfJump, OfInt4, kind_of, size_of, HasKinds, LacksOperands}
 use Rattle.t3_methods.specs.Answers.{IsBare}
 use Rattle.t3_methods.proofs.Standing.{has-front, has-behind, one_way}
 use Rattle.t3_methods.proofs.Cursors.{length-operand_text}

@@ -13,7 +13,7 @@ use Rattle.t3_methods.specs.declared.instr.MakeCode.TheVariants.{Builtina}
 use Rattle.t3_methods.specs.declared.instr.LocalCode.TheVariants.{Nop}
 use Rattle.t3_methods.specs.Operands.{Operand, Ubyte, Sbyte, Jump, Int4}
 use Rattle.t3_methods.specs.InstructionTable.{row, row_of, IsOpcode}
-use Rattle.t3_methods.specs.Cursor.{Kind, OfUbyte, OfSbyte, OfJump, OfInt4, kind_of}
+use Rattle.t3_methods.specs.Inner.Cursor.{Kind, OfUbyte, OfSbyte, OfJump, OfInt4, kind_of}
 
 -- ---- opcodes
 

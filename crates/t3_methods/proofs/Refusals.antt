@@ -21,7 +21,7 @@ use Rattle.t3_methods.specs.declared.instr.LocalCode.TheVariants.{Nop}
 use Rattle.t3_methods.specs.declared.refusal.CodeRefusal.{CodeRefusal}
 use Rattle.t3_methods.specs.declared.refusal.CodeRefusal.TheVariants as refusal
 use Rattle.t3_methods.specs.InstructionTable.{Row, row_of, push_row, math_row, call_row, stack_row, jump_row, make_row, local_row}
-use Rattle.t3_methods.specs.Cursor.{code_of, kind_of, HasKinds, Decodes, HasNoRow}
+use Rattle.t3_methods.specs.Inner.Cursor.{code_of, kind_of, HasKinds, Decodes, HasNoRow}
 
 -- an opcode is of a range
 pub record IsWithin (least greatest opcode : ℕ) : Type 0 where

@@ -11,7 +11,7 @@ use Rattle.t3_methods.specs.declared.refusal.CodeRefusal.{CodeRefusal}
 use Rattle.t3_methods.specs.declared.refusal.CodeRefusal.TheVariants as refusal
 use Rattle.t3_methods.specs.Operands.{Operand, Sbyte, Jump, Int4, operand_text}
 use Rattle.t3_methods.specs.InstructionTable.{Row, row}
-use Rattle.t3_methods.specs.Cursor.{code_of, GoesOn, IsRead, IsDecoded, HasKind, HasKinds, Kind, size_of, LacksOperands, Decodes}
+use Rattle.t3_methods.specs.Inner.Cursor.{code_of, GoesOn, IsRead, IsDecoded, HasKind, HasKinds, Kind, size_of, LacksOperands, Decodes}
 use Rattle.t3_methods.proofs.Standing.{has-append}
 use Rattle.t3_methods.proofs.Cursors.{length-operand_text}
 

@@ -2,4 +2,4 @@ pub mod Operands
 pub mod InstructionTable
 pub mod MethodHeader
 pub mod Answers
-pub mod Cursor
+pub mod Inner

@@ -1,7 +1,7 @@
 //! Readers of code, one for each kind of operand.
 ghost use Rattle.std.specs.Prelude.{◌≡◌};
 ghost use Rattle.t3_methods.specs.Operands.{Ubyte, Sbyte, Jump, Int4};
-ghost use Rattle.t3_methods.specs.Cursor.{TakesByte, TakesNumber, ReadsOperand, OfUbyte, OfSbyte, OfJump, OfInt4};
+ghost use Rattle.t3_methods.specs.Inner.Cursor.{TakesByte, TakesNumber, ReadsOperand, OfUbyte, OfSbyte, OfJump, OfInt4};
 
 use crate::refusal::CodeRefusal;
 use t3_holder::{u16_at, u32_at};

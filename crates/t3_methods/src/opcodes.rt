@@ -1,6 +1,6 @@
 //! A row for each opcode: the instruction, with a reader for each of its operands in turn.
 ghost use Rattle.std.specs.Prelude.{◌+◌, ◌<◌, ◌^◌, IfOk};
-ghost use Rattle.t3_methods.specs.Cursor.{Decodes, Names};
+ghost use Rattle.t3_methods.specs.Inner.Cursor.{Decodes, Names};
 ghost use Rattle.t3_methods.specs.Answers.{FindsInstr};
 ghost use Rattle.t3_methods.specs.InstructionTable.{push_row, math_row, call_row, stack_row, jump_row, make_row, local_row, row_of};
 

@@ -1,5 +1,5 @@
 use Rattle.std.proofs.Common.{◌≡◌, ◌+◌, Some, ap, ◌∙◌, arith}
-use Rattle.t3_methods.specs.Cursor.{code_of}
+use Rattle.t3_methods.specs.Inner.Cursor.{code_of}
 use Rattle.t3_methods.proofs.Cursors.{goes_nowhere, goes_further, no_byte}
 use Rattle.t3_methods.proofs.MethodHeaders.{header_short, second_byte, has_header, number_behind, byte_behind}
 use Rattle.t3_methods.proofs.header.read_header.Goals as goal

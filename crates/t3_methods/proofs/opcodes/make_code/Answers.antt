@@ -1,7 +1,7 @@
 use Rattle.std.proofs.Common.{sym}
 use Rattle.t3_methods.specs.declared.instr.MakeCode.TheVariants.{Builtina}
 use Rattle.t3_methods.specs.Operands.{Ubyte}
-use Rattle.t3_methods.specs.Cursor.{OfUbyte}
+use Rattle.t3_methods.specs.Inner.Cursor.{OfUbyte}
 use Rattle.t3_methods.specs.InstructionTable.{make_row}
 use Rattle.t3_methods.proofs.Rows.{hands_on, decoded_two, second_lacks}
 use Rattle.t3_methods.proofs.opcodes.make_code.Goals as goal

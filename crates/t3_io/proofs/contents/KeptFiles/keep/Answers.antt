@@ -1,6 +1,6 @@
 use Rattle.std.proofs.Common.{ap, ◌∙◌}
 use Rattle.std.specs.FinMap as map
-use Rattle.t3_io.specs.Kept.{kept_entries}
+use Rattle.t3_io.specs.Inner.Kept.{kept_entries}
 use Rattle.t3_io.proofs.Kept.{kept-insert}
 use Rattle.t3_io.proofs.contents.KeptFiles.keep.Goals as goal
 

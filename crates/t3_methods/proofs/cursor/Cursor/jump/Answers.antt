@@ -1,5 +1,5 @@
 use Rattle.std.proofs.Common.{refl}
-use Rattle.t3_methods.specs.Cursor.{code_of, OfJump}
+use Rattle.t3_methods.specs.Inner.Cursor.{code_of, OfJump}
 use Rattle.t3_methods.proofs.Cursors.{read_jump, no_kind}
 use Rattle.t3_methods.proofs.cursor.Cursor.jump.Goals as goal
 

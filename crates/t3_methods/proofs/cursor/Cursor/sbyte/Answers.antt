@@ -1,5 +1,5 @@
 use Rattle.std.proofs.Common.{refl, arith}
-use Rattle.t3_methods.specs.Cursor.{code_of, OfSbyte}
+use Rattle.t3_methods.specs.Inner.Cursor.{code_of, OfSbyte}
 use Rattle.t3_methods.proofs.Cursors.{read_sbyte, no_kind, no_byte}
 use Rattle.t3_methods.proofs.cursor.Cursor.sbyte.Goals as goal
 

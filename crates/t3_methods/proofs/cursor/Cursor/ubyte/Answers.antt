@@ -1,5 +1,5 @@
 use Rattle.std.proofs.Common.{refl, arith}
-use Rattle.t3_methods.specs.Cursor.{code_of, OfUbyte}
+use Rattle.t3_methods.specs.Inner.Cursor.{code_of, OfUbyte}
 use Rattle.t3_methods.proofs.Cursors.{read_ubyte, no_kind, no_byte}
 use Rattle.t3_methods.proofs.cursor.Cursor.ubyte.Goals as goal
 

@@ -1,0 +1,2 @@
+-- What only private types cite.
+pub mod Kept
