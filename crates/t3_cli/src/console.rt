@@ -16,8 +16,10 @@ pub(crate) fn answer<C: Console>(
     status: Status,
 ) -> Status
     requires { C.faults console.old < 2 ^ 64 - 1 }
-    ensures shown { AnswersLine string_bytes (C.session console.old) (C.session console.new) line status result }
-    ensures fault { result ≡ Status.ConsoleFault → (C.faults console.old < C.faults console.new) ⊎ (status ≡ Status.ConsoleFault) }
+    ensures shown { AnswersLine string_bytes (C.session console.old) (C.session console.new) line
+        status result }
+    ensures fault { result ≡ Status.ConsoleFault → (C.faults console.old < C.faults console.new) ⊎
+        (status ≡ Status.ConsoleFault) }
     ensures rise { (result ≡ Status.ConsoleFault) ⊎ (C.faults console.new ≡ C.faults console.old) }
     ensures no_depot { result ≡ Status.DepotFault → status ≡ Status.DepotFault }
 {
@@ -31,7 +33,8 @@ pub(crate) fn answer<C: Console>(
 pub(crate) fn end_with<C: Console>(console: &mut C, line: &str, status: Status) -> Status
     requires { C.faults console.old < 2 ^ 64 - 1 }
     ensures shown { IsShown (C.session console.old) (C.session console.new) line.now status result }
-    ensures fault { result ≡ Status.ConsoleFault → (C.faults console.old < C.faults console.new) ⊎ (status ≡ Status.ConsoleFault) }
+    ensures fault { result ≡ Status.ConsoleFault → (C.faults console.old < C.faults console.new) ⊎
+        (status ≡ Status.ConsoleFault) }
     ensures rise { (result ≡ Status.ConsoleFault) ⊎ (C.faults console.new ≡ C.faults console.old) }
     ensures no_depot { result ≡ Status.DepotFault → status ≡ Status.DepotFault }
 {

@@ -64,8 +64,10 @@ pub fn t3_main<D: Depot, C: Console>(
     // A fault is answered exactly where one was counted.
     ensures depot_fault { result ≡ Status.DepotFault → D.faults depot.old < D.faults depot.new }
     ensures depot_rise { (result ≡ Status.DepotFault) ⊎ (D.faults depot.new ≡ D.faults depot.old) }
-    ensures console_fault { result ≡ Status.ConsoleFault → C.faults console.old < C.faults console.new }
-    ensures console_rise { (result ≡ Status.ConsoleFault) ⊎ (C.faults console.new ≡ C.faults console.old) }
+    ensures console_fault { result ≡ Status.ConsoleFault → C.faults console.old < C.faults
+        console.new }
+    ensures console_rise { (result ≡ Status.ConsoleFault) ⊎
+        (C.faults console.new ≡ C.faults console.old) }
 {
     match Command::parse(words) {
         None => end_with(console, lines::USAGE, Status::Usage),

@@ -39,7 +39,8 @@ impl Model for MemoryDepot {
 impl MemoryDepot {
     /// A depot without files, whose calls of these numbers are to fail, in whatever order they stand.
     pub fn new(alloc: Global, failing: &[u32]) -> Result<MemoryDepot, NoMemory>
-        ensures { IfOk result (λ depot. depot ≡ record { files = map.empty; calls = no_calls failing.now }) }
+        ensures { IfOk result
+            (λ depot. depot ≡ record { files = map.empty; calls = no_calls failing.now }) }
     {
         Ok(MemoryDepot {
             files: KeptFiles::new(alloc),
@@ -51,7 +52,8 @@ impl MemoryDepot {
     /// calls. After a refusal nothing has changed.
     pub fn keep(&mut self, name: &[u8], bytes: &[u8]) -> Result<(), NoMemory>
         requires { IsFileName name.now }
-        ensures ok { OnOk result (self.new ≡ record self.old { files = map.insert self.old.files name.now bytes.now }) }
+        ensures ok { OnOk result
+            (self.new ≡ record self.old { files = map.insert self.old.files name.now bytes.now }) }
         ensures err { OnErr result (self.new ≡ self.old) }
     {
         self.files.keep(name, bytes)
@@ -125,7 +127,13 @@ impl MemoryConsole {
     /// A console with this input, on which nothing was shown. Its calls of these numbers are to fail, in
     /// whatever order they stand.
     pub fn new(alloc: Global, input: &[u8], failing: &[u32]) -> Result<MemoryConsole, NoMemory>
-        ensures { IfOk result (λ console. console ≡ record { session = record { left = input.now; shown = [] }; calls = no_calls failing.now }) }
+        ensures { IfOk result (λ console. console ≡ record {
+          session = record {
+            left = input.now;
+            shown = [];
+          };
+          calls = no_calls failing.now;
+        }) }
     {
         Ok(MemoryConsole {
             kept: KeptSession::new(alloc, input)?,

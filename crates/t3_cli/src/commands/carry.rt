@@ -34,8 +34,10 @@ pub(crate) fn carry_out<D: Depot, C: Console>(
     ensures no_usage { result ≢ Status.Usage }
     ensures depot_fault { result ≡ Status.DepotFault → D.faults depot.old < D.faults depot.new }
     ensures depot_rise { (result ≡ Status.DepotFault) ⊎ (D.faults depot.new ≡ D.faults depot.old) }
-    ensures console_fault { result ≡ Status.ConsoleFault → C.faults console.old < C.faults console.new }
-    ensures console_rise { (result ≡ Status.ConsoleFault) ⊎ (C.faults console.new ≡ C.faults console.old) }
+    ensures console_fault { result ≡ Status.ConsoleFault → C.faults console.old < C.faults
+        console.new }
+    ensures console_rise { (result ≡ Status.ConsoleFault) ⊎
+        (C.faults console.new ≡ C.faults console.old) }
 {
     match read_image(alloc, command.image().as_bytes(), depot) {
         Ok(read) => act(alloc, command, read, depot, console),
@@ -67,11 +69,15 @@ fn act<D: Depot, C: Console>(
     requires names { HasFileNames (command_value command) }
     requires depot { D.faults depot.old < 2 ^ 64 - 1 }
     requires console { C.faults console.old < 2 ^ 64 - 1 }
-    ensures follows { FollowsSome (IsReadOutcome (command_value command.entry) read) (D.files depot.old) (D.files depot.new) (C.session console.old) (C.session console.new) result }
+    ensures follows { FollowsSome (IsReadOutcome (command_value command.entry) read)
+        (D.files depot.old) (D.files depot.new) (C.session console.old) (C.session console.new)
+        result }
     ensures depot_fault { result ≡ Status.DepotFault → D.faults depot.old < D.faults depot.new }
     ensures depot_rise { (result ≡ Status.DepotFault) ⊎ (D.faults depot.new ≡ D.faults depot.old) }
-    ensures console_fault { result ≡ Status.ConsoleFault → C.faults console.old < C.faults console.new }
-    ensures console_rise { (result ≡ Status.ConsoleFault) ⊎ (C.faults console.new ≡ C.faults console.old) }
+    ensures console_fault { result ≡ Status.ConsoleFault → C.faults console.old < C.faults
+        console.new }
+    ensures console_rise { (result ≡ Status.ConsoleFault) ⊎
+        (C.faults console.new ≡ C.faults console.old) }
 {
     match read {
         ReadImage::Absent => {
@@ -103,11 +109,14 @@ fn rewrite<D: Depot, C: Console>(
     requires out { IsFileName out.now }
     requires depot { D.faults depot.old < 2 ^ 64 - 1 }
     requires console { C.faults console.old < 2 ^ 64 - 1 }
-    ensures follows { Follows (putting out.now (written_text mask image)) (D.files depot.old) (D.files depot.new) (C.session console.old) (C.session console.new) result }
+    ensures follows { Follows (putting out.now (written_text mask image)) (D.files depot.old)
+        (D.files depot.new) (C.session console.old) (C.session console.new) result }
     ensures depot_fault { result ≡ Status.DepotFault → D.faults depot.old < D.faults depot.new }
     ensures depot_rise { (result ≡ Status.DepotFault) ⊎ (D.faults depot.new ≡ D.faults depot.old) }
-    ensures console_fault { result ≡ Status.ConsoleFault → C.faults console.old < C.faults console.new }
-    ensures console_rise { (result ≡ Status.ConsoleFault) ⊎ (C.faults console.new ≡ C.faults console.old) }
+    ensures console_fault { result ≡ Status.ConsoleFault → C.faults console.old < C.faults
+        console.new }
+    ensures console_rise { (result ≡ Status.ConsoleFault) ⊎
+        (C.faults console.new ≡ C.faults console.old) }
 {
     match put_image(alloc, image, out, mask, depot) {
         Ok(size) => answer(console, lines::put(alloc, size), Status::Done),

@@ -76,14 +76,16 @@ impl<'w> Command<'w> {
 }
 
 fn check<'w>(words: &'w [String]) -> Option<Command<'w>>
-    ensures { option_map command_value result ≡ option_map Check (only_name_of (map string_bytes words.now)) }
+    ensures { option_map command_value result ≡ option_map Check
+        (only_name_of (map string_bytes words.now)) }
 {
     let image = only_name(words)?;
     Some(Command::Check { image })
 }
 
 fn show<'w>(words: &'w [String]) -> Option<Command<'w>>
-    ensures { option_map command_value result ≡ option_map Show (only_name_of (map string_bytes words.now)) }
+    ensures { option_map command_value result ≡ option_map Show
+        (only_name_of (map string_bytes words.now)) }
 {
     let image = only_name(words)?;
     Some(Command::Show { image })

@@ -66,7 +66,8 @@ fn is_given(prefix: &str, word: &String) -> bool
 
 /// What stands after the prefix, where one word begins with it. None where several do.
 fn only_value<'w>(prefix: &str, words: &'w [String]) -> Option<Option<&'w str>>
-    ensures { option_map option_copied result ≡ only_value_of (values_of prefix.now (map string_bytes words.now)) }
+    ensures { option_map option_copied result ≡ only_value_of
+        (values_of prefix.now (map string_bytes words.now)) }
 {
     let mut found = None;
     for word in words {

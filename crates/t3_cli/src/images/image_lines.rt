@@ -37,7 +37,8 @@ fn append_blocks(blocks: &Placed, first: usize, out: &mut String) -> Result<usiz
     requires good { AllByRecursion IsGood blocks.now }
     requires within { first + length (flat_map block_text blocks.now) ≤ image_limit }
     ensures place { IfOk result (λ place. place ≡ first + length (flat_map block_text blocks.now)) }
-    ensures lines { IfOk result (λ _. (head : Head) → length (head_text head) ≡ first → string_bytes out.new ≡ string_bytes out.old ++ block_lines head [] blocks.now) }
+    ensures lines { IfOk result (λ _. (head : Head) → length (head_text head) ≡ first → string_bytes
+        out.new ≡ string_bytes out.old ++ block_lines head [] blocks.now) }
 {
     let mut place = first;
     for placed in &blocks.0 {
@@ -50,7 +51,8 @@ fn append_blocks(blocks: &Placed, first: usize, out: &mut String) -> Result<usiz
 /// Appends the line of a block whose header stands at a place.
 fn append_line(placed: &PlacedBlock, place: usize, out: &mut String) -> Result<(), AllocError>
     requires { IsGood placed.now }
-    ensures { IfOk result (λ _. string_bytes out.new ≡ string_bytes out.old ++ block_line place placed.now) }
+    ensures { IfOk result
+        (λ _. string_bytes out.new ≡ string_bytes out.old ++ block_line place placed.now) }
 {
     let size = placed.block.payload_size();
     append_header(placed.block.name(), place, size, placed.flags, out)?;
@@ -60,7 +62,8 @@ fn append_line(placed: &PlacedBlock, place: usize, out: &mut String) -> Result<(
 
 /// Appends the line of the block that ends an image.
 fn append_end(place: usize, flags: u16, out: &mut String) -> Result<(), AllocError>
-    ensures { IfOk result (λ _. string_bytes out.new ≡ string_bytes out.old ++ end_line_at place flags) }
+    ensures { IfOk result
+        (λ _. string_bytes out.new ≡ string_bytes out.old ++ end_line_at place flags) }
 {
     append_header(END_NAME, place, 0, flags, out)?;
     out.push('\n')
@@ -74,7 +77,8 @@ fn append_header(
     flags: u16,
     out: &mut String,
 ) -> Result<(), AllocError>
-    ensures { IfOk result (λ _. string_bytes out.new ≡ string_bytes out.old ++ header_fields name place size flags) }
+    ensures { IfOk result
+        (λ _. string_bytes out.new ≡ string_bytes out.old ++ header_fields name place size flags) }
 {
     append_name(&name, out)?;
     append_field("at", place as u64, out)?;
@@ -84,7 +88,8 @@ fn append_header(
 
 /// Appends what is shown of a block of its kind besides.
 fn append_kind(block: &Block, out: &mut String) -> Result<(), AllocError>
-    ensures { IfOk result (λ _. string_bytes out.new ≡ string_bytes out.old ++ kind_fields block.now) }
+    ensures { IfOk result
+        (λ _. string_bytes out.new ≡ string_bytes out.old ++ kind_fields block.now) }
 {
     match block {
         Block::Entry { code, .. } => append_field("code", u64::from(*code), out),
@@ -116,7 +121,8 @@ fn append_kind(block: &Block, out: &mut String) -> Result<(), AllocError>
 }
 
 fn append_objects(count: u64, metaclass: u16, out: &mut String) -> Result<(), AllocError>
-    ensures { IfOk result (λ _. string_bytes out.new ≡ string_bytes out.old ++ (field (codes "objects") count ++ field (codes "metaclass") metaclass)) }
+    ensures { IfOk result (λ _. string_bytes out.new ≡ string_bytes out.old ++ (field (codes
+        "objects") count ++ field (codes "metaclass") metaclass)) }
 {
     append_field("objects", count, out)?;
     append_field("metaclass", u64::from(metaclass), out)
@@ -124,14 +130,16 @@ fn append_objects(count: u64, metaclass: u16, out: &mut String) -> Result<(), Al
 
 /// Appends a number after what it is.
 fn append_field(what: &str, number: u64, out: &mut String) -> Result<(), AllocError>
-    ensures { IfOk result (λ _. string_bytes out.new ≡ string_bytes out.old ++ field what.now number) }
+    ensures { IfOk result
+        (λ _. string_bytes out.new ≡ string_bytes out.old ++ field what.now number) }
 {
     write!(out, " {what}={number}")
 }
 
 /// Appends a block's name, as it can be shown.
 fn append_name(name: &[u8], out: &mut String) -> Result<(), AllocError>
-    ensures { IfOk result (λ _. string_bytes out.new ≡ string_bytes out.old ++ map shown_as name.now) }
+    ensures { IfOk result
+        (λ _. string_bytes out.new ≡ string_bytes out.old ++ map shown_as name.now) }
 {
     for byte in name {
         out.push(char::from(shown_byte(*byte)))?;

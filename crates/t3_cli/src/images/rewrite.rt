@@ -20,7 +20,8 @@ pub(crate) fn put_image<D: Depot>(
 ) -> Result<usize, DeviceRefusal>
     requires out { IsFileName out.now }
     requires depot { D.faults depot.old < 2 ^ 64 - 1 }
-    ensures puts { PutsSized (D.files depot.old) (D.files depot.new) out.now (written_text mask image) result }
+    ensures puts { PutsSized (D.files depot.old) (D.files depot.new) out.now
+        (written_text mask image) result }
     ensures cause { MovesFaults (D.faults depot.old) (D.faults depot.new) result }
 {
     let image = masked(image, mask);

@@ -21,7 +21,8 @@ pub(crate) fn make(
     operands: &mut Vec<Holder>,
     code: MakeCode,
 ) -> Result<Turn, NoMemory>
-    ensures { IfOk result (λ turn. Does (make_acts has_io code (stack_of operands.old)) turn (stack_of operands.new)) }
+    ensures { IfOk result
+        (λ turn. Does (make_acts has_io code (stack_of operands.old)) turn (stack_of operands.new)) }
 {
     let MakeCode::Builtina(count, index) = code;
     if operands.len() < usize::from(count) {
@@ -40,7 +41,8 @@ pub(crate) fn make(
 /// Says so many operands, the topmost first.
 fn say(alloc: Global, operands: &mut Vec<Holder>, count: u8) -> Result<Turn, NoMemory>
     requires { count ≤ length operands.old.items }
-    ensures { IfOk result (λ turn. Does (say_acts count (said_texts (take count (stack_of operands.old))) (drop count (stack_of operands.old))) turn (stack_of operands.new)) }
+    ensures { IfOk result (λ turn. Does (say_acts count (said_texts (take count (stack_of
+        operands.old))) (drop count (stack_of operands.old))) turn (stack_of operands.new)) }
 {
     if count == 0 {
         return Ok(Turn::Faults(Fault::ArgCount));
@@ -61,7 +63,8 @@ fn say(alloc: Global, operands: &mut Vec<Holder>, count: u8) -> Result<Turn, NoM
 
 /// Appends the text in which a value is said, and tells whether it has one.
 fn append(value: Holder, text: &mut String) -> Result<bool, AllocError>
-    ensures { IfOk result (λ has. Appends (string_bytes text.old) (said_text value) has (string_bytes text.new)) }
+    ensures { IfOk result
+        (λ has. Appends (string_bytes text.old) (said_text value) has (string_bytes text.new)) }
 {
     match value {
         Holder::Nil => {}

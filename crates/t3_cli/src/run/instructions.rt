@@ -18,7 +18,8 @@ pub(crate) fn act(
     instr: Instr,
     frame: &mut Frame,
 ) -> Result<Turn, NoMemory>
-    ensures { IfOk result (λ turn. Changes (acts has_io (length frame.old.locals.items) instr (stack_of frame.old.operands)) turn frame.old frame.new) }
+    ensures { IfOk result (λ turn. Changes (acts has_io (length frame.old.locals.items) instr
+        (stack_of frame.old.operands)) turn frame.old frame.new) }
 {
     let locals = frame.locals.len();
     match instr {
@@ -34,7 +35,8 @@ pub(crate) fn act(
 
 /// Pushes a value, where so many others are there besides the operands.
 fn push(others: usize, operands: &mut Vec<Holder>, code: PushCode) -> Result<Turn, NoMemory>
-    ensures { IfOk result (λ turn. Does (push_acts others code (stack_of operands.old)) turn (stack_of operands.new)) }
+    ensures { IfOk result
+        (λ turn. Does (push_acts others code (stack_of operands.old)) turn (stack_of operands.new)) }
 {
     if operands.len() >= VALUE_LIMIT.saturating_sub(others) {
         return Ok(Turn::Faults(Fault::StackFull));
@@ -59,7 +61,8 @@ fn pushed(code: PushCode) -> Holder
 
 /// Computes of the two topmost operands, of which the topmost is the right one.
 fn math(operands: &mut Vec<Holder>, code: MathCode) -> Result<Turn, NoMemory>
-    ensures { IfOk result (λ turn. Does (math_acts code (stack_of operands.old)) turn (stack_of operands.new)) }
+    ensures { IfOk result
+        (λ turn. Does (math_acts code (stack_of operands.old)) turn (stack_of operands.new)) }
 {
     let Some(right) = operands.pop() else {
         return Ok(Turn::Stops(CodeWhy::Underflow));

@@ -44,7 +44,8 @@ impl Machine {
 
     /// Makes a step: calls the entry method at first, and then carries out an instruction.
     pub(crate) fn step(&mut self, alloc: Global, program: &Program) -> Result<Event, NoMemory>
-        ensures { IfOk result (λ event. TakesStep (program_of program.now) (state_of self.old) event (state_of self.new)) }
+        ensures { IfOk result (λ event. TakesStep (program_of program.now) (state_of self.old) event
+            (state_of self.new)) }
     {
         match &mut self.frame {
             None => enter(alloc, program, &mut self.frame),
@@ -56,7 +57,12 @@ impl Machine {
 /// Calls the entry method.
 fn enter(alloc: Global, program: &Program, frame: &mut Option<Frame>) -> Result<Event, NoMemory>
     requires { frame.old ≡ None }
-    ensures { IfOk result (λ event. (register : Holder) → TakesStep (program_of program.now) (record { frame = None; register = register }) event (record { frame = option_map frame_of frame.new; register = register })) }
+    ensures { IfOk result (λ event. (register : Holder) → TakesStep (program_of program.now) (record
+        { frame = None; register = register }) event (record {
+          frame = option_map frame_of
+              frame.new;
+          register = register;
+        })) }
 {
     match header_at(&program.pools, program.entry) {
         Ok(header) => call(alloc, program.entry, header, frame),
@@ -71,7 +77,8 @@ fn carry_out(
     frame: &mut Frame,
     register: &mut Holder,
 ) -> Result<Event, NoMemory>
-    ensures { IfOk result (λ event. TakesStep (program_of program.now) (running frame.old register.old) event (running frame.new register.new)) }
+    ensures { IfOk result (λ event. TakesStep (program_of program.now) (running frame.old
+        register.old) event (running frame.new register.new)) }
 {
     match instr_at(&program.pools, frame.place) {
         Ok((instr, size)) => {

@@ -29,7 +29,9 @@ pub(crate) fn launch<C: Console>(
     console: &mut C,
 ) -> Status
     requires { C.faults console.old < 2 ^ 64 - 1 }
-    ensures follows { (files : Option Files) → FollowsSome (IsRunOutcome image.now.blocks (options_value options)) files files (C.session console.old) (C.session console.new) result }
+    ensures follows { (files : Option Files) → FollowsSome
+        (IsRunOutcome image.now.blocks (options_value options)) files files (C.session console.old)
+        (C.session console.new) result }
     ensures fault { result ≡ Status.ConsoleFault → C.faults console.old < C.faults console.new }
     ensures rise { (result ≡ Status.ConsoleFault) ⊎ (C.faults console.new ≡ C.faults console.old) }
     ensures no_depot { result ≢ Status.DepotFault }
@@ -44,7 +46,9 @@ pub(crate) fn launch<C: Console>(
 /// Runs a program by at most so many steps, and shows what it says and how it ends.
 fn play<C: Console>(alloc: Global, program: &Program, steps: u32, console: &mut C) -> Status
     requires { C.faults console.old < 2 ^ 64 - 1 }
-    ensures follows { (files : Option Files) → FollowsSome (IsProgramOutcome (program_of program.now) steps) files files (C.session console.old) (C.session console.new) result }
+    ensures follows { (files : Option Files) → FollowsSome
+        (IsProgramOutcome (program_of program.now) steps) files files (C.session console.old)
+        (C.session console.new) result }
     ensures fault { result ≡ Status.ConsoleFault → C.faults console.old < C.faults console.new }
     ensures rise { (result ≡ Status.ConsoleFault) ⊎ (C.faults console.new ≡ C.faults console.old) }
     ensures no_depot { result ≢ Status.DepotFault }
@@ -65,7 +69,8 @@ fn play_on<C: Console>(
     console: &mut C,
 ) -> Result<(bool, Option<End>), DeviceRefusal>
     requires { C.faults console.old < 2 ^ 64 - 1 }
-    ensures plays { PlaysOn (program_of program.now) steps (C.session console.old) (C.session console.new) result }
+    ensures plays { PlaysOn (program_of program.now) steps (C.session console.old)
+        (C.session console.new) result }
     ensures cause { MovesFaults (C.faults console.old) (C.faults console.new) result }
 {
     let mut machine = Machine::new();
@@ -88,7 +93,8 @@ fn play_on<C: Console>(
 /// Shows the end of a run: a newline after what was said, and how it ended.
 fn close<C: Console>(alloc: Global, has_said: bool, end: Option<End>, console: &mut C) -> Status
     requires { C.faults console.old < 2 ^ 64 - 1 }
-    ensures shown { ShowsOrWants (C.session console.old) (C.session console.new) (closing_text has_said end) (status_by end) result }
+    ensures shown { ShowsOrWants (C.session console.old) (C.session console.new)
+        (closing_text has_said end) (status_by end) result }
     ensures fault { result ≡ Status.ConsoleFault → C.faults console.old < C.faults console.new }
     ensures rise { (result ≡ Status.ConsoleFault) ⊎ (C.faults console.new ≡ C.faults console.old) }
     ensures no_depot { result ≢ Status.DepotFault }
