@@ -5,9 +5,9 @@ use Rattle.std.proofs.lemmas.List.{append-nil}
 use Rattle.std.proofs.lemmas.List.Folds.{list_any-append}
 use Rattle.t3_console.specs.Rendering.{is_newline, size_of, part_after, last_line, newline_due}
 use Rattle.t3_console.specs.Page.{column_of}
-use Rattle.t3_console.specs.Inner.Stepping.{State, lead, column_past, put, column_after, newline_behind, put_byte, after_byte, put_text, after_text}
+use Rattle.t3_console.specs.Inner.Stepping.{State, lead, column_past, put, column_after, line_ending, put_byte, after_byte, put_text, after_text}
 use Rattle.t3_console.proofs.Stepping.{IsWhole, whole_parts, size-append, put_byte-word, after_byte-word, put_byte-separator, after_byte-separator}
-use Rattle.t3_console.proofs.Rendering.{newline, gap, part, kind_of, separator-newline, separator-gap, not_newline, whole_longer}
+use Rattle.t3_console.proofs.Rendering.{newline, gap, part, parts_as, separator-newline, separator-gap, not_newline, whole_longer}
 
 -- ---- what stands after the last
 
@@ -98,7 +98,7 @@ pub column_put : (width : ℕ) (column : Option ℕ) (out word : List ℕ) → c
 column_put width column out [] at whole = ap (λ o. column_of (last_line o)) (append-nil out) ∙ at
 column_put width column out (byte ∷ word) at whole = column_led width column out byte word at whole
 
-pub newline_is : (line : List ℕ) → newline_due line ≡ newline_behind (column_of line)
+pub newline_is : (line : List ℕ) → newline_due line ≡ line_ending (column_of line)
 newline_is [] = refl
 newline_is (byte ∷ line) = refl
 
@@ -107,7 +107,7 @@ newline_is (byte ∷ line) = refl
 column_byte : (width : ℕ) (s : State) (byte : ℕ) (out : List ℕ) → column_of (last_line out) ≡ s.column → IsWhole s.word
     → column_of (last_line (out ++ put_byte width s byte)) ≡ (after_byte width s byte).column
 column_byte width s byte out at whole =
-    elim (kind_of byte) [
+    elim (parts_as byte) [
       | newline is ↦
           let ends = separator-newline byte is in
           let text : put_byte width s byte ≡ put width s.column s.word ++ 10 ∷ [] = put_byte-separator width s byte ends ∙ (rw is refl) in
@@ -132,7 +132,7 @@ column_byte width s byte out at whole =
 
 pub whole_byte : (width : ℕ) (s : State) (byte : ℕ) → IsWhole s.word → IsWhole (after_byte width s byte).word
 whole_byte width s byte whole =
-    elim (kind_of byte) [
+    elim (parts_as byte) [
       | newline is ↦ rw (after_byte-separator width s byte (separator-newline byte is)) refl
       | gap is is_g ↦ rw (after_byte-separator width s byte (separator-gap byte is is_g)) refl
       | part is ↦ rw (after_byte-word width s byte is) (whole_longer s.word byte whole is)

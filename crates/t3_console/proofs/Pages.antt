@@ -4,7 +4,7 @@ use Rattle.std.specs.List.{list_any}
 use Rattle.std.proofs.lemmas.List.{append-nil}
 use Rattle.t3_console.specs.Rendering.{is_separator, rendering, closed_rendering, part_after, last_line, newline_due}
 use Rattle.t3_console.specs.Page.{PageValue, ended_part, open_word, shown, column_of, page_after, HasTaken, Says, Ends}
-use Rattle.t3_console.specs.Inner.Stepping.{State, start, put, column_after, newline_behind, after_byte, put_text, after_text}
+use Rattle.t3_console.specs.Inner.Stepping.{State, start, put, column_after, line_ending, after_byte, put_text, after_text}
 use Rattle.t3_console.specs.Inner.Ending.{EndsLine}
 use Rattle.t3_console.proofs.Stepping.{IsWhole, put_text-append, after_text-append, put_text-word, after_text-word, after_byte-separator}
 use Rattle.t3_console.proofs.Rendering.{rendering_is}
@@ -76,20 +76,20 @@ start_closed width text = closed_cases width text (list_any is_separator text) r
 
 pub shown_is : (width : ℕ) (text : List ℕ) → shown width text ≡ put_text width start text
 shown_is width text =
-    let front = ended_part text in
-    let after = after_text width start front in
-    rendering_is width front
-    ∙ ap (λ w. put_text width start front ++ put width after.column w) (start_closed width text)
-    ∙ ap (λ rest. put_text width start front ++ rest) (sym (put_text-word width after (open_word text) (open_whole text)))
-    ∙ sym (put_text-append width start front (open_word text))
+    let prefix = ended_part text in
+    let after = after_text width start prefix in
+    rendering_is width prefix
+    ∙ ap (λ w. put_text width start prefix ++ put width after.column w) (start_closed width text)
+    ∙ ap (λ rest. put_text width start prefix ++ rest) (sym (put_text-word width after (open_word text) (open_whole text)))
+    ∙ sym (put_text-append width start prefix (open_word text))
     ∙ ap (put_text width start) (parts_whole text)
 
 open_is : (width : ℕ) (text : List ℕ) → open_word text ≡ (after_text width start text).word
 open_is width text =
-    let front = ended_part text in
-    let after = after_text width start front in
+    let prefix = ended_part text in
+    let after = after_text width start prefix in
     sym (ap (λ t. (after_text width start t).word) (sym (parts_whole text))
-    ∙ ap (λ t. t.word) (after_text-append width start front (open_word text))
+    ∙ ap (λ t. t.word) (after_text-append width start prefix (open_word text))
     ∙ ap (λ t. t.word) (after_text-word width after (open_word text) (open_whole text))
     ∙ ap (λ w. w ++ open_word text) (start_closed width text))
 
@@ -153,7 +153,7 @@ rests old new taken out_old out_new has ends = record {
 
 -- the last line is empty where the column says so
 newline_of : (page : PageValue) (taken : List ℕ) → HasTaken page taken
-    → newline_due (last_line (rendering page.width taken)) ≡ newline_behind (column_after page.width page.column page.word)
+    → newline_due (last_line (rendering page.width taken)) ≡ line_ending (column_after page.width page.column page.word)
 newline_of page taken has =
     let width = page.width in
     let s = after_text width start taken in
@@ -161,14 +161,14 @@ newline_of page taken has =
     let at : column_of (last_line (shown width taken)) ≡ page.column = ap (λ p. p.column) (sym has) in
     let whole : IsWhole page.word = subst (λ (w : List ℕ). IsWhole w) (ap (λ p. p.word) (sym has)) (open_whole taken) in
     newline_is (last_line (rendering width taken))
-    ∙ ap (λ o. newline_behind (column_of (last_line o))) (sym (rendered page taken has))
-    ∙ ap newline_behind (column_put width page.column (shown width taken) page.word at whole)
+    ∙ ap (λ o. line_ending (column_of (last_line o))) (sym (rendered page taken has))
+    ∙ ap line_ending (column_put width page.column (shown width taken) page.word at whole)
 
 pub closes : (old new : PageValue) (taken out_old out_new : List ℕ) → HasTaken old taken → EndsLine old new true out_old out_new
     → Ends taken (closed_rendering old.width taken) old new out_old out_new
 closes old new taken out_old out_new has ends =
     let text = put old.width old.column old.word in
-    let ending = newline_behind (column_after old.width old.column old.word) in
+    let ending = line_ending (column_after old.width old.column old.word) in
     record {
       page = ends.page ∙ new_page old.width;
       out = record {

@@ -106,7 +106,7 @@ rest_text-newline : (width : ℕ) (column : Option ℕ) (word : List ℕ) (parag
     → rest_text width column word ([] ∷ paragraphs) ≡ put width column word ++ more_text width paragraphs
 rest_text-newline width column word paragraphs whole =
     ap (λ w. continued width column (words_of w) ++ more_text width paragraphs) (append-nil word)
-    ∙ ap (λ front. front ++ more_text width paragraphs) (words_of-whole width column word whole)
+    ∙ ap (λ prefix. prefix ++ more_text width paragraphs) (words_of-whole width column word whole)
 
 -- there is always a first paragraph
 some_parts : (text : List ℕ) → 0 < length (slice_split is_newline text)
@@ -127,7 +127,7 @@ rest_text-gap : (width : ℕ) (column : Option ℕ) (word : List ℕ) (byte : �
 rest_text-gap width column word byte [] whole is =
     append-nil (continued width column (words_of (word ++ byte ∷ []))) ∙ words_of-gap width column word byte [] whole is
 rest_text-gap width column word byte (first ∷ paragraphs) whole is =
-    ap (λ front. front ++ more_text width paragraphs) (words_of-gap width column word byte first whole is)
+    ap (λ prefix. prefix ++ more_text width paragraphs) (words_of-gap width column word byte first whole is)
     ∙ append_assoc (put width column word) (continued width (column_after width column word) (words_of first)) (more_text width paragraphs)
 
 rest_text-byte : (width : ℕ) (column : Option ℕ) (word : List ℕ) (byte : ℕ) (paragraphs : List (List ℕ))
@@ -149,18 +149,18 @@ whole_step width s byte text =
     append_assoc (put_byte width s byte) (put_text width (after_byte width s byte) text) (put width after.column after.word)
 
 -- by what the byte is: a newline, a gap, or a part of a word
-pub data Kind (byte : ℕ) : Type 0 where
-  newline : is_newline byte ≡ true → Kind byte
-  gap : is_newline byte ≡ false → is_gap byte ≡ true → Kind byte
-  part : is_separator byte ≡ false → Kind byte
+pub data Parts (byte : ℕ) : Type 0 where
+  newline : is_newline byte ≡ true → Parts byte
+  gap : is_newline byte ≡ false → is_gap byte ≡ true → Parts byte
+  part : is_separator byte ≡ false → Parts byte
 
-kind_from : (byte : ℕ) (a b : Bool) → is_newline byte ≡ a → is_gap byte ≡ b → Kind byte
-kind_from byte true b is_n is_g = newline is_n
-kind_from byte false true is_n is_g = gap is_n is_g
-kind_from byte false false is_n is_g = part (rw (is_n, is_g) refl)
+parts_from : (byte : ℕ) (a b : Bool) → is_newline byte ≡ a → is_gap byte ≡ b → Parts byte
+parts_from byte true b is_n is_g = newline is_n
+parts_from byte false true is_n is_g = gap is_n is_g
+parts_from byte false false is_n is_g = part (rw (is_n, is_g) refl)
 
-pub kind_of : (byte : ℕ) → Kind byte
-kind_of byte = kind_from byte (is_newline byte) (is_gap byte) refl refl
+pub parts_as : (byte : ℕ) → Parts byte
+parts_as byte = parts_from byte (is_newline byte) (is_gap byte) refl refl
 
 pub separator-newline : (byte : ℕ) → is_newline byte ≡ true → is_separator byte ≡ true
 separator-newline byte is = rw is refl
@@ -177,7 +177,7 @@ whole_rest width s [] whole =
     sym (append-nil (continued width s.column (words_of (s.word ++ [])))
     ∙ ap (λ w. continued width s.column (words_of w)) (append-nil s.word) ∙ words_of-whole width s.column s.word whole)
 whole_rest width s (byte ∷ text) whole =
-    elim (kind_of byte) [
+    elim (parts_as byte) [
       | newline is ↦
           let ends = separator-newline byte is in
           let next : State = record { column = None; word = [] } in

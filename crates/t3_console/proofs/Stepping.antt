@@ -8,7 +8,7 @@ use Rattle.std.proofs.lemmas.List.{append-nil, get_or-drop, take-append-drop, ta
 use Rattle.std.proofs.lemmas.List.Elements.{filter-append}
 use Rattle.std.proofs.Math.Seq.{take-suc, take-append_seam, drop-append_seam}
 use Rattle.t3_console.specs.Rendering.{is_separator, begins_character, size_of}
-use Rattle.t3_console.specs.Inner.Stepping.{State, lead, column_past, put, column_after, separator_text, column_behind, put_byte, after_byte, put_text, after_text, IsNextWord, PutsWords}
+use Rattle.t3_console.specs.Inner.Stepping.{State, lead, column_past, put, column_after, separator_text, column_after_separator, put_byte, after_byte, put_text, after_text, IsNextWord, PutsWords}
 
 -- no byte of it parts words
 abbrev pub IsWhole : List ℕ → Type 0
@@ -83,7 +83,7 @@ unfolding put_byte
 put_byte-separator width s byte is = rw is refl
 
 pub after_byte-separator : (width : ℕ) (s : State) (byte : ℕ) → is_separator byte ≡ true
-    → after_byte width s byte ≡ record { column = column_behind byte (column_after width s.column s.word); word = [] }
+    → after_byte width s byte ≡ record { column = column_after_separator byte (column_after width s.column s.word); word = [] }
 unfolding after_byte
 after_byte-separator width s byte is = rw is refl
 
@@ -110,14 +110,14 @@ pub put_text-ended : (width : ℕ) (s : State) (word : List ℕ) (byte : ℕ) �
 put_text-ended width s word byte whole is =
     let mid : State = record { column = s.column; word = s.word ++ word } in
     put_text-append width s word (byte ∷ [])
-    ∙ ap (λ front. front ++ put_text width (after_text width s word) (byte ∷ [])) (put_text-word width s word whole)
+    ∙ ap (λ begun. begun ++ put_text width (after_text width s word) (byte ∷ [])) (put_text-word width s word whole)
     ∙ ap (λ state. put_text width state (byte ∷ [])) (after_text-word width s word whole)
     ∙ append-nil (put_byte width mid byte)
     ∙ put_byte-separator width mid byte is
 
 pub after_text-ended : (width : ℕ) (s : State) (word : List ℕ) (byte : ℕ) → IsWhole word → is_separator byte ≡ true
     → after_text width s (word ++ byte ∷ []) ≡ record {
-      column = column_behind byte
+      column = column_after_separator byte
           (column_after width s.column (s.word ++ word));
       word = [];
     }
@@ -149,26 +149,26 @@ pub part_is : (n long : ℕ) (xs : List ℕ) → take (n + long - n) (drop n xs)
 part_is n long xs = ap (λ m. take m (drop n xs)) (omega arith)
 
 -- so much of the text was put out
-pub record IsPutting (width : ℕ) (s : State) (text out_old out : List ℕ) (column : Option ℕ) (front : List ℕ) (at : ℕ) : Type 0 where
+pub record IsPutting (width : ℕ) (s : State) (text out_old out : List ℕ) (column : Option ℕ) (begun : List ℕ) (at : ℕ) : Type 0 where
   pub within : at ≤ length text
   pub put : out ≡ out_old ++ put_text width s (take at text)
-  pub after : after_text width s (take at text) ≡ record { column = column; word = front }
-  pub front_is : front ≡ cond (eqb at 0) s.word []
+  pub after : after_text width s (take at text) ≡ record { column = column; word = begun }
+  pub begun_is : begun ≡ cond (eqb at 0) s.word []
 
 pub putting_begun : (width : ℕ) (s : State) (text out : List ℕ) → IsPutting width s text out out s.column s.word 0
-putting_begun width s text out = record { within = omega arith; put = sym (append-nil out); after = refl; front_is = refl }
+putting_begun width s text out = record { within = omega arith; put = sym (append-nil out); after = refl; begun_is = refl }
 
-begun : (n : ℕ) (word : List ℕ) → [] ≡ cond (eqb (n + 1) 0) word []
-begun n word = ⊎_elim (λ same. absurd (omega (arith, same.1))) (λ other. rw other.0 refl) (eqb_tells (n + 1) 0)
+not_begun : (n : ℕ) (word : List ℕ) → [] ≡ cond (eqb (n + 1) 0) word []
+not_begun n word = ⊎_elim (λ same. absurd (omega (arith, same.1))) (λ other. rw other.0 refl) (eqb_tells (n + 1) 0)
 
 -- the next word, and the separator that ends it
-pub putting_more : (width : ℕ) (s : State) (text out_old out out_new : List ℕ) (column column_new : Option ℕ) (front : List ℕ)
+pub putting_more : (width : ℕ) (s : State) (text out_old out out_new : List ℕ) (column column_new : Option ℕ) (begun : List ℕ)
     (at long size : ℕ)
-    → IsPutting width s text out_old out column front at → IsNextWord (drop at text) long size
-    → out_new ≡ out ++ (put width column (front ++ take long (drop at text)) ++ separator_text (slice_index text (at + long)))
-    → column_new ≡ column_behind (slice_index text (at + long)) (column_after width column (front ++ take long (drop at text)))
+    → IsPutting width s text out_old out column begun at → IsNextWord (drop at text) long size
+    → out_new ≡ out ++ (put width column (begun ++ take long (drop at text)) ++ separator_text (slice_index text (at + long)))
+    → column_new ≡ column_after_separator (slice_index text (at + long)) (column_after width column (begun ++ take long (drop at text)))
     → IsPutting width s text out_old out_new column_new [] (at + long + 1)
-putting_more width s text out_old out out_new column column_new front at long size so_far next put' column' =
+putting_more width s text out_old out out_new column column_new begun at long size so_far next put' column' =
     let byte = slice_index text (at + long) in
     let word = take long (drop at text) in
     let done = take at text in
@@ -178,12 +178,12 @@ putting_more width s text out_old out out_new column column_new front at long si
     let longer : take (at + long + 1) text ≡ done ++ (word ++ byte ∷ []) =
     ap (λ n. take n text) (omega arith) ∙ take_add at (suc long) text
     ∙ ap (λ rest. done ++ rest) (take-suc (drop at text) long 0 next.within ∙ ap (λ b. word ++ b ∷ []) byte_is) in
-    let mid : State = record { column = column; word = front } in
+    let mid : State = record { column = column; word = begun } in
     let long_text = length-drop at text in
     record {
       within = omega (arith, next.within);
-      put = put' ∙ ap (λ o. o ++ (put width column (front ++ word) ++ separator_text byte)) so_far.put
-          ∙ append_assoc out_old (put_text width s done) (put width column (front ++ word) ++ separator_text byte)
+      put = put' ∙ ap (λ o. o ++ (put width column (begun ++ word) ++ separator_text byte)) so_far.put
+          ∙ append_assoc out_old (put_text width s done) (put width column (begun ++ word) ++ separator_text byte)
           ∙ ap (λ rest. out_old ++ (put_text width s done ++ rest)) (sym (put_text-ended width mid word byte here ends))
           ∙ ap (λ state. out_old ++ (put_text width s done ++ put_text width state (word ++ byte ∷ []))) (sym so_far.after)
           ∙ ap (λ rest. out_old ++ rest) (sym (put_text-append width s done (word ++ byte ∷ [])))
@@ -192,74 +192,74 @@ putting_more width s text out_old out out_new column column_new front at long si
           ∙ ap (λ state. after_text width state (word ++ byte ∷ [])) so_far.after
           ∙ after_text-ended width mid word byte here ends
           ∙ ap (λ c. record { column = c; word = [] }) (sym column');
-      front_is = begun (at + long) s.word;
+      begun_is = not_begun (at + long) s.word;
     }
 
--- behind the last separator
-pub putting_done : (width : ℕ) (s : State) (text out_old out : List ℕ) (column : Option ℕ) (front : List ℕ) (at : ℕ)
-    → IsPutting width s text out_old out column front at → IsWhole (drop at text) → PutsWords width s text out_old out column at
-putting_done width s text out_old out column front at so_far whole = record {
+-- after the last separator
+pub putting_done : (width : ℕ) (s : State) (text out_old out : List ℕ) (column : Option ℕ) (begun : List ℕ) (at : ℕ)
+    → IsPutting width s text out_old out column begun at → IsWhole (drop at text) → PutsWords width s text out_old out column at
+putting_done width s text out_old out column begun at so_far whole = record {
   within = so_far.within;
   rest = whole;
   put = so_far.put;
-  after = so_far.after ∙ ap (λ w. record { column = column; word = w }) so_far.front_is;
+  after = so_far.after ∙ ap (λ w. record { column = column; word = w }) so_far.begun_is;
 }
 
 -- the rest of the text is the word that isn't ended
 pub put_all : (width : ℕ) (s : State) (text out_old out : List ℕ) (column : Option ℕ) (at : ℕ)
     → PutsWords width s text out_old out column at → out ≡ out_old ++ put_text width s text
 put_all width s text out_old out column at done =
-    let front = take at text in
+    let begun = take at text in
     let rest = drop at text in
     done.put
-    ∙ ap (λ o. out_old ++ o) (sym (append-nil (put_text width s front))
-    ∙ ap (λ o. put_text width s front ++ o) (sym (put_text-word width (after_text width s front) rest done.rest))
-    ∙ sym (put_text-append width s front rest)
+    ∙ ap (λ o. out_old ++ o) (sym (append-nil (put_text width s begun))
+    ∙ ap (λ o. put_text width s begun ++ o) (sym (put_text-word width (after_text width s begun) rest done.rest))
+    ∙ sym (put_text-append width s begun rest)
     ∙ ap (put_text width s) (take-append-drop at text))
 
 pub after_all : (width : ℕ) (s : State) (text out_old out : List ℕ) (column : Option ℕ) (at : ℕ)
     → PutsWords width s text out_old out column at
     → after_text width s text ≡ record { column = column; word = cond (eqb at 0) s.word [] ++ drop at text }
 after_all width s text out_old out column at done =
-    let front = take at text in
+    let begun = take at text in
     let rest = drop at text in
     ap (after_text width s) (sym (take-append-drop at text))
-    ∙ after_text-append width s front rest
+    ∙ after_text-append width s begun rest
     ∙ ap (λ state. after_text width state rest) done.after
     ∙ after_text-word width (record { column = column; word = cond (eqb at 0) s.word [] }) rest done.rest
 
 -- ---- a word in two parts
 
-some_of : (front rest : List ℕ) → 0 < length front + length rest → 0 < length (front ++ rest)
-some_of front rest some = omega (arith, length-append front rest)
+some_of : (begun rest : List ℕ) → 0 < length begun + length rest → 0 < length (begun ++ rest)
+some_of begun rest some = omega (arith, length-append begun rest)
 
-pub word_put : (width : ℕ) (column : Option ℕ) (front rest old led mid new before : List ℕ) (size rest_size : ℕ)
-    → size ≡ size_of front → rest_size ≡ size_of rest → 0 < length front + length rest
-    → before ≡ lead width column (size + rest_size) → led ≡ old ++ before → mid ≡ led ++ front → new ≡ mid ++ rest
-    → new ≡ old ++ put width column (front ++ rest)
-word_put width column front rest old led mid new before size rest_size is rest_is some lead_is led_is mid_is new_is =
-    let whole : size + rest_size ≡ size_of (front ++ rest) = omega (arith, size-append front rest) in
-    new_is ∙ ap (λ x. x ++ rest) mid_is ∙ append_assoc led front rest ∙ ap (λ x. x ++ (front ++ rest)) led_is
-    ∙ append_assoc old before (front ++ rest)
-    ∙ ap (λ x. old ++ (x ++ (front ++ rest))) (lead_is ∙ ap (lead width column) whole)
-    ∙ ap (λ x. old ++ x) (sym (put-some width column (front ++ rest) (some_of front rest some)))
+pub word_put : (width : ℕ) (column : Option ℕ) (begun rest old led mid new before : List ℕ) (size rest_size : ℕ)
+    → size ≡ size_of begun → rest_size ≡ size_of rest → 0 < length begun + length rest
+    → before ≡ lead width column (size + rest_size) → led ≡ old ++ before → mid ≡ led ++ begun → new ≡ mid ++ rest
+    → new ≡ old ++ put width column (begun ++ rest)
+word_put width column begun rest old led mid new before size rest_size is rest_is some lead_is led_is mid_is new_is =
+    let whole : size + rest_size ≡ size_of (begun ++ rest) = omega (arith, size-append begun rest) in
+    new_is ∙ ap (λ x. x ++ rest) mid_is ∙ append_assoc led begun rest ∙ ap (λ x. x ++ (begun ++ rest)) led_is
+    ∙ append_assoc old before (begun ++ rest)
+    ∙ ap (λ x. old ++ (x ++ (begun ++ rest))) (lead_is ∙ ap (lead width column) whole)
+    ∙ ap (λ x. old ++ x) (sym (put-some width column (begun ++ rest) (some_of begun rest some)))
 
-pub column_put : (width : ℕ) (column : Option ℕ) (front rest : List ℕ) (size rest_size past : ℕ)
-    → size ≡ size_of front → rest_size ≡ size_of rest → 0 < length front + length rest
-    → past ≡ column_past width column (size + rest_size) → Some past ≡ column_after width column (front ++ rest)
-column_put width column front rest size rest_size past is rest_is some past_is =
-    let whole : size + rest_size ≡ size_of (front ++ rest) = omega (arith, size-append front rest) in
-    ap Some (past_is ∙ ap (column_past width column) whole) ∙ sym (column_after-some width column (front ++ rest) (some_of front rest some))
+pub column_put : (width : ℕ) (column : Option ℕ) (begun rest : List ℕ) (size rest_size past : ℕ)
+    → size ≡ size_of begun → rest_size ≡ size_of rest → 0 < length begun + length rest
+    → past ≡ column_past width column (size + rest_size) → Some past ≡ column_after width column (begun ++ rest)
+column_put width column begun rest size rest_size past is rest_is some past_is =
+    let whole : size + rest_size ≡ size_of (begun ++ rest) = omega (arith, size-append begun rest) in
+    ap Some (past_is ∙ ap (column_past width column) whole) ∙ sym (column_after-some width column (begun ++ rest) (some_of begun rest some))
 
--- ---- the word that isn't ended, behind what was taken
+-- ---- the word that isn't ended, after what was taken
 
--- a list that is turned at its front, and then loses it
-pub turned : (front rest whole around new : List ℕ) (n : ℕ) → whole ≡ front ++ rest
-    → around ≡ drop (length front) whole ++ take (length front) whole → n ≡ length rest → new ≡ take n around → new ≡ rest
-turned front rest whole around new n whole_is around_is n_is new_is =
-    let back : drop (length front) whole ≡ rest = ap (drop (length front)) whole_is ∙ drop-append_seam front rest in
-    new_is ∙ ap (λ m. take m around) n_is ∙ ap (take (length rest)) (around_is ∙ ap (λ b. b ++ take (length front) whole) back)
-    ∙ take-append_seam rest (take (length front) whole)
+-- a list that is turned by its first part, and then loses it
+pub turned : (begun rest whole around new : List ℕ) (n : ℕ) → whole ≡ begun ++ rest
+    → around ≡ drop (length begun) whole ++ take (length begun) whole → n ≡ length rest → new ≡ take n around → new ≡ rest
+turned begun rest whole around new n whole_is around_is n_is new_is =
+    let back : drop (length begun) whole ≡ rest = ap (drop (length begun)) whole_is ∙ drop-append_seam begun rest in
+    new_is ∙ ap (λ m. take m around) n_is ∙ ap (take (length rest)) (around_is ∙ ap (λ b. b ++ take (length begun) whole) back)
+    ∙ take-append_seam rest (take (length begun) whole)
 
 pub some_at : (at : ℕ) (word : List ℕ) → 0 < at → cond (eqb at 0) word [] ≡ []
 some_at at word some = ⊎_elim (λ same. absurd (omega (arith, same.1))) (λ other. rw other.0 refl) (eqb_tells at 0)
@@ -268,20 +268,20 @@ pub none_at : (at : ℕ) (word : List ℕ) → at ≤ 0 → cond (eqb at 0) word
 none_at at word none = ⊎_elim (λ same. rw same.0 refl) (λ other. absurd (other.1 (omega arith))) (eqb_tells at 0)
 
 -- the word and the text after it, where something was put out
-pub said_some : (width : ℕ) (column column_new : Option ℕ) (front text out_old out new : List ℕ) (at : ℕ)
-    → PutsWords width (record { column = column; word = front }) text out_old out column_new at → 0 < at
-    → new ≡ drop at text → record { column = column_new; word = new } ≡ after_text width (record { column = column; word = front }) text
-said_some width column column_new front text out_old out new at done some is =
-    let s : State = record { column = column; word = front } in
-    ap (λ w. record { column = column_new; word = w }) (is ∙ ap (λ w. w ++ drop at text) (sym (some_at at front some)))
+pub said_some : (width : ℕ) (column column_new : Option ℕ) (begun text out_old out new : List ℕ) (at : ℕ)
+    → PutsWords width (record { column = column; word = begun }) text out_old out column_new at → 0 < at
+    → new ≡ drop at text → record { column = column_new; word = new } ≡ after_text width (record { column = column; word = begun }) text
+said_some width column column_new begun text out_old out new at done some is =
+    let s : State = record { column = column; word = begun } in
+    ap (λ w. record { column = column_new; word = w }) (is ∙ ap (λ w. w ++ drop at text) (sym (some_at at begun some)))
     ∙ sym (after_all width s text out_old out column_new at done)
 
 -- where nothing was
-pub said_none : (width : ℕ) (column column_new : Option ℕ) (front text out_old out new : List ℕ) (at : ℕ)
-    → PutsWords width (record { column = column; word = front }) text out_old out column_new at → at ≤ 0
-    → new ≡ front ++ drop at text → record { column = column_new; word = new } ≡ after_text width
-    (record { column = column; word = front }) text
-said_none width column column_new front text out_old out new at done none is =
-    let s : State = record { column = column; word = front } in
-    ap (λ w. record { column = column_new; word = w }) (is ∙ ap (λ w. w ++ drop at text) (sym (none_at at front none)))
+pub said_none : (width : ℕ) (column column_new : Option ℕ) (begun text out_old out new : List ℕ) (at : ℕ)
+    → PutsWords width (record { column = column; word = begun }) text out_old out column_new at → at ≤ 0
+    → new ≡ begun ++ drop at text → record { column = column_new; word = new } ≡ after_text width
+    (record { column = column; word = begun }) text
+said_none width column column_new begun text out_old out new at done none is =
+    let s : State = record { column = column; word = begun } in
+    ap (λ w. record { column = column_new; word = w }) (is ∙ ap (λ w. w ++ drop at text) (sym (none_at at begun none)))
     ∙ sym (after_all width s text out_old out column_new at done)

@@ -14,7 +14,7 @@ unfoldable pub ended_part : List ℕ → List ℕ
 ended_part [] = []
 ended_part (byte ∷ text) = if list_any is_separator (byte ∷ text) then byte ∷ ended_part text else []
 
--- the text behind its last separator
+-- the text after its last separator
 abbrev pub open_word : List ℕ → List ℕ
 open_word text = part_after is_separator text
 

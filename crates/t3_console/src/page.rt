@@ -11,9 +11,9 @@ use t3_holder::NoMemory;
 
 /// A page of some width, on which text is said in pieces.
 ///
-/// Contracts see its width, the column that the line has come to, and the word that isn't ended; and of
-/// a text that the page has taken since it was made, at rest or closed, how much is put out already:
-/// all up to the last separator, which is a space, a tab or a newline.
+/// Contracts see its width, the column that the line has come to, and the word that isn't ended. Of
+/// the text that it has taken since it was made, rested or closed, all is put out up to the last
+/// separator, which is a space, a tab or a newline.
 #[derive(Drop)]
 pub struct Page {
     line: Line,
@@ -25,7 +25,11 @@ impl Model for Page {
 
     ghost Value = { PageValue };
 
-    ghost view = { λ p. record { width = p.line.width; column = p.line.column; word = p.word.items } };
+    ghost view = { λ p. record {
+      width = p.line.width;
+      column = p.line.column;
+      word = p.word.items;
+    } };
 }
 
 impl Page {
@@ -70,19 +74,22 @@ impl Page {
     /// Where memory is wanting, page and `out` are as before.
     pub fn rest(&mut self, out: &mut Vec<u8>) -> Result<(), NoMemory>
         ensures ended { IfOk result (λ _. (taken : List ℕ) → HasTaken self.old taken
-            → Ends taken (rendering self.old.width taken) self.old self.new out.old.items out.new.items) }
+            → Ends taken (rendering self.old.width taken)
+            self.old self.new out.old.items out.new.items) }
         ensures page { OnErr result (self.new ≡ self.old) }
         ensures out { OnErr result (out.new.items ≡ out.old.items) }
     {
         self.end(false, out)
     }
 
-    /// Puts out what remains of the text, ends the last line if it isn't empty, and begins a new text.
+    /// Puts out what remains of the text, ends the last line if it isn't empty, and begins a new
+    /// text.
     ///
     /// Where memory is wanting, page and `out` are as before.
     pub fn close(&mut self, out: &mut Vec<u8>) -> Result<(), NoMemory>
         ensures ended { IfOk result (λ _. (taken : List ℕ) → HasTaken self.old taken
-            → Ends taken (closed_rendering self.old.width taken) self.old self.new out.old.items out.new.items) }
+            → Ends taken (closed_rendering self.old.width taken)
+            self.old self.new out.old.items out.new.items) }
         ensures page { OnErr result (self.new ≡ self.old) }
         ensures out { OnErr result (out.new.items ≡ out.old.items) }
     {
@@ -91,11 +98,12 @@ impl Page {
 
     /// Ends the text, and its last line where `is_closed` says so.
     fn end(&mut self, is_closed: bool, out: &mut Vec<u8>) -> Result<(), NoMemory>
-        ensures ended { IfOk result (λ _. EndsLine self.old self.new is_closed out.old.items out.new.items) }
+        ensures ended { IfOk result (λ _.
+            EndsLine self.old self.new is_closed out.old.items out.new.items) }
         ensures page { OnErr result (self.new ≡ self.old) }
         ensures out { OnErr result (out.new.items ≡ out.old.items) }
     {
-        let before = out.len();
+        let start = out.len();
         match put_rest(self.line, &self.word, is_closed, out) {
             Ok(()) => {
                 self.line.column = None;
@@ -103,7 +111,7 @@ impl Page {
                 Ok(())
             }
             Err(refusal) => {
-                out.truncate(before);
+                out.truncate(start);
                 Err(refusal)
             }
         }

@@ -90,7 +90,7 @@ fn ended(text: &[u8]) -> &[u8] {
     }
 }
 
-/// Says a text in pieces of a length, looks at what is put out behind each, and ends it by `rest` or by
+/// Says a text in pieces of a length, looks at what is put out after each, and ends it by `rest` or by
 /// `close`.
 fn says_in_pieces(
     rt: &impl Abort,
@@ -176,6 +176,20 @@ fn shows_what_was_worked_out_by_hand(rt: HostRuntime) -> Result<(), Fail> {
         page.close(&mut out)?;
         assert_eq!(rt; out.as_slice(), lines, "{text:?}");
     }
+    Ok(())
+}
+
+#[test]
+fn says_the_example_of_the_first_page(rt: HostRuntime) -> Result<(), Fail> {
+    let alloc = rt.alloc();
+    let mut page = Page::new(alloc, 10);
+    let mut out = Vec::new(alloc);
+    page.say(b"the quick bro", &mut out)?;
+    assert_eq!(rt; out.as_slice(), b"the quick".as_slice());
+    page.say(b"wn fox", &mut out)?;
+    assert_eq!(rt; out.as_slice(), b"the quick\nbrown".as_slice());
+    page.close(&mut out)?;
+    assert_eq!(rt; out.as_slice(), b"the quick\nbrown fox\n".as_slice());
     Ok(())
 }
 

@@ -2,7 +2,7 @@
 ghost use Rattle.std.specs.Prelude.{◌≡◌, ◌++◌, [], false, if◌then◌else◌, length, IfOk, IfErr, MatchOption, option_to_list};
 ghost use Rattle.std.specs.List.{list_any};
 ghost use Rattle.t3_console.specs.Rendering as spec;
-ghost use Rattle.t3_console.specs.Inner.Stepping.{lead, column_past, put, column_after, separator_text, column_behind, newline_behind, put_text, after_text, IsNextWord, PutsWords};
+ghost use Rattle.t3_console.specs.Inner.Stepping.{lead, column_past, put, column_after, separator_text, column_after_separator, line_ending, put_text, after_text, IsNextWord, PutsWords};
 ghost use Rattle.t3_console.specs.Inner.Appending.{Keeps, Appends};
 
 use t3_holder::NoMemory;
@@ -44,7 +44,7 @@ fn size_of(text: &[u8]) -> usize
     text.iter().filter(|byte| begins_character(**byte)).count()
 }
 
-/// The word at the text's front, or `None` where no separator ends it.
+/// The word at the text's start, or `None` where no separator ends it.
 fn next_word(text: &[u8]) -> Option<Word>
     ensures { MatchOption result
         (list_any spec.is_separator text.now ≡ false)
@@ -89,26 +89,27 @@ fn put_lead(lead: Option<u8>, out: &mut Vec<u8>) -> Result<(), NoMemory>
     Ok(())
 }
 
-/// Puts a word on the line, or on a new one where it doesn't fit. Its front was taken before the rest.
+/// Puts a word on the line, or on a new one where it doesn't fit. `begun` is the part of it that was taken
+/// before.
 fn put_word(
     line: Line,
-    front: &[u8],
+    begun: &[u8],
     rest: &[u8],
     rest_size: usize,
     out: &mut Vec<u8>,
 ) -> Result<Option<usize>, NoMemory>
     requires { rest_size ≡ spec.size_of rest.now }
     ensures put { Appends out.old.items out.new.items
-        (put line.width line.column (front.now ++ rest.now)) result }
+        (put line.width line.column (begun.now ++ rest.now)) result }
     ensures column { IfOk result (λ column.
-        column ≡ column_after line.width line.column (front.now ++ rest.now)) }
+        column ≡ column_after line.width line.column (begun.now ++ rest.now)) }
 {
-    if front.len() + rest.len() == 0 {
+    if begun.len() + rest.len() == 0 {
         return Ok(line.column);
     }
-    let (lead, column) = lead_and_column(line, size_of(front) + rest_size);
+    let (lead, column) = lead_and_column(line, size_of(begun) + rest_size);
     put_lead(lead, out)?;
-    out.extend_from_slice(front)?;
+    out.extend_from_slice(begun)?;
     out.extend_from_slice(rest)?;
     Ok(Some(column))
 }
@@ -116,7 +117,7 @@ fn put_word(
 /// Puts a word that a separator ends, and the newline where it is one.
 fn put_ended_word(
     line: Line,
-    front: &[u8],
+    begun: &[u8],
     rest: &[u8],
     rest_size: usize,
     separator: u8,
@@ -124,11 +125,11 @@ fn put_ended_word(
 ) -> Result<Option<usize>, NoMemory>
     requires { rest_size ≡ spec.size_of rest.now }
     ensures put { Appends out.old.items out.new.items
-        (put line.width line.column (front.now ++ rest.now) ++ separator_text separator) result }
+        (put line.width line.column (begun.now ++ rest.now) ++ separator_text separator) result }
     ensures column { IfOk result (λ column. column
-        ≡ column_behind separator (column_after line.width line.column (front.now ++ rest.now))) }
+        ≡ column_after_separator separator (column_after line.width line.column (begun.now ++ rest.now))) }
 {
-    let column = put_word(line, front, rest, rest_size, out)?;
+    let column = put_word(line, begun, rest, rest_size, out)?;
     if separator == NEWLINE {
         out.push(NEWLINE)?;
         return Ok(None);
@@ -136,35 +137,36 @@ fn put_ended_word(
     Ok(column)
 }
 
-/// Puts the words of a text up to its last separator, the first of which goes on from `front`. Answers
-/// the column, and how many bytes that was.
+/// Puts the words of a text up to its last separator, the first of which goes on from `begun`.
+///
+/// Answers the column, and how many bytes that was.
 fn put_words(
     line: Line,
-    front: &[u8],
+    begun: &[u8],
     text: &[u8],
     out: &mut Vec<u8>,
 ) -> Result<(Option<usize>, usize), NoMemory>
     ensures put { IfOk result (λ done. PutsWords line.width
-        (record { column = line.column; word = front.now })
+        (record { column = line.column; word = begun.now })
         text.now out.old.items out.new.items done.0 done.1) }
     ensures kept { IfErr result (λ _. Keeps out.old.items out.new.items) }
 {
     let width = line.width;
     let mut column = line.column;
-    let mut front = front;
+    let mut begun = begun;
     let mut at = 0;
     while let Some(word) = next_word(&text[at..]) {
         let end = at + word.length;
         let line = Line { width, column };
-        column = put_ended_word(line, front, &text[at..end], word.size, text[end], out)?;
-        front = &[];
+        column = put_ended_word(line, begun, &text[at..end], word.size, text[end], out)?;
+        begun = &[];
         at = end + 1;
     }
     Ok((column, at))
 }
 
-/// Says a text after a word that isn't ended: the words that it ends are put out, and `word` is then the
-/// one that isn't. Answers the column.
+/// Says a text after a word that isn't ended: the words that it ends are put out, and `word` is then
+/// the one that isn't. Answers the column.
 pub(crate) fn say_words(
     line: Line,
     word: &mut Vec<u8>,
@@ -172,16 +174,18 @@ pub(crate) fn say_words(
     out: &mut Vec<u8>,
 ) -> Result<Option<usize>, NoMemory>
     ensures put { Appends out.old.items out.new.items
-        (put_text line.width (record { column = line.column; word = word.old.items }) text.now) result }
+        (put_text line.width (record { column = line.column; word = word.old.items }) text.now)
+        result }
     ensures after { IfOk result (λ column. record { column = column; word = word.new.items }
-        ≡ after_text line.width (record { column = line.column; word = word.old.items }) text.now) }
+        ≡ after_text line.width (record { column = line.column; word = word.old.items })
+        text.now) }
     ensures kept { IfErr result (λ _. word.new.items ≡ word.old.items) }
 {
-    let front = word.len();
+    let taken = word.len();
     let (column, at) = put_words(line, word, text, out)?;
     word.extend_from_slice(&text[at..])?;
     if at > 0 {
-        word.rotate_left(front);
+        word.rotate_left(taken);
         word.truncate(text.len() - at);
     }
     Ok(column)
@@ -196,7 +200,8 @@ pub(crate) fn put_rest(
     out: &mut Vec<u8>,
 ) -> Result<(), NoMemory>
     ensures { Appends out.old.items out.new.items (put line.width line.column word.now
-        ++ (if is_closed then newline_behind (column_after line.width line.column word.now) else [])) result }
+        ++ (if is_closed then line_ending (column_after line.width line.column word.now) else []))
+        result }
 {
     let column = put_word(line, word, &[], 0, out)?;
     if is_closed && column.is_some() {

@@ -75,39 +75,39 @@ heads_in at depth (n ∷ supers) all = (
 )
 
 abbrev EndIsClosed : SupersAt → ℕ → ℕ → Type 0
-EndIsClosed at depth n = (front end : List ℕ) → preorder at depth n ≡ front ++ end → IsClosed at end
+EndIsClosed at depth n = (prefix end : List ℕ) → preorder at depth n ≡ prefix ++ end → IsClosed at end
 
 closed_list : (at : SupersAt) (depth : ℕ) → ((n : ℕ) → EndsWithin at depth n → EndIsClosed at depth n) → (supers : List ℕ)
     → AllByRecursion (EndsWithin at depth) supers
-    → (front end : List ℕ) → flat_map (preorder at depth) supers ≡ front ++ end → IsClosed at end
+    → (prefix end : List ℕ) → flat_map (preorder at depth) supers ≡ prefix ++ end → IsClosed at end
 closed_list at depth here [] all [] end is = rw (← is) (closed_nil at)
-closed_list at depth here [] all (x ∷ front) end is = absurd cc
-closed_list at depth here (n ∷ supers) all front end is =
-    elim (cut (preorder at depth n) (flat_map (preorder at depth) supers) front end is) [
+closed_list at depth here [] all (x ∷ prefix) end is = absurd cc
+closed_list at depth here (n ∷ supers) all prefix end is =
+    elim (cut (preorder at depth n) (flat_map (preorder at depth) supers) prefix end is) [
       | within mid is_first is_end ↦ rw is_end (closed_append at mid (flat_map (preorder at depth) supers)
-          (here n all.0 front mid is_first) (closed_list at depth here supers all.1 [] (flat_map (preorder at depth) supers) refl))
+          (here n all.0 prefix mid is_first) (closed_list at depth here supers all.1 [] (flat_map (preorder at depth) supers) refl))
       | past mid is_front is_rest ↦ closed_list at depth here supers all.1 mid end is_rest
     ]
 
 closed_from : (at : SupersAt) (depth n : ℕ) → ((m : ℕ) → EndsWithin at depth m → EndIsClosed at depth m) → (o : Option (List ℕ)) → at n ≡ o
     → ((supers : List ℕ) → o ≡ Some supers → AllByRecursion (EndsWithin at depth) supers)
-    → (front end : List ℕ) → list_from (preorder at depth) n o ≡ front ++ end → IsClosed at end
+    → (prefix end : List ℕ) → list_from (preorder at depth) n o ≡ prefix ++ end → IsClosed at end
 closed_from at depth n here None are all [] end is = rw (← is) (closed_nil at)
-closed_from at depth n here None are all (x ∷ front) end is = absurd cc
+closed_from at depth n here None are all (x ∷ prefix) end is = absurd cc
 closed_from at depth n here (Some supers) are all [] end is =
     rw (← is) (closed_cons at n (flat_map (preorder at depth) supers) supers are (heads_in at depth supers (all supers refl))
     (closed_list at depth here supers (all supers refl) [] (flat_map (preorder at depth) supers) refl))
-closed_from at depth n here (Some supers) are all (x ∷ front) end is =
-    let tails : flat_map (preorder at depth) supers ≡ front ++ end = cc in closed_list at depth here supers
-    (all supers refl) front end tails
+closed_from at depth n here (Some supers) are all (x ∷ prefix) end is =
+    let tails : flat_map (preorder at depth) supers ≡ prefix ++ end = cc in closed_list at depth here supers
+    (all supers refl) prefix end tails
 
 -- each end of the preorder list of a number is closed
 pub end_is_closed : (at : SupersAt) (depth n : ℕ) → EndsWithin at depth n → EndIsClosed at depth n
 unfolding preorder
 end_is_closed at zero n ends [] end is = rw (← is) (closed_nil at)
-end_is_closed at zero n ends (x ∷ front) end is = absurd cc
-end_is_closed at (suc depth) n ends front end is =
-    closed_from at depth n (end_is_closed at depth) (at n) refl ends front end is
+end_is_closed at zero n ends (x ∷ prefix) end is = absurd cc
+end_is_closed at (suc depth) n ends prefix end is =
+    closed_from at depth n (end_is_closed at depth) (at n) refl ends prefix end is
 
 -- ---- what a closed list has
 

@@ -114,7 +114,7 @@ abbrev pub IsGood : SupersAt → ℕ → Task → Type 0
 IsGood at depth (Enter n) = EndsWithin at depth n
 IsGood at depth (Leave n) = Unit {0}
 
--- a walk: the tasks stand for the front of the preorder list, and of its end each number is in the order already
+-- a walk: the tasks stand for the prefix of the preorder list, and of its end each number is in the order already
 pub record IsWalking (at : SupersAt) (depth root : ℕ) (tasks : List Task) (order seen : List ℕ) : Type 0 where
   pub end : List ℕ
   pub ends : EndsWithin at depth root

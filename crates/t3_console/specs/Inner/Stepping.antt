@@ -34,13 +34,13 @@ column_after width column (byte ∷ word) = Some (column_past width column (size
 abbrev pub separator_text : ℕ → List ℕ
 separator_text byte = if is_newline byte then 10 ∷ [] else []
 
-abbrev pub column_behind : ℕ → Option ℕ → Option ℕ
-column_behind byte column = if is_newline byte then None else column
+abbrev pub column_after_separator : ℕ → Option ℕ → Option ℕ
+column_after_separator byte column = if is_newline byte then None else column
 
 -- a newline, where there is anything on the line
-abbrev pub newline_behind : Option ℕ → List ℕ
-newline_behind None = []
-newline_behind (Some column) = 10 ∷ []
+abbrev pub line_ending : Option ℕ → List ℕ
+line_ending None = []
+line_ending (Some column) = 10 ∷ []
 
 unfoldable pub put_byte : ℕ → State → ℕ → List ℕ
 put_byte width s byte = if is_separator byte then put width s.column s.word ++ separator_text byte else []
@@ -48,7 +48,7 @@ put_byte width s byte = if is_separator byte then put width s.column s.word ++ s
 unfoldable pub after_byte : ℕ → State → ℕ → State
 after_byte width s byte =
     if is_separator byte
-    then record { column = column_behind byte (column_after width s.column s.word); word = [] }
+    then record { column = column_after_separator byte (column_after width s.column s.word); word = [] }
     else record { column = s.column; word = s.word ++ byte ∷ [] }
 
 abbrev pub put_text : ℕ → State → List ℕ → List ℕ

@@ -23,7 +23,7 @@ returns-then-at-gt0-clause-after c =
     (turned c.args.word.now.items _ c.extend_from_slice.new.self.items c.rotate_left.new.self.items _ _
     (c.in_ok-extend_from_slice.ensures.items ∙ ap (λ (t : List ℕ). c.args.word.now.items ++ t) (tail_is c.in_ok-column.at c.args.text.now))
     (subst (λ (n : ℕ). c.rotate_left.new.self.items ≡ drop n c.extend_from_slice.new.self.items ++ take n
-    c.extend_from_slice.new.self.items) (c.len-front.ensures ∙ c.args.word.now.ok.0) c.rotate_left.ensures.items)
+    c.extend_from_slice.new.self.items) (c.len-taken.ensures ∙ c.args.word.now.ok.0) c.rotate_left.ensures.items)
     (sym (length-drop c.in_ok-column.at c.args.text.now))
     c.truncate.ensures.items)
 
