@@ -4,8 +4,8 @@ use Rattle.std.specs.Prelude.{IsSome, Contains}
 use Rattle.std.specs.List.{AllByRecursion, flat_map, list_any}
 use Rattle.std.proofs.lemmas.List.{append-nil, length-append}
 use Rattle.t3_tadsobj.specs.Order.{SupersAt, list_from, preorder, last_places, IsPreorder, IsLinearOrder, IsAcyclicFrom, IsChain}
-use Rattle.t3_tadsobj.proofs.OrderMembers.{Has, Has-cases, Has-either, Has-from_contains, last_places-new}
-use Rattle.t3_tadsobj.proofs.OrderDepth.{EndsWithin, ends, ends_later, preorder-deeper, is_preorder, preorder-missing}
+use Rattle.t3_tadsobj.proofs.OrderMembers.{Has, Has-cases, Has-either, Has-from_contains, weaker, last_places-new}
+use Rattle.t3_tadsobj.proofs.OrderDepth.{EndsWithin, ends, ends_later, preorder-deeper, is_preorder, preorder-missing, superclasses_end, preorder-live}
 
 -- ---- there is one order
 
@@ -86,6 +86,22 @@ preorder_ends at n list whole =
     ends_where at whole.depth n
     (ap length (ap (λ depth. preorder at depth n) (sym (add-suc whole.depth zero ∙ ap suc (add-zero whole.depth)))
     ∙ whole.is (suc zero) ∙ sym (whole.is zero) ∙ ap (λ depth. preorder at depth n) (add-zero whole.depth)))
+
+-- the lists of the superclasses of a live number
+pub preorder_live : (at : SupersAt) (n : ℕ) (list supers : List ℕ) → IsPreorder at n list → at n ≡ Some supers
+    → (lists : ℕ → List ℕ) × AllByRecursion (λ above. IsPreorder at above (lists above)) supers × (list ≡ n ∷ flat_map lists supers)
+preorder_live at n list supers whole is =
+    let depth = whole.depth in
+    let all : EndsWithin at depth n = preorder_ends at n list whole in
+    let here : preorder at depth n ≡ list = ap (λ d. preorder at d n) (sym (add-zero depth)) ∙ whole.is zero in (
+      preorder at depth,
+      weaker (EndsWithin at depth) (λ above. IsPreorder at above (preorder at depth above)) (λ above ends. is_preorder at depth above ends)
+          supers (superclasses_end at depth n supers all is),
+      sym here ∙ preorder-live at depth n supers all is,
+    )
+
+pub preorder_none : (at : SupersAt) (n : ℕ) (list : List ℕ) → IsPreorder at n list → at n ≡ None → list ≡ []
+preorder_none at n list whole is = sym (whole.is zero) ∙ preorder-missing at (whole.depth + zero) n is
 
 -- ---- what a list has ends within it
 

@@ -86,7 +86,7 @@ closed_list at depth here (n ∷ supers) all prefix end is =
     elim (cut (preorder at depth n) (flat_map (preorder at depth) supers) prefix end is) [
       | within mid is_first is_end ↦ rw is_end (closed_append at mid (flat_map (preorder at depth) supers)
           (here n all.0 prefix mid is_first) (closed_list at depth here supers all.1 [] (flat_map (preorder at depth) supers) refl))
-      | past mid is_front is_rest ↦ closed_list at depth here supers all.1 mid end is_rest
+      | past mid is_prefix is_rest ↦ closed_list at depth here supers all.1 mid end is_rest
     ]
 
 closed_from : (at : SupersAt) (depth n : ℕ) → ((m : ℕ) → EndsWithin at depth m → EndIsClosed at depth m) → (o : Option (List ℕ)) → at n ≡ o

@@ -9,4 +9,4 @@ mod order;
 #[cfg(test)]
 mod order_tests;
 
-pub use order::{Supers, linear_order, one_order, order_along_chain};
+pub use order::{Supers, linear_order, one_order, order_along_chain, preorder_list};

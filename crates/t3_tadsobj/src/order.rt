@@ -1,6 +1,7 @@
 //! The order in which an object's superclasses are searched.
 ghost use Rattle.std.specs.Prelude.{◌≡◌, ℕ, List, [], ◌∷◌, ◌++◌, Option, Some, None, IfOk, IsSome, Contains, option_map};
-ghost use Rattle.t3_tadsobj.specs.Order.{SupersAt, IsAcyclicFrom, IsLinearOrder, IsChain};
+ghost use Rattle.std.specs.List.{flat_map, AllByRecursion};
+ghost use Rattle.t3_tadsobj.specs.Order.{SupersAt, IsPreorder, IsAcyclicFrom, IsLinearOrder, IsChain};
 ghost use Rattle.t3_tadsobj.specs.Inner.Visits.{entered};
 
 use std::alloc::Global;
@@ -83,6 +84,15 @@ fn enter<S: Supers>(view: &S, number: u32, tasks: &mut Vec<Task>) -> Result<(), 
     }
     Ok(())
 }
+
+/// The preorder list of a live tads-object is it and then the preorder lists of its superclasses from left
+/// to right, and that of anything else is empty.
+pub fn preorder_list()
+    ensures live { (at : SupersAt) (n : ℕ) (list supers : List ℕ) → IsPreorder at n list → at n ≡ Some supers
+        → (lists : ℕ → List ℕ) × AllByRecursion (λ above. IsPreorder at above (lists above)) supers
+        × (list ≡ n ∷ flat_map lists supers) }
+    ensures missing { (at : SupersAt) (n : ℕ) (list : List ℕ) → IsPreorder at n list → at n ≡ None → list ≡ [] }
+{}
 
 /// Where no walk comes back, a number has an order, and only one.
 pub fn one_order()
