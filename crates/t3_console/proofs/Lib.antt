@@ -3,3 +3,4 @@ pub mod Stepping
 pub mod Rendering
 pub mod Lines
 pub mod Pages
+pub mod Shown
