@@ -1,0 +1,6 @@
+pub mod Appending
+pub mod Stepping
+pub mod Rendering
+pub mod Lines
+pub mod Pages
+pub mod Shown

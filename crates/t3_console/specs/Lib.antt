@@ -1,0 +1,3 @@
+pub mod Rendering
+pub mod Page
+pub mod Inner

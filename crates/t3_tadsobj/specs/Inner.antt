@@ -1,0 +1,4 @@
+-- What only private functions cite.
+pub mod Visits
+pub mod Rising
+pub mod RisingLaw
