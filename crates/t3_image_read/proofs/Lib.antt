@@ -5,6 +5,7 @@ pub mod Firsts
 pub mod Fronts
 pub mod HeadFaults
 pub mod Headers
+pub mod Joined
 pub mod Heads
 pub mod Lists
 pub mod Push

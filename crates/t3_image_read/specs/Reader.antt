@@ -1,5 +1,5 @@
 -- What a reader answers, by the bytes that it has taken so far.
-use Rattle.std.specs.Prelude.{◌≡◌, ◌≢◌, ℕ, ◌≤◌, List, ◌++◌, length, take, Result, Ok, Err}
+use Rattle.std.specs.Prelude.{◌≡◌, ◌≢◌, ℕ, ◌+◌, ◌≤◌, List, ◌++◌, length, take, Result, Ok, Err}
 use Rattle.t3_image_read.specs.declared.reader.Fed.{Fed}
 use Rattle.t3_image_read.specs.declared.reader.Fed.TheVariants.{More, Done}
 use Rattle.t3_image_read.specs.declared.refusal.ReadRefusal.{ReadRefusal}
@@ -41,6 +41,12 @@ abbrev pub Feeds : Reading → List ℕ → Result Fed ReadRefusal → Reading �
 Feeds (Taking before) piece answer after = TakesPiece before piece answer after
 Feeds (Ended image) piece answer after = (answer ≡ Ok (Done 0)) × (after ≡ Ended image)
 Feeds (Failed refusal) piece answer after = (answer ≡ Err refusal) × (after ≡ Failed refusal)
+
+-- what two pieces in a row answer as one, of which the first has so many bytes: the bytes that the image used of both are counted
+abbrev pub joined_answer : ℕ → Result Fed ReadRefusal → Result Fed ReadRefusal → Result Fed ReadRefusal
+joined_answer long (Ok More) (Ok (Done used)) = Ok (Done (long + used))
+joined_answer long (Ok More) second = second
+joined_answer long first second = first
 
 -- the image, or the refusal of the stream that ends here
 abbrev pub Finishes : Reading → Result ImageValue ReadRefusal → Type 0

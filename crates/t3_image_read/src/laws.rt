@@ -1,8 +1,11 @@
-ghost use Rattle.std.specs.Prelude.{◌≡◌, ℕ, ◌⊎◌, List, [], ◌++◌};
+ghost use Rattle.std.specs.Prelude.{◌≡◌, ℕ, ◌⊎◌, List, [], ◌++◌, length, Result};
 ghost use Rattle.t3_holder.specs.NumberText.{AreBytes};
 ghost use Rattle.t3_image_read.specs.ImageText.{ImageValue, text};
 ghost use Rattle.t3_image_read.specs.Validity.{IsValid};
 ghost use Rattle.t3_image_read.specs.Refusal.{Refused, IsRefused, BeginsWithImage};
+ghost use Rattle.t3_image_read.specs.Reader.{Reading, Feeds, joined_answer};
+ghost use Rattle.t3_image_read.specs.declared.reader.Fed.{Fed as AnyFed};
+ghost use Rattle.t3_image_read.specs.declared.refusal.ReadRefusal.{ReadRefusal as AnyRefusal};
 ghost use Rattle.t3_image_read.specs.declared.refusal.ReadWhy.{ReadWhy as Why};
 
 /// Each stream of bytes begins with exactly one valid image's text, or is refused at exactly one place
@@ -15,4 +18,12 @@ pub fn one_reading()
 
     // So no valid image's text is a proper prefix of another's.
     ensures no_prefix { (a b : ImageValue) (behind : List ℕ) → IsValid a → IsValid b → text b ≡ text a ++ behind → behind ≡ [] }
+{}
+
+/// The cutting into pieces changes nothing: what two pieces in a row are taken to, they are taken to as
+/// one piece.
+pub fn pieces_joined()
+    ensures { (before between after : Reading) (p q : List ℕ) (a b : Result AnyFed AnyRefusal)
+        → Feeds before p a between → Feeds between q b after
+        → Feeds before (p ++ q) (joined_answer (length p) a b) after }
 {}

@@ -15,6 +15,6 @@ mod tests;
 
 pub use header::{HEAD_SIZE, HEADER_SIZE, SIGNATURE, VERSION};
 pub use image::{Head, Image, Placed, PlacedBlock};
-pub use laws::one_reading;
+pub use laws::{one_reading, pieces_joined};
 pub use reader::{Fed, ImageReader};
 pub use refusal::{ReadRefusal, ReadWhy};
