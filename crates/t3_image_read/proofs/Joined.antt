@@ -37,7 +37,8 @@ takes_second before p q (Ok More) after took =
 takes_second before p q (Ok (Done used)) after took = (took.0, took.1, ends_second before p q used took.0 took.2)
 takes_second before p q (Err refusal) after took = (took.0, subst (λ s. RefusesBy s refusal) (append_assoc before p q) took.1)
 
-takes_both : (before p q : List ℕ) (a b : Result Fed ReadRefusal) (between after : Reading) → TakesPiece before p a between → Feeds between q b after
+takes_both : (before p q : List ℕ) (a b : Result Fed ReadRefusal) (between after : Reading) → TakesPiece before p a between
+    → Feeds between q b after
     → TakesPiece before (p ++ q) (joined_answer (length p) a b) after
 takes_both before p q (Ok More) b between after first second =
     takes_second before p q b after (subst (λ r. Feeds r q b after) first.0 second)
@@ -48,7 +49,8 @@ takes_both before p q (Err refusal) b between after first second =
     let failed = subst (λ r. Feeds r q b after) first.0 second in
     (failed.1, subst (λ s. RefusesBy s refusal) (append_assoc before p q) (RefusesBy-append (before ++ p) q refusal first.1))
 
-pub joined : (before between after : Reading) (p q : List ℕ) (a b : Result Fed ReadRefusal) → Feeds before p a between → Feeds between q b after
+pub joined : (before between after : Reading) (p q : List ℕ) (a b : Result Fed ReadRefusal) → Feeds before p a between
+    → Feeds between q b after
     → Feeds before (p ++ q) (joined_answer (length p) a b) after
 joined (Taking stream) between after p q a b first second = takes_both stream p q a b between after first second
 joined (Ended image) between after p q a b first second =

@@ -2,7 +2,7 @@ pub mod Blocks
 pub mod Existence
 pub mod Feeding
 pub mod Firsts
-pub mod Fronts
+pub mod Prefixes
 pub mod HeadFaults
 pub mod Headers
 pub mod Joined

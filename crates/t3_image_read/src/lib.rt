@@ -2,6 +2,14 @@
 //!
 //! An [`ImageReader`] is fed until it is done or refuses. The image, and the rule that is broken with its
 //! place, depend on the stream alone, and not on how it was cut.
+//!
+//! ```
+//! let mut reader = ImageReader::new(alloc);
+//! assert_eq!(reader.feed(&bytes[..70])?, Fed::More);
+//! assert_eq!(reader.feed(&bytes[70..])?, Fed::Done { used: 22 });
+//! let image = reader.finish()?;
+//! assert_eq!(image.blocks.0.len(), 1);
+//! ```
 #![tactic(auto)]
 
 mod header;
