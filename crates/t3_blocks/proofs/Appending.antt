@@ -1,13 +1,8 @@
 -- Texts that are appended one after the other. Other crates may use what stands here.
-use Rattle.std.proofs.Common.{◌≡◌, ℕ, zero, suc, ◌+◌, ◌*◌, ◌<◌, List, [], ◌∷◌, ◌++◌, length, get_or, Result, Ok, Err, sym, ap, subst, ◌∙◌, append_assoc, arith}
+use Rattle.std.proofs.Common.{◌≡◌, ℕ, zero, suc, ◌+◌, ◌<◌, List, [], ◌∷◌, ◌++◌, length, get_or, Result, Ok, Err, sym, ap, subst, ◌∙◌, append_assoc, arith}
 use Rattle.std.specs.Prelude.{IsErr}
-use Rattle.std.specs.List.{flat_map, AllByRecursion}
-use Rattle.std.proofs.lemmas.List.{append-nil, length-append}
-use Rattle.t3_holder.specs.NumberText.{little_endian}
-use Rattle.t3_holder.proofs.Numbers.{length-little_endian}
-use Rattle.t3_blocks.specs.declared.items.Meta.{Meta}
-use Rattle.t3_blocks.specs.declared.items.PropEntry.{PropEntry}
-use Rattle.t3_blocks.specs.Spelling.{prop_text, IsProp, meta_body}
+use Rattle.std.specs.List.{AllByRecursion}
+use Rattle.std.proofs.lemmas.List.{append-nil}
 use Rattle.t3_blocks.specs.Inner.Appending.{Keeps, Appends}
 
 pub keeps_all : (old : List ℕ) → Keeps old old

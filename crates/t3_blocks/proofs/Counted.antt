@@ -1,15 +1,13 @@
 -- Counted payloads: the head, and the list after it that is whole or breaks.
-use Rattle.std.proofs.Common.{◌≡◌, ◌≢◌, ℕ, ◌^◌, ◌<◌, List, [], ◌++◌, length, take, drop, refl, sym, ap, subst, ◌∙◌, Err, inl, inr}
+use Rattle.std.proofs.Common.{◌≡◌, ℕ, ◌^◌, ◌<◌, List, ◌++◌, take, drop, refl, sym, ap, subst, ◌∙◌, Err, inl, inr}
 use Rattle.std.specs.Prelude.{codes}
-use Rattle.std.specs.List.{flat_map, AllByRecursion}
-use Rattle.std.proofs.lemmas.List.{take-append-drop}
 use Rattle.t3_holder.specs.NumberText.{little_endian}
 use Rattle.t3_blocks.specs.declared.block.Block.TheVariants.{Functions, Metas, Objects, Symbols}
 use Rattle.t3_blocks.specs.declared.items.Meta.{Meta}
 use Rattle.t3_blocks.specs.declared.items.Static.{Static}
 use Rattle.t3_blocks.specs.declared.items.Symbol.{Symbol}
 use Rattle.t3_blocks.specs.Spelling.{Spells, payload_of, name_text, IsName, meta_text, IsMeta, size_width, static_text, IsStatic, symbol_text, IsSymbol, objects_head}
-use Rattle.t3_blocks.specs.Malformed.{BeginsWithItem, BreaksList, BreaksCounted, BreaksObjects}
+use Rattle.t3_blocks.specs.Malformed.{BreaksList, BreaksCounted, BreaksObjects}
 use Rattle.t3_blocks.specs.declared.refusal.PayloadRefusal.{PayloadRefusal}
 use Rattle.t3_blocks.specs.declared.refusal.PayloadRefusal.TheVariants.{Malformed, NoMemory}
 use Rattle.t3_blocks.specs.Parsing.{Gives}

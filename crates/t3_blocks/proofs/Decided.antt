@@ -1,9 +1,7 @@
 -- Every payload of bytes spells a block under its name, or is malformed. Other crates may use what stands here.
 use Rattle.std.proofs.Common.{◌≡◌, ◌≢◌, ℕ, zero, suc, ◌<◌, false, List, [], ◌∷◌, length, drop, get_or, refl, sym, subst, ◌⊎◌, inl, inr, arith}
 use Rattle.std.specs.Prelude.{codes}
-use Rattle.std.specs.Str.{bytes_eq}
-use Rattle.std.proofs.lemmas.Bool.{cases_lt, cases_eq, cases_Bool}
-use Rattle.std.proofs.lemmas.Slice.Eq.{bytes_eq-Decides}
+use Rattle.std.proofs.lemmas.Bool.{cases_lt, cases_eq}
 use Rattle.t3_holder.specs.NumberText.{AreBytes}
 use Rattle.t3_blocks.specs.BlockName.{end_name, layout_names, is_among}
 use Rattle.t3_blocks.specs.declared.block.Block.{Block}

@@ -1,10 +1,9 @@
 -- What a payload gives under a name, in both directions.
-use Rattle.std.proofs.Common.{◌≡◌, ◌≢◌, ℕ, Bool, true, false, List, length, Result, Ok, Err, refl, sym, ap, ◌⊎◌, inl, inr, rules}
+use Rattle.std.proofs.Common.{◌≡◌, ℕ, Bool, true, false, List, length, Result, Ok, Err, refl, ap, ◌⊎◌, inl, inr, rules}
 use Rattle.std.specs.Prelude.{IsTrue, IfOk}
 use Rattle.t3_blocks.specs.BlockName.{IsPlain, is_known, is_unknown_mandatory}
 use Rattle.t3_blocks.specs.declared.block.Block.{Block}
 use Rattle.t3_blocks.specs.declared.block.Block.TheVariants.{Opaque}
-use Rattle.t3_blocks.specs.declared.refusal.BlockRefusal.{BlockRefusal}
 use Rattle.t3_blocks.specs.declared.refusal.BlockRefusal.TheVariants as blocks
 use Rattle.t3_blocks.specs.declared.refusal.PayloadRefusal.{PayloadRefusal}
 use Rattle.t3_blocks.specs.declared.refusal.PayloadRefusal.TheVariants.{Malformed, NoMemory}

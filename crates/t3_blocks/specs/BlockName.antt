@@ -12,8 +12,9 @@ end_name = codes "EOF "
 
 -- the names of the blocks whose payload's layout is read here
 abbrev pub layout_names : List (List ℕ)
-layout_names = codes "ENTP" ∷ codes "OBJS" ∷ codes "CPDF" ∷ codes "CPPG" ∷ codes "MCLD" ∷ codes
-    "FNSD" ∷ codes "SYMD" ∷ []
+layout_names =
+    codes "ENTP" ∷ codes "OBJS" ∷ codes "CPDF" ∷ codes "CPPG" ∷ codes "MCLD" ∷ codes "FNSD"
+    ∷ codes "SYMD" ∷ []
 
 -- the names of the blocks that are kept and passed on unread: symbols, macros, method headers, sources, static initializers and resources
 abbrev pub kept_names : List (List ℕ)

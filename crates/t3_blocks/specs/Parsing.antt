@@ -19,6 +19,7 @@ abbrev pub refusal_of : PayloadRefusal → BlockRefusal
 refusal_of (Malformed items) = blocks.Malformed items
 refusal_of NoMemory = blocks.NoMemory
 
+-- the same answer of such a call
 abbrev pub answer_of : Result Block PayloadRefusal → Result Block BlockRefusal
 answer_of (Ok block) = Ok block
 answer_of (Err refusal) = Err (refusal_of refusal)

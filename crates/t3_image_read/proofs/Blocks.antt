@@ -11,7 +11,7 @@ use Rattle.t3_blocks.proofs.Laws.{same_block, not_both, not_end, end_not_malform
 use Rattle.t3_image_read.specs.declared.header.BlockHeader.{BlockHeader}
 use Rattle.t3_image_read.specs.declared.image.PlacedBlock.{PlacedBlock}
 use Rattle.t3_image_read.specs.declared.refusal.ReadWhy.{ReadWhy}
-use Rattle.t3_image_read.specs.declared.refusal.ReadWhy.TheVariants.{Signature, Version, TooLong, TooMany, UnknownMandatory, Malformed, EofSize, Truncated}
+use Rattle.t3_image_read.specs.declared.refusal.ReadWhy.TheVariants.{TooLong, TooMany, UnknownMandatory, Malformed, EofSize, Truncated}
 use Rattle.t3_image_read.specs.ImageText.{header_text, header_of, block_text, end_header}
 use Rattle.t3_image_read.specs.Validity.{IsHeader, IsGood, header_limit}
 use Rattle.t3_image_read.specs.Refusal.{StartsWith, IsLoadedEnd, EndsTooLate, BlockBreaks}

@@ -1,6 +1,5 @@
 -- What a reader answers, from what its fields took.
-use Rattle.std.proofs.Common.{◌≡◌, ◌≢◌, ℕ, ◌+◌, ◌-◌, List, [], ◌++◌, length, take, drop, Option, Some, None, Result, Ok, Err, refl, sym, ap, subst, ◌∙◌, ◌⊎◌, inl, inr, append_assoc, arith}
-use Rattle.std.specs.Prelude.{IfOk, IfErr}
+use Rattle.std.proofs.Common.{◌≡◌, ◌≢◌, ℕ, ◌+◌, ◌-◌, List, [], ◌++◌, length, take, drop, Option, None, Result, Ok, Err, refl, sym, ap, subst, ◌∙◌, ◌⊎◌, inl, inr, append_assoc, arith}
 use Rattle.std.proofs.lemmas.List.{append-nil, take-append-drop, length-append, length-take-le, take_rest}
 use Rattle.t3_image_read.specs.declared.reader.Fed.{Fed}
 use Rattle.t3_image_read.specs.declared.reader.Fed.TheVariants.{More, Done}
@@ -11,8 +10,8 @@ use Rattle.t3_image_read.specs.declared.refusal.ReadWhy.TheVariants.{Truncated}
 use Rattle.t3_image_read.specs.declared.taker.Taker.{Taker}
 use Rattle.t3_image_read.specs.ImageText.{ImageValue, text}
 use Rattle.t3_image_read.specs.Refusal.{Refused}
-use Rattle.t3_image_read.specs.Reader.{Reading, Taking, Ended, Failed, RefusesBy, EndsIn, TakesPiece, Feeds}
-use Rattle.t3_image_read.specs.Inner.Steps.{stream_of, image_of, RunsTo, TakesRun, TakesAll}
+use Rattle.t3_image_read.specs.Reader.{Reading, Taking, RefusesBy, EndsIn, TakesPiece, Feeds}
+use Rattle.t3_image_read.specs.Inner.Steps.{stream_of, RunsTo, TakesRun, TakesAll}
 use Rattle.t3_image_read.proofs.Lists.{take_add}
 use Rattle.t3_image_read.proofs.Steps.{is_cut}
 use Rattle.t3_image_read.proofs.Uniqueness.{one_image, one_refusal, not_both}

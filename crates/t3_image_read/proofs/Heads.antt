@@ -5,7 +5,7 @@ use Rattle.t3_holder.specs.NumberText.{little_endian}
 use Rattle.t3_holder.proofs.Numbers.{length-little_endian}
 use Rattle.t3_image_read.specs.declared.image.Head.{Head}
 use Rattle.t3_image_read.specs.declared.refusal.ReadWhy.{ReadWhy}
-use Rattle.t3_image_read.specs.declared.refusal.ReadWhy.TheVariants.{Signature, Version, TooLong, TooMany, UnknownMandatory, Malformed, EofSize, Truncated}
+use Rattle.t3_image_read.specs.declared.refusal.ReadWhy.TheVariants.{Signature, Version, Truncated}
 use Rattle.t3_image_read.specs.ImageText.{signature, version, head_text}
 use Rattle.t3_image_read.specs.Validity.{IsHead}
 use Rattle.t3_image_read.specs.Refusal.{HeadBreaks}

@@ -1,10 +1,10 @@
 -- Two pieces in a row are taken as one.
-use Rattle.std.proofs.Common.{◌≡◌, ℕ, ◌+◌, ◌≤◌, List, ◌++◌, length, take, drop, Result, Ok, Err, refl, sym, ap, subst, ◌∙◌, append_assoc, arith}
+use Rattle.std.proofs.Common.{◌≡◌, ℕ, ◌+◌, List, ◌++◌, length, take, Result, Ok, Err, refl, sym, ap, subst, ◌∙◌, append_assoc, arith}
 use Rattle.std.proofs.lemmas.List.{length-append, take-append-le, take_at, drop_at}
 use Rattle.t3_image_read.specs.declared.reader.Fed.{Fed}
 use Rattle.t3_image_read.specs.declared.reader.Fed.TheVariants.{More, Done}
 use Rattle.t3_image_read.specs.declared.refusal.ReadRefusal.{ReadRefusal}
-use Rattle.t3_image_read.specs.ImageText.{ImageValue, text}
+use Rattle.t3_image_read.specs.ImageText.{ImageValue}
 use Rattle.t3_image_read.specs.Reader.{Reading, Taking, Ended, Failed, RefusesBy, IsCutSoFar, EndsIn, TakesPiece, Feeds, joined_answer}
 use Rattle.t3_image_read.proofs.Lists.{take_add}
 use Rattle.t3_image_read.proofs.Steps.{RefusesBy-append}

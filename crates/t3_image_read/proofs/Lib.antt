@@ -2,6 +2,7 @@ pub mod Blocks
 pub mod Existence
 pub mod Feeding
 pub mod Firsts
+pub mod Places
 pub mod Prefixes
 pub mod HeadFaults
 pub mod Headers

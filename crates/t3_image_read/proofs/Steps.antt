@@ -16,7 +16,7 @@ use Rattle.t3_image_read.specs.declared.image.PlacedBlock.{PlacedBlock}
 use Rattle.t3_image_read.specs.declared.refusal.ReadRefusal.{ReadRefusal}
 use Rattle.t3_image_read.specs.declared.refusal.ReadRefusal.TheVariants.{At, NoMemory}
 use Rattle.t3_image_read.specs.declared.refusal.ReadWhy.{ReadWhy}
-use Rattle.t3_image_read.specs.declared.refusal.ReadWhy.TheVariants.{Signature, Version, TooLong, TooMany, UnknownMandatory, Malformed, EofSize, Truncated}
+use Rattle.t3_image_read.specs.declared.refusal.ReadWhy.TheVariants.{TooLong, TooMany, UnknownMandatory, Malformed, EofSize, Truncated}
 use Rattle.t3_image_read.specs.declared.taker.Part.{Part}
 use Rattle.t3_image_read.specs.declared.taker.Part.TheVariants.{InHead, InHeader, InPayload}
 use Rattle.t3_image_read.specs.declared.taker.Taker.{Taker}
@@ -34,7 +34,8 @@ use Rattle.t3_image_read.proofs.Headers.{length-header_text}
 use Rattle.t3_image_read.proofs.Heads.{length-head_text}
 use Rattle.t3_image_read.proofs.HeadFaults.{differs-append, good-append, other-append}
 use Rattle.t3_image_read.proofs.Firsts.{first_signature, first_version, first_head_cut}
-use Rattle.t3_image_read.proofs.Existence.{first_short, first_cut, first_malformed, first_unknown, first_many, first_loaded, first_late, spelled_text, few_within, near_within, empty_end, valid_image}
+use Rattle.t3_image_read.proofs.Existence.{valid_image}
+use Rattle.t3_image_read.proofs.Places.{first_short, first_cut, first_malformed, first_unknown, first_many, first_loaded, first_late, spelled_text, few_within, near_within, empty_end}
 use Rattle.t3_image_read.proofs.Push.{prefix_text-push, prefix_text-head, IsGoodPrefix-push, IsGoodPrefix-head}
 
 -- ---- what is known of a part by its name

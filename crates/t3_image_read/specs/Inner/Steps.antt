@@ -1,5 +1,5 @@
 -- How the fields of a reader stand for the stream that was taken, and what each step does to them.
-use Rattle.std.specs.Prelude.{◌≡◌, ◌≢◌, ℕ, ◌<◌, ◌≤◌, List, [], ◌++◌, length, take, Option, Some, None, Result, Ok, Err}
+use Rattle.std.specs.Prelude.{◌≡◌, ◌≢◌, ℕ, ◌<◌, ◌≤◌, List, [], ◌++◌, length, take, Option, Some, None}
 use Rattle.t3_blocks.specs.BlockName.{end_name, HasKind}
 use Rattle.t3_blocks.specs.declared.kind.BlockKind.{BlockKind}
 use Rattle.t3_image_read.specs.declared.header.BlockHeader.{BlockHeader}

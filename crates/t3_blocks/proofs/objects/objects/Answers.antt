@@ -1,10 +1,10 @@
-use Rattle.std.proofs.Common.{subst, drop}
+use Rattle.std.proofs.Common.{subst}
 use Rattle.std.proofs.lemmas.List.{take_rest}
 use Rattle.std.proofs.lemmas.Result.{err_from_is_err_and}
 use Rattle.t3_blocks.specs.Spelling.{static_text, IsStatic, size_width}
 use Rattle.t3_blocks.specs.Malformed.{BreaksList}
 use Rattle.t3_blocks.specs.Inner.Lists.{IsList, Breaks}
-use Rattle.t3_blocks.proofs.Counted.{HasHead, has_head, objects_refused, spells_objects}
+use Rattle.t3_blocks.proofs.Counted.{has_head, objects_refused, spells_objects}
 use Rattle.t3_blocks.proofs.objects.objects.Goals as goal
 
 pub returns-in_err-objects : goal.returns-in_err-objects

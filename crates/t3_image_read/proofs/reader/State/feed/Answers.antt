@@ -1,4 +1,4 @@
-use Rattle.std.proofs.Common.{Ok, None, subst, sym}
+use Rattle.std.proofs.Common.{Ok, subst, sym}
 use Rattle.t3_image_read.specs.declared.reader.Fed.TheVariants.{More}
 use Rattle.t3_image_read.specs.Reader.{Taking, Feeds}
 use Rattle.t3_image_read.specs.Inner.Steps.{stream_of, reading_of, TakesAll}
