@@ -1,6 +1,9 @@
 pub mod Appending
+pub mod BlockNames
+pub mod BrokenLists
 pub mod Counted
 pub mod Decided
+pub mod Giving
 pub mod Inversion
 pub mod ItemLists
 pub mod ItemTexts

@@ -1,5 +1,5 @@
-pub mod Appending
 pub mod BlockName
+pub mod Spelling
 pub mod Malformed
 pub mod Parsing
-pub mod Spelling
+pub mod Inner

@@ -10,23 +10,27 @@ abbrev pub IsUnspelled : List ℕ → List ℕ → Type 0
 IsUnspelled name payload = (block : Block) → ¬ Spells block name payload
 
 -- an item's text begins the bytes
-pub record BeginsWithItem {Item : Type 0} (item_text : Item → List ℕ) (Fits : Item → Type 0) (bytes : List ℕ) : Type 0 where
+pub record BeginsWithItem {Item : Type 0} (item_text : Item → List ℕ) (Fits : Item → Type 0)
+    (bytes : List ℕ) : Type 0 where
   pub item : Item
-  pub behind : List ℕ
+  pub trailing : List ℕ
   pub fits : Fits item
-  pub is : bytes ≡ item_text item ++ behind
+  pub is : bytes ≡ item_text item ++ trailing
 
 -- so many items are due, and so many spell: then a due one doesn't begin the rest, or none is due and bytes are left
-pub record BreaksList {Item : Type 0} (item_text : Item → List ℕ) (Fits : Item → Type 0) (due : ℕ) (bytes : List ℕ) (spelled : ℕ) : Type 0 where
+pub record BreaksList {Item : Type 0} (item_text : Item → List ℕ) (Fits : Item → Type 0) (due : ℕ)
+    (bytes : List ℕ) (spelled : ℕ) : Type 0 where
   pub items : List Item
   pub rest : List ℕ
   pub fit : AllByRecursion Fits items
   pub is : bytes ≡ flat_map item_text items ++ rest
   pub count : length items ≡ spelled
-  pub breaks : ((spelled < due) × ¬ BeginsWithItem item_text Fits rest) ⊎ ((spelled ≡ due) × (rest ≢ []))
+  pub breaks : ((spelled < due) × ¬ BeginsWithItem item_text Fits rest)
+      ⊎ ((spelled ≡ due) × (rest ≢ []))
 
--- the payload is this head, and behind it a list that breaks, in which so many items are due
-pub record BreaksBehind {Item : Type 0} (item_text : Item → List ℕ) (Fits : Item → Type 0) (head : List ℕ) (due : ℕ) (payload : List ℕ) (spelled : ℕ) : Type 0 where
+-- the payload is this head, and then a list that breaks, in which so many items are due
+pub record BreaksAfterHead {Item : Type 0} (item_text : Item → List ℕ) (Fits : Item → Type 0)
+    (head : List ℕ) (due : ℕ) (payload : List ℕ) (spelled : ℕ) : Type 0 where
   pub body : List ℕ
   pub is : payload ≡ head ++ body
   pub breaks : BreaksList item_text Fits due body spelled
@@ -38,13 +42,17 @@ HasShortHead long payload spelled = (length payload < long) × (spelled ≡ 0)
 -- the head is a count in two bytes
 abbrev pub BreaksCounted : {Item : Type 0} → (Item → List ℕ) → (Item → Type 0) → List ℕ → ℕ → Type 0
 BreaksCounted item_text Fits payload spelled =
-    HasShortHead 2 payload spelled ⊎ ((due : ℕ) × (due < 2 ^ 16) × BreaksBehind item_text Fits (little_endian 2 due) due payload spelled)
+    HasShortHead 2 payload spelled ⊎
+    ((due : ℕ) × (due < 2 ^ 16) × BreaksAfterHead item_text Fits
+    (little_endian 2 due) due payload spelled)
 
 -- the head of objects has six bytes, and says how many bytes their sizes have
 abbrev pub BreaksObjects : List ℕ → ℕ → Type 0
 BreaksObjects payload spelled =
     HasShortHead 6 payload spelled
-    ⊎ ((due : ℕ) × (metaclass : ℕ) × (flags : ℕ) × (due < 2 ^ 16) × (metaclass < 2 ^ 16) × (flags < 2 ^ 16) × BreaksBehind (static_text (size_width flags)) (IsStatic (size_width flags)) (objects_head due metaclass flags) due payload spelled)
+    ⊎ ((due : ℕ) × (metaclass : ℕ) × (flags : ℕ) × (due < 2 ^ 16) × (metaclass < 2 ^ 16)
+    × (flags < 2 ^ 16) × BreaksAfterHead (static_text (size_width flags))
+    (IsStatic (size_width flags)) (objects_head due metaclass flags) due payload spelled)
 
 -- the kinds that have a head alone
 abbrev pub HasHeadAlone : List ℕ → Type 0
@@ -56,4 +64,5 @@ IsMalformed name payload items =
     (HasHeadAlone name × (items ≡ 0) × IsUnspelled name payload)
     ⊎ (((name ≡ codes "FNSD") × BreaksCounted name_text IsName payload items)
     ⊎ (((name ≡ codes "MCLD") × BreaksCounted meta_text IsMeta payload items)
-    ⊎ (((name ≡ codes "OBJS") × BreaksObjects payload items) ⊎ ((name ≡ codes "SYMD") × BreaksCounted symbol_text IsSymbol payload items))))
+    ⊎ (((name ≡ codes "OBJS") × BreaksObjects payload items)
+    ⊎ ((name ≡ codes "SYMD") × BreaksCounted symbol_text IsSymbol payload items))))

@@ -1,51 +1,32 @@
--- What the functions that take payloads apart answer.
-use Rattle.std.specs.Prelude.{◌≡◌, ◌≢◌, ℕ, ◌^◌, ◌<◌, false, codes, List, ◌++◌, Option, Some, None, Result, Ok, Err}
-use Rattle.t3_holder.specs.NumberText.{little_endian}
-use Rattle.std.specs.List.{list_any}
-use Rattle.std.specs.Str.{bytes_eq}
-use Rattle.t3_blocks.specs.BlockName.{layout_names}
+-- What a payload gives under a name that isn't the end's.
+use Rattle.std.specs.Prelude.{◌≡◌, ℕ, ◌⊎◌, List, Result, Ok, Err}
 use Rattle.t3_blocks.specs.declared.block.Block.{Block}
-use Rattle.t3_blocks.specs.declared.items.Meta.{Meta}
-use Rattle.t3_blocks.specs.declared.kind.Kind.{Kind}
-use Rattle.t3_blocks.specs.declared.kind.Kind.TheVariants as kinds
 use Rattle.t3_blocks.specs.declared.refusal.BlockRefusal.{BlockRefusal}
-use Rattle.t3_blocks.specs.declared.refusal.BlockRefusal.TheVariants.{UnknownMandatory, Malformed, NoMemory}
-use Rattle.t3_blocks.specs.Spelling.{Spells, name_text, IsName, meta_body, IsMetaBody}
+use Rattle.t3_blocks.specs.declared.refusal.BlockRefusal.TheVariants as blocks
+use Rattle.t3_blocks.specs.declared.refusal.PayloadRefusal.{PayloadRefusal}
+use Rattle.t3_blocks.specs.declared.refusal.PayloadRefusal.TheVariants.{Malformed, NoMemory}
+use Rattle.t3_blocks.specs.Spelling.{Spells}
 use Rattle.t3_blocks.specs.Malformed.{IsMalformed}
 
--- a name is that of a kind of blocks with a layout, or of none
-abbrev pub HasKind : List ℕ → Kind → Type 0
-HasKind name kinds.Entry = name ≡ codes "ENTP"
-HasKind name kinds.PoolDef = name ≡ codes "CPDF"
-HasKind name kinds.Page = name ≡ codes "CPPG"
-HasKind name kinds.Functions = name ≡ codes "FNSD"
-HasKind name kinds.Metas = name ≡ codes "MCLD"
-HasKind name kinds.Objects = name ≡ codes "OBJS"
-HasKind name kinds.Symbols = name ≡ codes "SYMD"
-HasKind name kinds.Opaque = list_any (λ known. bytes_eq known name) layout_names ≡ false
+-- the block that the payload spells, or after how many items it is malformed; want of memory says nothing of it
+abbrev pub Gives : List ℕ → List ℕ → Result Block PayloadRefusal → Type 0
+Gives name payload (Ok block) = Spells block name payload
+Gives name payload (Err (Malformed items)) = IsMalformed name payload items
+Gives name payload (Err NoMemory) = Unit {0}
 
--- a payload under the name of a kind: its block, or behind how many items it is malformed
-abbrev pub Parses : List ℕ → List ℕ → Result Block BlockRefusal → Type 0
-Parses name payload (Ok block) = Spells block name payload
-Parses name payload (Err (Malformed items)) = IsMalformed name payload items
-Parses name payload (Err NoMemory) = Unit {0}
-Parses name payload (Err UnknownMandatory) = ⊥
+-- the same refusal of a call that looks at the flags too
+abbrev pub refusal_of : PayloadRefusal → BlockRefusal
+refusal_of (Malformed items) = blocks.Malformed items
+refusal_of NoMemory = blocks.NoMemory
 
--- what stands in front of the properties of a metaclass: its name, how many properties there are, and how many bytes each has
-pub record MetaHead : Type 0 where
-  pub name : List ℕ
-  pub count : ℕ
-  pub size : ℕ
+-- the same answer of such a call
+abbrev pub answer_of : Result Block PayloadRefusal → Result Block BlockRefusal
+answer_of (Ok block) = Ok block
+answer_of (Err refusal) = Err (refusal_of refusal)
 
-abbrev pub meta_head_text : MetaHead → List ℕ
-meta_head_text head = name_text head.name ++ (little_endian 2 head.count ++ little_endian 2 head.size)
-
-pub record IsMetaHead (head : MetaHead) : Type 0 where
-  pub name : IsName head.name
-  pub count : head.count < 2 ^ 16
-  pub size : head.size < 2 ^ 16
-
--- the metaclass that the bytes behind an entry size are, or none where they are none
-abbrev pub IsMetaOrNone : List ℕ → Option Meta → Type 0
-IsMetaOrNone body None = (meta : Meta) → IsMetaBody meta → body ≢ meta_body meta
-IsMetaOrNone body (Some meta) = IsMetaBody meta × (body ≡ meta_body meta)
+-- and want of memory aside, a payload that spells a block gives it, and one that is malformed gives that refusal
+pub record GivesEach (name payload : List ℕ) (answer : Result Block PayloadRefusal) : Type 0 where
+  pub block : (block : Block) → Spells block name payload
+      → (answer ≡ Ok block) ⊎ (answer ≡ Err NoMemory)
+  pub malformed : (items : ℕ) → IsMalformed name payload items
+      → (answer ≡ Err (Malformed items)) ⊎ (answer ≡ Err NoMemory)

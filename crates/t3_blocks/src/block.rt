@@ -24,6 +24,15 @@ pub enum Block {
         /// What follows is kept.
         tail: Bytes,
     },
+    /// `OBJS`: objects of one metaclass.
+    Objects {
+        /// The index of the metaclass.
+        metaclass: u16,
+        /// Bit 0x0001 says that the sizes of the objects have four bytes and not two, bit 0x0002 that
+        /// the objects are transient; the others are kept.
+        flags: u16,
+        objects: Statics,
+    },
     /// `CPDF`: how many pages a pool has, and how many bytes a page has at most.
     PoolDef {
         pool: u16,
@@ -38,22 +47,13 @@ pub enum Block {
         mask: u8,
         bytes: Bytes,
     },
-    /// `FNSD`: the names of the sets of built-in functions, in the order of their indices.
-    Functions {
-        names: Names,
-    },
     /// `MCLD`: the metaclasses, in the order of their indices.
     Metas {
         metas: Metas,
     },
-    /// `OBJS`: objects of one metaclass.
-    Objects {
-        /// The index of the metaclass.
-        metaclass: u16,
-        /// Bit 0x0001 says that the sizes of the objects have four bytes and not two, bit 0x0002 that
-        /// the objects are transient; the others are kept.
-        flags: u16,
-        objects: Statics,
+    /// `FNSD`: the names of the sets of built-in functions, in the order of their indices.
+    Functions {
+        names: Names,
     },
     /// `SYMD`: names for data holders.
     Symbols {
@@ -77,11 +77,11 @@ impl Block {
     {
         match self {
             Block::Entry { .. } => *b"ENTP",
+            Block::Objects { .. } => *b"OBJS",
             Block::PoolDef { .. } => *b"CPDF",
             Block::Page { .. } => *b"CPPG",
-            Block::Functions { .. } => *b"FNSD",
             Block::Metas { .. } => *b"MCLD",
-            Block::Objects { .. } => *b"OBJS",
+            Block::Functions { .. } => *b"FNSD",
             Block::Symbols { .. } => *b"SYMD",
             Block::Opaque { name, .. } => *name,
         }
@@ -89,12 +89,17 @@ impl Block {
 }
 
 /// A block has at most one name and one payload, and these spell no other block. Bytes under a name
-/// spell a block, or are malformed behind exactly so many items.
+/// spell a block, or are malformed after exactly so many items.
 pub fn block_spelling()
-    ensures one_payload { (block : AnyBlock) (m n p q : List ℕ) → Spells block m p → Spells block n q → (m ≡ n) × (p ≡ q) }
-    ensures one_block { (a b : AnyBlock) (name payload : List ℕ) → Spells a name payload → Spells b name payload → a ≡ b }
+    ensures one_payload { (block : AnyBlock) (m n p q : List ℕ) → Spells block m p
+        → Spells block n q → (m ≡ n) × (p ≡ q) }
+    ensures one_block { (a b : AnyBlock) (name payload : List ℕ) → Spells a name payload
+        → Spells b name payload → a ≡ b }
     ensures some { (name payload : List ℕ) → length name ≡ 4 → name ≢ end_name → AreBytes payload
-        → ((block : AnyBlock) × Spells block name payload) ⊎ ((items : ℕ) × IsMalformed name payload items) }
-    ensures not_both { (block : AnyBlock) (name payload : List ℕ) (items : ℕ) → Spells block name payload → ¬ IsMalformed name payload items }
-    ensures one_count { (name payload : List ℕ) (m n : ℕ) → IsMalformed name payload m → IsMalformed name payload n → m ≡ n }
+        → ((block : AnyBlock) × Spells block name payload)
+        ⊎ ((items : ℕ) × IsMalformed name payload items) }
+    ensures not_both { (block : AnyBlock) (name payload : List ℕ) (items : ℕ)
+        → Spells block name payload → ¬ IsMalformed name payload items }
+    ensures one_count { (name payload : List ℕ) (m n : ℕ) → IsMalformed name payload m
+        → IsMalformed name payload n → m ≡ n }
 {}

@@ -1,39 +1,56 @@
-//! The counted list of function sets.
+//! The names of function sets.
 ghost use Rattle.std.specs.Prelude.{codes};
-ghost use Rattle.t3_blocks.specs.Parsing.{Parses};
+ghost use Rattle.t3_blocks.specs.Parsing.{Gives};
 
 use crate::block::Block;
 use crate::items::Names;
-use crate::refusal::BlockRefusal;
+use crate::layout::{Layout, take_counted};
+use crate::parts::append_name;
+use crate::refusal::PayloadRefusal;
 use crate::split::split_name;
 use std::alloc::Global;
-use t3_holder::{Bytes, u16_at};
+use t3_holder::{Bytes, NoMemory};
 
-/// A payload of `FNSD`: a count, and so many names.
-pub(crate) fn functions(alloc: Global, payload: &[u8]) -> Result<Block, BlockRefusal>
-    ensures { Parses (codes "FNSD") payload.now result }
-{
-    if payload.len() < 2 {
-        return Err(BlockRefusal::Malformed { items: 0 });
-    }
-    let due = usize::from(u16_at(payload, 0));
-    let mut rest = &payload[2..];
-    let mut names = Vec::new(alloc);
-    while names.len() < due {
-        match split_name(rest) {
-            Some((name, behind)) => {
-                names.push(Bytes(Vec::from_slice(alloc, name)?))?;
-                rest = behind;
+/// Each item is a length-prefixed name.
+#[derive(Clone, Copy)]
+pub(crate) struct NameLayout;
+
+impl Layout for NameLayout {
+    ghost use Rattle.t3_blocks.specs.Spelling.{name_text, IsName};
+
+    type Item = Bytes;
+
+    ghost text = { λ _. name_text };
+
+    ghost fits = { λ _. IsName };
+
+    fn take<'a>(
+        &self,
+        alloc: Global,
+        bytes: &'a [u8],
+    ) -> Result<Option<(Bytes, &'a [u8])>, NoMemory> {
+        match split_name(bytes) {
+            Some((name, trailing)) => {
+                let name = Bytes(Vec::from_slice(alloc, name)?);
+                Ok(Some((name, trailing)))
             }
-            None => return Err(BlockRefusal::Malformed {
-                items: names.len() as u32,
-            }),
+            None => Ok(None),
         }
     }
-    if !rest.is_empty() {
-        return Err(BlockRefusal::Malformed { items: due as u32 });
+
+    fn append(&self, name: &Bytes, out: &mut Vec<u8>) -> Result<(), NoMemory> {
+        append_name(&name.0, out)
     }
-    Ok(Block::Functions {
-        names: Names(names),
-    })
+
+    fn size(&self, name: &Bytes) -> usize {
+        1 + name.0.len()
+    }
+}
+
+/// A payload of `FNSD`: a count, and so many names.
+pub(crate) fn functions(alloc: Global, payload: &[u8]) -> Result<Block, PayloadRefusal>
+    ensures { Gives (codes "FNSD") payload.now result }
+{
+    let names = Names(take_counted(alloc, &NameLayout, payload)?);
+    Ok(Block::Functions { names })
 }

@@ -1,21 +1,30 @@
 //! The kinds of blocks that have a head alone.
 ghost use Rattle.std.specs.Prelude.{◌≡◌, codes, IfOk};
-ghost use Rattle.t3_blocks.specs.Parsing.{Parses};
-ghost use Rattle.t3_blocks.specs.Spelling.{masked};
+ghost use Rattle.t3_blocks.specs.Parsing.{Gives};
+ghost use Rattle.t3_blocks.specs.Spelling.{masked_bytes};
 
 use crate::block::Block;
-use crate::refusal::BlockRefusal;
+use crate::refusal::PayloadRefusal;
 use std::alloc::{AllocError, Global};
 use t3_holder::{Bytes, u16_at, u32_at};
 
-/// What a payload is refused by that has no items.
-const NO_HEAD: BlockRefusal = BlockRefusal::Malformed { items: 0 };
+/// How many bytes an entry point has before its tail.
+pub(crate) const ENTRY_HEAD: usize = 16;
 
-/// A payload of `ENTP`: 16 bytes, and what follows them.
-pub(crate) fn entry(alloc: Global, payload: &[u8]) -> Result<Block, BlockRefusal>
-    ensures { Parses (codes "ENTP") payload.now result }
+/// How many bytes the definition of a pool has.
+pub(crate) const POOL_DEF_SIZE: usize = 10;
+
+/// How many bytes come before a page's own, the last of them its mask.
+pub(crate) const PAGE_HEAD: usize = 7;
+
+/// What a payload is refused by that has no items.
+const NO_HEAD: PayloadRefusal = PayloadRefusal::Malformed { items: 0 };
+
+/// A payload of `ENTP`: its head, and what follows it.
+pub(crate) fn entry(alloc: Global, payload: &[u8]) -> Result<Block, PayloadRefusal>
+    ensures { Gives (codes "ENTP") payload.now result }
 {
-    if payload.len() < 16 {
+    if payload.len() < ENTRY_HEAD {
         return Err(NO_HEAD);
     }
     Ok(Block::Entry {
@@ -28,15 +37,15 @@ pub(crate) fn entry(alloc: Global, payload: &[u8]) -> Result<Block, BlockRefusal
             u16_at(payload, 12),
             u16_at(payload, 14),
         ],
-        tail: Bytes(Vec::from_slice(alloc, &payload[16..])?),
+        tail: Bytes(Vec::from_slice(alloc, &payload[ENTRY_HEAD..])?),
     })
 }
 
-/// A payload of `CPDF`: 10 bytes.
-pub(crate) fn pool_def(payload: &[u8]) -> Result<Block, BlockRefusal>
-    ensures { Parses (codes "CPDF") payload.now result }
+/// A payload of `CPDF`: its head.
+pub(crate) fn pool_def(payload: &[u8]) -> Result<Block, PayloadRefusal>
+    ensures { Gives (codes "CPDF") payload.now result }
 {
-    if payload.len() != 10 {
+    if payload.len() != POOL_DEF_SIZE {
         return Err(NO_HEAD);
     }
     Ok(Block::PoolDef {
@@ -46,25 +55,25 @@ pub(crate) fn pool_def(payload: &[u8]) -> Result<Block, BlockRefusal>
     })
 }
 
-/// A payload of `CPPG`: 7 bytes, and then the page's bytes under the mask.
-pub(crate) fn page(alloc: Global, payload: &[u8]) -> Result<Block, BlockRefusal>
-    ensures { Parses (codes "CPPG") payload.now result }
+/// A payload of `CPPG`: its head, and then the page's bytes under the mask.
+pub(crate) fn page(alloc: Global, payload: &[u8]) -> Result<Block, PayloadRefusal>
+    ensures { Gives (codes "CPPG") payload.now result }
 {
-    if payload.len() < 7 {
+    if payload.len() < PAGE_HEAD {
         return Err(NO_HEAD);
     }
-    let mask = payload[6];
+    let mask = payload[PAGE_HEAD - 1];
     Ok(Block::Page {
         pool: u16_at(payload, 0),
         index: u32_at(payload, 2),
         mask,
-        bytes: Bytes(unmasked(alloc, &payload[7..], mask)?),
+        bytes: Bytes(unmasked(alloc, &payload[PAGE_HEAD..], mask)?),
     })
 }
 
 /// The bytes of a page, which lie under a mask.
 fn unmasked(alloc: Global, bytes: &[u8], mask: u8) -> Result<Vec<u8>, AllocError>
-    ensures { IfOk result (λ page. page.items ≡ masked mask bytes.now) }
+    ensures { IfOk result (λ page. page.items ≡ masked_bytes mask bytes.now) }
 {
     bytes.iter().map(|byte| *byte ^ mask).collect(alloc)
 }

@@ -1,63 +1,71 @@
-//! The counted list of symbols.
-ghost use Rattle.std.specs.Prelude.{◌≡◌, ◌<◌, ◌++◌, codes, length, MatchOption};
-ghost use Rattle.t3_holder.specs.HolderText.{raw_text, IsRaw};
-ghost use Rattle.t3_blocks.specs.Parsing.{Parses};
+//! The symbols: data holders and the names that they go by.
+ghost use Rattle.std.specs.Prelude.{◌≡◌, ◌++◌, codes, MatchOption};
 ghost use Rattle.t3_blocks.specs.Spelling.{symbol_text, IsSymbol};
 ghost use Rattle.t3_blocks.specs.Malformed.{BeginsWithItem};
+ghost use Rattle.t3_blocks.specs.Parsing.{Gives};
 
 use crate::block::Block;
 use crate::items::{Symbol, Symbols};
-use crate::refusal::BlockRefusal;
-use crate::split::split_name;
+use crate::layout::{Layout, take_counted};
+use crate::parts::{append_bytes, append_name};
+use crate::refusal::PayloadRefusal;
+use crate::split::{RAW_SIZE, split_name, split_raw};
 use std::alloc::Global;
-use t3_holder::{Bytes, Raw, read_raw, u16_at};
+use t3_holder::{Bytes, NoMemory, Raw, raw_bytes};
 
-/// A payload of `SYMD`: a count, and so many symbols.
-pub(crate) fn symbols(alloc: Global, payload: &[u8]) -> Result<Block, BlockRefusal>
-    ensures { Parses (codes "SYMD") payload.now result }
-{
-    if payload.len() < 2 {
-        return Err(BlockRefusal::Malformed { items: 0 });
-    }
-    let due = usize::from(u16_at(payload, 0));
-    let mut rest = &payload[2..];
-    let mut symbols = Vec::new(alloc);
-    while symbols.len() < due {
-        match split_symbol(rest) {
-            Some((raw, name, behind)) => {
+/// Each item is a data holder and a length-prefixed name.
+#[derive(Clone, Copy)]
+pub(crate) struct SymbolLayout;
+
+impl Layout for SymbolLayout {
+    ghost use Rattle.t3_blocks.specs.Spelling.{symbol_text, IsSymbol};
+
+    type Item = Symbol;
+
+    ghost text = { λ _. symbol_text };
+
+    ghost fits = { λ _. IsSymbol };
+
+    fn take<'a>(
+        &self,
+        alloc: Global,
+        bytes: &'a [u8],
+    ) -> Result<Option<(Symbol, &'a [u8])>, NoMemory> {
+        match split_symbol(bytes) {
+            Some((raw, name, trailing)) => {
                 let name = Bytes(Vec::from_slice(alloc, name)?);
-                symbols.push(Symbol { raw, name })?;
-                rest = behind;
+                Ok(Some((Symbol { raw, name }, trailing)))
             }
-            None => return Err(BlockRefusal::Malformed {
-                items: symbols.len() as u32,
-            }),
+            None => Ok(None),
         }
     }
-    if !rest.is_empty() {
-        return Err(BlockRefusal::Malformed { items: due as u32 });
+
+    fn append(&self, symbol: &Symbol, out: &mut Vec<u8>) -> Result<(), NoMemory> {
+        append_bytes(&raw_bytes(symbol.raw), out)?;
+        append_name(&symbol.name.0, out)
     }
-    Ok(Block::Symbols {
-        symbols: Symbols(symbols),
-    })
+
+    #[tactic(auto, using(crate::proofs::Sizes::length_symbol_text))]
+    fn size(&self, symbol: &Symbol) -> usize {
+        RAW_SIZE + 1 + symbol.name.0.len()
+    }
+}
+
+/// A payload of `SYMD`: a count, and so many symbols.
+pub(crate) fn symbols(alloc: Global, payload: &[u8]) -> Result<Block, PayloadRefusal>
+    ensures { Gives (codes "SYMD") payload.now result }
+{
+    let symbols = Symbols(take_counted(alloc, &SymbolLayout, payload)?);
+    Ok(Block::Symbols { symbols })
 }
 
 /// A data holder and a name, and what follows them.
 fn split_symbol(bytes: &[u8]) -> Option<(Raw, &[u8], &[u8])>
-    ensures { MatchOption result (¬ BeginsWithItem symbol_text IsSymbol bytes.now) (λ parts. IsSymbol (record { raw = parts.0; name = parts.1.now }) × (bytes.now ≡ symbol_text (record { raw = parts.0; name = parts.1.now }) ++ parts.2.now)) }
+    ensures { MatchOption result (¬ BeginsWithItem symbol_text IsSymbol bytes.now)
+        (λ parts. IsSymbol (record { raw = parts.0; name = parts.1.now })
+        × (bytes.now ≡ symbol_text (record { raw = parts.0; name = parts.1.now }) ++ parts.2.now)) }
 {
     let (raw, rest) = split_raw(bytes)?;
-    let (name, behind) = split_name(rest)?;
-    Some((raw, name, behind))
-}
-
-/// A data holder, and what follows it.
-fn split_raw(bytes: &[u8]) -> Option<(Raw, &[u8])>
-    ensures { MatchOption result (length bytes.now < 5) (λ parts. IsRaw parts.0 × (bytes.now ≡ raw_text parts.0 ++ parts.1.now)) }
-{
-    if bytes.len() < 5 {
-        return None;
-    }
-    let raw = read_raw(&[bytes[0], bytes[1], bytes[2], bytes[3], bytes[4]]);
-    Some((raw, &bytes[5..]))
+    let (name, trailing) = split_name(rest)?;
+    Some((raw, name, trailing))
 }

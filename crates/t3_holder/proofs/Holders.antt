@@ -1,4 +1,4 @@
--- Raw holders and their texts, and which holders they mean.
+-- Raw holders and their texts, and which holders they mean. Other crates may use what stands here.
 use Rattle.std.proofs.Common.{◌≡◌, ℕ, ◌%◌, ◌^◌, ◌<◌, true, List, [], ◌∷◌, length, take, drop, get_or, refl, sym, ap, ◌∙◌, inl, inr, arith}
 use Rattle.std.specs.Prelude.{◌==◌, if◌then◌else◌}
 use Rattle.std.specs.Int.{w32, cast_signed}
@@ -27,7 +27,8 @@ unfolding raw_text
 some_raw [] long bytes = absurd (omega arith)
 some_raw (tag ∷ value) long bytes =
     let four : length value ≡ 4 = omega arith in
-    let text : little_endian 4 (value_of value) ≡ value = ap (λ w. little_endian w (value_of value)) (sym four) ∙ little_endian-value_of value bytes.1 in
+    let text : little_endian 4 (value_of value) ≡ value =
+    ap (λ w. little_endian w (value_of value)) (sym four) ∙ little_endian-value_of value bytes.1 in
     let raw : Raw = record { tag = tag; bits = value_of value } in
     (raw, record { tag = bytes.0; bits = value_fits 4 value bytes.1 four }, ap (λ t. tag ∷ t) text)
 
@@ -56,7 +57,8 @@ of_means raw holders.Nil means = at_tag raw holders.Nil 1 means.tag refl
 of_means raw holders.True means = at_tag raw holders.True 2 means.tag refl
 of_means raw (holders.Obj number) means = at_tag raw (holders.Obj number) 5 means.tag (ap holders.Obj means.bits)
 of_means raw (holders.Prop number) means = at_tag raw (holders.Prop number) 6 means.tag (ap holders.Prop means.bits)
-of_means raw (holders.Int number) means = at_tag raw (holders.Int number) 7 means.tag (ap holders.Int (ap (cast_signed w32) means.bits ∙ to_z-of_z w32 number means.fits))
+of_means raw (holders.Int number) means =
+    at_tag raw (holders.Int number) 7 means.tag (ap holders.Int (ap (cast_signed w32) means.bits ∙ to_z-of_z w32 number means.fits))
 of_means raw (holders.Text address) means = at_tag raw (holders.Text address) 8 means.tag (ap holders.Text means.bits)
 of_means raw (holders.Shown address) means = at_tag raw (holders.Shown address) 9 means.tag (ap holders.Shown means.bits)
 of_means raw (holders.List address) means = at_tag raw (holders.List address) 10 means.tag (ap holders.List means.bits)
@@ -92,7 +94,8 @@ property_numbered raw _ means tag none = absurd (omega (arith, tag))
 
 pub none_meant : (raw : Raw) (holder : Holder) → IsNoHolder raw → Means raw holder → ⊥
 none_meant raw holder (inl unknown) means =
-    let known : list_any (λ tag. tag == raw.tag) meant_tags ≡ true = ap (λ t. list_any (λ tag. tag == t) meant_tags) means.tag ∙ known_tag holder in
+    let known : list_any (λ tag. tag == raw.tag) meant_tags ≡ true =
+    ap (λ t. list_any (λ tag. tag == t) meant_tags) means.tag ∙ known_tag holder in
     absurd cc
 none_meant raw holder (inr (inl object)) means = object_numbered raw holder means (sym means.tag ∙ object.0) object.1
 none_meant raw holder (inr (inr property)) means = property_numbered raw holder means (sym means.tag ∙ property.0) property.1
@@ -117,11 +120,13 @@ is_meant (holders.Enum number) fits good = record { fits = fits; good = tt; tag 
 
 -- ---- what is read and written
 
-pub raw_text-read : (bytes : List ℕ) (bits : ℕ) → length bytes ≡ 5 → take 4 (drop 1 bytes) ≡ little_endian 4 bits → raw_text (record { tag = get_or bytes 0 0; bits = bits }) ≡ bytes
+pub raw_text-read : (bytes : List ℕ) (bits : ℕ) → length bytes ≡ 5 → take 4 (drop 1 bytes) ≡ little_endian 4 bits
+    → raw_text (record { tag = get_or bytes 0 0; bits = bits }) ≡ bytes
 unfolding raw_text
 raw_text-read [] bits long is = absurd (omega arith)
 raw_text-read (tag ∷ value) bits long is = ap (λ t. tag ∷ t) (sym is ∙ take_all 4 value (omega arith))
 
-pub raw_text-written : (raw : Raw) (bytes : List ℕ) → bytes ≡ little_endian 4 raw.bits → raw.tag ∷ get_or bytes 0 0 ∷ get_or bytes 1 0 ∷ get_or bytes 2 0 ∷ get_or bytes 3 0 ∷ [] ≡ raw_text raw
+pub raw_text-written : (raw : Raw) (bytes : List ℕ) → bytes ≡ little_endian 4 raw.bits
+    → raw.tag ∷ get_or bytes 0 0 ∷ get_or bytes 1 0 ∷ get_or bytes 2 0 ∷ get_or bytes 3 0 ∷ [] ≡ raw_text raw
 unfolding raw_text
 raw_text-written raw bytes is = ap (λ t. raw.tag ∷ t) (four_parts bytes (ap length is ∙ length-little_endian 4 raw.bits) ∙ is)

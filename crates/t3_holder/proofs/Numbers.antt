@@ -1,4 +1,4 @@
--- The text of a number: how long it is, that it says the number, and that no other bytes do.
+-- Numbers as bytes: how long they are, that they say the number, and that no other bytes do. Other crates may use what stands here.
 use Rattle.std.proofs.Common.{◌≡◌, ℕ, zero, suc, ◌+◌, ◌*◌, ◌/◌, ◌%◌, ◌^◌, ◌<◌, ◌≤◌, List, [], ◌∷◌, length, get_or, take, drop, refl, sym, ap, ◌∙◌, arith}
 use Rattle.std.proofs.lemmas.List.{drop_more, take_all}
 use Rattle.std.specs.Int.{w16, w32, to_le_bytes}
@@ -43,7 +43,8 @@ value_fits (suc width) (b ∷ bytes) all long =
     omega (arith, all.0)
 
 pub only_text : (width n : ℕ) (text : List ℕ) → IsNumberText width n text → text ≡ little_endian width n
-only_text width n text is = sym (little_endian-value_of text is.bytes) ∙ ap (λ (w : ℕ). little_endian w (value_of text)) is.wide ∙ ap (little_endian width) is.value
+only_text width n text is =
+    sym (little_endian-value_of text is.bytes) ∙ ap (λ (w : ℕ). little_endian w (value_of text)) is.wide ∙ ap (little_endian width) is.value
 
 pub is_text : (width n : ℕ) → n < 256 ^ width → IsNumberText width n (little_endian width n)
 is_text width n lt = record {
@@ -54,17 +55,26 @@ is_text width n lt = record {
 
 -- two numbers that fit and have one text are one
 pub same_number : (width m n : ℕ) → m < 256 ^ width → n < 256 ^ width → little_endian width m ≡ little_endian width n → m ≡ n
-same_number width m n fits_m fits_n same = sym (value_of-little_endian width m fits_m) ∙ ap value_of same ∙ value_of-little_endian width n fits_n
+same_number width m n fits_m fits_n same =
+    sym (value_of-little_endian width m fits_m) ∙ ap value_of same ∙ value_of-little_endian width n fits_n
 
 pub two_at : (xs : List ℕ) (i : ℕ) → i + 2 ≤ length xs → take 2 (drop i xs) ≡ get_or xs i 0 ∷ get_or xs (i + 1) 0 ∷ []
 two_at xs i le =
     rw (drop_more xs i 0 (omega arith), drop_more xs (i + 1) 0 (omega arith)) refl
 
-pub four_at : (xs : List ℕ) (i : ℕ) → i + 4 ≤ length xs → take 4 (drop i xs) ≡ get_or xs i 0 ∷ get_or xs (i + 1) 0 ∷ get_or xs (i + 2) 0 ∷ get_or xs (i + 3) 0 ∷ []
+pub four_at : (xs : List ℕ) (i : ℕ) → i + 4 ≤ length xs
+    → take 4 (drop i xs) ≡ get_or xs i 0 ∷ get_or xs (i + 1) 0 ∷ get_or xs (i + 2) 0 ∷ get_or xs (i + 3) 0 ∷ []
 four_at xs i le =
     let second : i + 1 + 1 ≡ i + 2 = omega arith in
     let third : i + 2 + 1 ≡ i + 3 = omega arith in
-    rw (drop_more xs i 0 (omega arith), drop_more xs (i + 1) 0 (omega arith), second, drop_more xs (i + 2) 0 (omega arith), third, drop_more xs (i + 3) 0 (omega arith)) refl
+    rw (
+      drop_more xs i 0 (omega arith),
+      drop_more xs (i + 1) 0 (omega arith),
+      second,
+      drop_more xs (i + 2) 0 (omega arith),
+      third,
+      drop_more xs (i + 3) 0 (omega arith),
+    ) refl
 
 pub four_parts : (xs : List ℕ) → length xs ≡ 4 → get_or xs 0 0 ∷ get_or xs 1 0 ∷ get_or xs 2 0 ∷ get_or xs 3 0 ∷ [] ≡ xs
 four_parts xs long = sym (four_at xs 0 (omega arith)) ∙ take_all 4 xs (omega arith)

@@ -84,8 +84,8 @@ pub fn raw_bytes(raw: Raw) -> [u8; 5]
 /// property's, which is in the value's low two bytes.
 pub fn holder_of(raw: Raw) -> Option<Holder>
     ensures means { IfSome result (λ holder. Means raw holder) }
+    ensures meant { (holder : AnyHolder) → Means raw holder → result ≡ Some holder }
     ensures none { IsNone result ↔ IsNoHolder raw }
-    ensures unmeant { IsNone result → (holder : AnyHolder) → ¬ Means raw holder }
 {
     let bits = raw.bits;
     let low = (bits % 0x10000) as u16;
@@ -108,7 +108,9 @@ pub fn holder_of(raw: Raw) -> Option<Holder>
 /// The holder that means this, with 0 in all bits that its type doesn't use.
 pub fn raw_of(holder: Holder) -> Raw
     requires { IsGood holder }
-    ensures tag { result.tag ≡ tag_of holder }
+    ensures means { Means result holder }
+
+    // What its type doesn't use is 0.
     ensures bits { result.bits ≡ bits_of holder }
 {
     let (tag, bits) = match holder {
@@ -130,9 +132,11 @@ pub fn raw_of(holder: Holder) -> Raw
 /// Five bytes are the text of one raw holder, which has one text. It means one holder or none, and each
 /// holder whose number fits, and isn't 0 where it may not be, is meant by the one that `raw_of` gives.
 pub fn holder_text()
-    ensures some { (text : List ℕ) → length text ≡ 5 → AreBytes text → (raw : AnyRaw) × IsRaw raw × (raw_text raw ≡ text) }
+    ensures some { (text : List ℕ) → length text ≡ 5 → AreBytes text
+        → (raw : AnyRaw) × IsRaw raw × (raw_text raw ≡ text) }
     ensures one_raw { (a b : AnyRaw) → IsRaw a → IsRaw b → raw_text a ≡ raw_text b → a ≡ b }
     ensures one_holder { (raw : AnyRaw) (a b : AnyHolder) → Means raw a → Means raw b → a ≡ b }
     ensures none { (raw : AnyRaw) (holder : AnyHolder) → IsNoHolder raw → ¬ Means raw holder }
-    ensures meant { (holder : AnyHolder) → IsHolder holder → IsGood holder → Means (record { tag = tag_of holder; bits = bits_of holder }) holder }
+    ensures meant { (holder : AnyHolder) → IsHolder holder → IsGood holder
+        → Means (record { tag = tag_of holder; bits = bits_of holder }) holder }
 {}

@@ -35,7 +35,9 @@ pub fn u32_bytes(number: u32) -> [u8; 4]
 /// A number that fits has exactly one text of a width, which is that of no other such number.
 pub fn number_text()
     // The text is so many bytes, and byte `i` counts 256 to the power `i`.
-    ensures spelled { (width n : ℕ) → n < 256 ^ width → IsNumberText width n (little_endian width n) }
+    ensures spelled { (width n : ℕ) → n < 256 ^ width
+        → IsNumberText width n (little_endian width n) }
     // No other bytes say that number.
-    ensures only { (width n : ℕ) (bytes : List ℕ) → IsNumberText width n bytes → bytes ≡ little_endian width n }
+    ensures only { (width n : ℕ) (bytes : List ℕ) → IsNumberText width n bytes
+        → bytes ≡ little_endian width n }
 {}

@@ -2,6 +2,17 @@
 use super::*;
 use std::test::Fail;
 
+/// The example of the crate's first page.
+#[test]
+fn reads_a_holder_and_asks_what_it_means(rt: HostRuntime) {
+    let raw = read_raw(&[7, 0xFE, 0xFF, 0xFF, 0xFF]);
+    assert_eq!(rt; holder_of(raw), Some(Holder::Int(-2)));
+    assert_eq!(rt;
+        raw_bytes(raw_of(Holder::Int(-2))),
+        [7, 0xFE, 0xFF, 0xFF, 0xFF]
+    );
+}
+
 #[test]
 fn reads_the_worked_holders(rt: HostRuntime) -> Result<(), Fail> {
     let rows: [([u8; 5], Raw, Option<Holder>); 6] = [

@@ -2,9 +2,11 @@ pub mod Blocks
 pub mod Existence
 pub mod Feeding
 pub mod Firsts
-pub mod Fronts
+pub mod Places
+pub mod Prefixes
 pub mod HeadFaults
 pub mod Headers
+pub mod Joined
 pub mod Heads
 pub mod Lists
 pub mod Push

@@ -1,4 +1,4 @@
--- Lists that are cut into parts.
+-- Lists that are cut into parts. Other crates may use what stands here.
 use Rattle.std.proofs.Common.{◌≡◌, ℕ, ◌+◌, List, ◌++◌, take, drop, sym, ◌∙◌, arith}
 use Rattle.std.proofs.lemmas.List.{take-append-drop, take-take, drop-take}
 use Rattle.t3_blocks.proofs.Lists.{next_part}
@@ -8,7 +8,8 @@ pub four_four_two : {X : Type 0} (xs : List X) → take 4 xs ++ (take 4 (drop 4 
 four_four_two xs = rw (next_part 8 2 xs, next_part 4 4 xs) (take-append-drop 4 xs)
 
 -- the parts of the header, and the rest
-pub head_parts : {X : Type 0} (xs : List X) → take 11 xs ++ (take 2 (drop 11 xs) ++ (take 32 (drop 13 xs) ++ (take 24 (drop 45 xs) ++ drop 69 xs))) ≡ xs
+pub head_parts : {X : Type 0} (xs : List X) → take 11 xs ++
+    (take 2 (drop 11 xs) ++ (take 32 (drop 13 xs) ++ (take 24 (drop 45 xs) ++ drop 69 xs))) ≡ xs
 head_parts xs = rw (next_part 45 24 xs, next_part 13 32 xs, next_part 11 2 xs) (take-append-drop 11 xs)
 
 -- the first of the rest follow the first

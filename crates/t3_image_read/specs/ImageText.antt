@@ -27,24 +27,28 @@ version = 1
 unfoldable pub head_text : Head → List ℕ
 head_text head = signature ++ little_endian 2 version ++ head.reserved ++ head.stamp
 
--- the 10 bytes in front of a payload
+-- the 10 bytes before a payload
 unfoldable pub header_text : BlockHeader → List ℕ
 header_text header = header.name ++ little_endian 4 header.size ++ little_endian 2 header.flags
 
 abbrev pub header_of : PlacedBlock → BlockHeader
-header_of placed = record { name = name_of placed.block; size = length (payload_of placed.block); flags = placed.flags }
+header_of placed = record {
+  name = name_of placed.block;
+  size = length (payload_of placed.block);
+  flags = placed.flags;
+}
 
 -- a block is its header and its payload
 unfoldable pub block_text : PlacedBlock → List ℕ
 block_text placed = header_text (header_of placed) ++ payload_of placed.block
 
 -- the header and some blocks, one after the other
-unfoldable pub front_text : Head → List PlacedBlock → List ℕ
-front_text head blocks = head_text head ++ flat_map block_text blocks
+unfoldable pub prefix_text : Head → List PlacedBlock → List ℕ
+prefix_text head blocks = head_text head ++ flat_map block_text blocks
 
 -- the end is a block header without a payload
 abbrev pub end_header : ℕ → BlockHeader
 end_header flags = record { name = end_name; size = 0; flags = flags }
 
 unfoldable pub text : ImageValue → List ℕ
-text image = front_text image.head image.blocks ++ header_text (end_header image.eof_flags)
+text image = prefix_text image.head image.blocks ++ header_text (end_header image.eof_flags)

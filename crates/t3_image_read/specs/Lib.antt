@@ -1,7 +1,6 @@
 pub mod ImageText
 pub mod Validity
 pub mod Refusal
-pub mod Faults
 pub mod Numbers
 pub mod Reader
-pub mod Taking
+pub mod Inner

@@ -1,5 +1,5 @@
 -- What a reader answers, by the bytes that it has taken so far.
-use Rattle.std.specs.Prelude.{◌≡◌, ◌≢◌, ℕ, ◌≤◌, List, ◌++◌, length, take, Result, Ok, Err}
+use Rattle.std.specs.Prelude.{◌≡◌, ◌≢◌, ℕ, ◌+◌, ◌≤◌, List, ◌++◌, length, take, Result, Ok, Err}
 use Rattle.t3_image_read.specs.declared.reader.Fed.{Fed}
 use Rattle.t3_image_read.specs.declared.reader.Fed.TheVariants.{More, Done}
 use Rattle.t3_image_read.specs.declared.refusal.ReadRefusal.{ReadRefusal}
@@ -15,16 +15,17 @@ pub data Reading : Type 0 where
   Ended : (image : ImageValue) → Reading
   Failed : (refusal : ReadRefusal) → Reading
 
--- the stream so far is refused, whatever comes behind, and not for being cut; want of memory says nothing of it
+-- the stream so far is refused, whatever comes after, and not for being cut; want of memory says nothing of it
 abbrev pub RefusesBy : List ℕ → ReadRefusal → Type 0
-RefusesBy stream (At place why) = (why ≢ Truncated) × ((more : List ℕ) → Refused (stream ++ more) place why)
+RefusesBy stream (At place why) =
+    (why ≢ Truncated) × ((more : List ℕ) → Refused (stream ++ more) place why)
 RefusesBy stream NoMemory = Unit {0}
 
 -- the stream so far is refused only for being cut
 abbrev pub IsCutSoFar : List ℕ → Type 0
 IsCutSoFar stream = (place : ℕ) × Refused stream place Truncated
 
--- the image ends behind so many bytes of the piece
+-- the image ends after so many bytes of the piece
 pub record EndsIn (before piece : List ℕ) (used : ℕ) (image : ImageValue) : Type 0 where
   pub valid : IsValid image
   pub within : used ≤ length piece
@@ -32,18 +33,29 @@ pub record EndsIn (before piece : List ℕ) (used : ℕ) (image : ImageValue) : 
 
 -- what feeding a piece answers, and how the reader stands then
 abbrev pub TakesPiece : List ℕ → List ℕ → Result Fed ReadRefusal → Reading → Type 0
-TakesPiece before piece (Ok More) after = (after ≡ Taking (before ++ piece)) × IsCutSoFar (before ++ piece)
-TakesPiece before piece (Ok (Done used)) after = (image : ImageValue) × (after ≡ Ended image) × EndsIn before piece used image
-TakesPiece before piece (Err refusal) after = (after ≡ Failed refusal) × RefusesBy (before ++ piece) refusal
+TakesPiece before piece (Ok More) after =
+    (after ≡ Taking (before ++ piece)) × IsCutSoFar (before ++ piece)
+TakesPiece before piece (Ok (Done used)) after =
+    (image : ImageValue) × (after ≡ Ended image) × EndsIn before piece used image
+TakesPiece before piece (Err refusal) after =
+    (after ≡ Failed refusal) × RefusesBy (before ++ piece) refusal
 
--- behind an image nothing is taken, and a refusal is answered again
+-- after an image nothing is taken, and a refusal is answered again
 abbrev pub Feeds : Reading → List ℕ → Result Fed ReadRefusal → Reading → Type 0
 Feeds (Taking before) piece answer after = TakesPiece before piece answer after
 Feeds (Ended image) piece answer after = (answer ≡ Ok (Done 0)) × (after ≡ Ended image)
 Feeds (Failed refusal) piece answer after = (answer ≡ Err refusal) × (after ≡ Failed refusal)
 
+-- what two pieces in a row answer as one, of which the first has so many bytes: the bytes that the image used of both are counted
+abbrev pub joined_answer : ℕ → Result Fed ReadRefusal → Result Fed ReadRefusal
+    → Result Fed ReadRefusal
+joined_answer long (Ok More) (Ok (Done used)) = Ok (Done (long + used))
+joined_answer long (Ok More) second = second
+joined_answer long first second = first
+
 -- the image, or the refusal of the stream that ends here
 abbrev pub Finishes : Reading → Result ImageValue ReadRefusal → Type 0
-Finishes (Taking stream) answer = (place : ℕ) × (answer ≡ Err (At place Truncated)) × Refused stream place Truncated
+Finishes (Taking stream) answer =
+    (place : ℕ) × (answer ≡ Err (At place Truncated)) × Refused stream place Truncated
 Finishes (Ended image) answer = answer ≡ Ok image
 Finishes (Failed refusal) answer = answer ≡ Err refusal

@@ -3,7 +3,7 @@ use Rattle.std.specs.Prelude.{◌≡◌, ℕ, ◌^◌, ◌<◌, ◌≤◌, false
 use Rattle.std.specs.List.{AllByRecursion}
 use Rattle.t3_blocks.specs.BlockName.{is_unknown_mandatory}
 use Rattle.t3_blocks.specs.Spelling.{IsSpellable, name_of, payload_of, image_limit}
-use Rattle.t3_image_read.specs.ImageText.{ImageValue, front_text, text}
+use Rattle.t3_image_read.specs.ImageText.{ImageValue, prefix_text, text}
 use Rattle.t3_image_read.specs.declared.header.BlockHeader.{BlockHeader}
 use Rattle.t3_image_read.specs.declared.image.Head.{Head}
 use Rattle.t3_image_read.specs.declared.image.PlacedBlock.{PlacedBlock}
@@ -31,13 +31,13 @@ pub record IsGood (placed : PlacedBlock) : Type 0 where
   pub known : is_unknown_mandatory (name_of placed.block) placed.flags ≡ false
 
 -- a good header and whole good blocks, within the limits
-pub record IsFront (first : Head) (placed : List PlacedBlock) : Type 0 where
+pub record IsGoodPrefix (first : Head) (placed : List PlacedBlock) : Type 0 where
   pub head : IsHead first
   pub blocks : AllByRecursion IsGood placed
   pub count : length placed ≤ header_limit
-  pub size : length (front_text first placed) ≤ image_limit
+  pub size : length (prefix_text first placed) ≤ image_limit
 
--- and for an image there is room for the end behind them
+-- and for an image there is room for the end after them
 pub record IsValid (image : ImageValue) : Type 0 where
   pub head : IsHead image.head
   pub blocks : AllByRecursion IsGood image.blocks

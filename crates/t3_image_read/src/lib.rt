@@ -2,6 +2,14 @@
 //!
 //! An [`ImageReader`] is fed until it is done or refuses. The image, and the rule that is broken with its
 //! place, depend on the stream alone, and not on how it was cut.
+//!
+//! ```
+//! let mut reader = ImageReader::new(alloc);
+//! assert_eq!(reader.feed(&bytes[..70])?, Fed::More);
+//! assert_eq!(reader.feed(&bytes[70..])?, Fed::Done { used: 22 });
+//! let image = reader.finish()?;
+//! assert_eq!(image.blocks.0.len(), 1);
+//! ```
 #![tactic(auto)]
 
 mod header;
@@ -15,6 +23,6 @@ mod tests;
 
 pub use header::{HEAD_SIZE, HEADER_SIZE, SIGNATURE, VERSION};
 pub use image::{Head, Image, Placed, PlacedBlock};
-pub use laws::one_reading;
+pub use laws::{one_reading, pieces_joined};
 pub use reader::{Fed, ImageReader};
 pub use refusal::{ReadRefusal, ReadWhy};

@@ -1,15 +1,19 @@
 //! Takes a stream run by run: the header, then each block's header and payload.
 ghost use Rattle.std.specs.Prelude.{◌≡◌, ◌<◌, ◌≤◌, [], ◌++◌, length, IfOk, IfErr};
 ghost use Rattle.t3_image_read.specs.Refusal.{head_place};
+ghost use Rattle.t3_image_read.specs.Validity.{IsValid};
 ghost use Rattle.t3_image_read.specs.Reader.{RefusesBy};
-ghost use Rattle.t3_image_read.specs.Taking.{size_of, taken, AtPart, IsSound, Holds, Settles, TakesRun, TakesAll};
+ghost use Rattle.t3_image_read.specs.Inner.Faults.{head_why, payload_refusal};
+ghost use Rattle.t3_image_read.specs.Inner.Steps.{size_of, stream_of, image_of, AtPart, IsSound, Holds, Advances, TakesRun, TakesAll};
 
-use crate::header::{BlockHeader, HEAD_SIZE, HEADER_SIZE, head_fault, header_fault, read_head};
-use crate::image::{Head, PlacedBlock};
+use crate::header::{
+    BlockHeader, HEAD_SIZE, HEADER_SIZE, HeadFault, VERSION_AT, head_fault, header_fault, read_head,
+};
+use crate::image::{Head, Image, Placed, PlacedBlock};
 use crate::refusal::{ReadRefusal, ReadWhy};
 use std::alloc::{AllocError, Global};
 use std::mem;
-use t3_blocks::{BlockRefusal, END_NAME, take_block};
+use t3_blocks::{BlockKind, PayloadRefusal, take_block};
 use t3_holder::Bytes;
 
 /// The part of an image that comes next, or that is there in part.
@@ -17,7 +21,7 @@ use t3_holder::Bytes;
 pub(crate) enum Part {
     InHead,
     InHeader,
-    InPayload(BlockHeader),
+    InPayload(BlockHeader, BlockKind),
 }
 
 /// The image so far, and the bytes of the part that isn't whole yet.
@@ -40,7 +44,7 @@ impl Part {
         match self {
             Part::InHead => HEAD_SIZE,
             Part::InHeader => HEADER_SIZE,
-            Part::InPayload(header) => header.size as usize,
+            Part::InPayload(header, _) => header.size as usize,
         }
     }
 }
@@ -49,7 +53,7 @@ impl Taker {
     /// Before the first byte. It takes no memory.
     pub(crate) fn new(alloc: Global) -> Taker
         ensures sound { IsSound result }
-        ensures nothing { taken result ≡ [] }
+        ensures nothing { stream_of result ≡ [] }
     {
         Taker {
             alloc,
@@ -64,12 +68,24 @@ impl Taker {
         }
     }
 
+    /// The image that ends with these flags.
+    pub(crate) fn into_image(self, eof_flags: u16) -> Image
+        requires { IsValid (image_of self eof_flags) }
+        ensures { result ≡ image_of self eof_flags }
+    {
+        Image {
+            head: self.head,
+            blocks: Placed(self.blocks),
+            eof_flags,
+        }
+    }
+
     /// Takes a piece up to the end of the image, and answers how many bytes that was and the end's
     /// flags, or `None` where all of it was taken and the image goes on.
     pub(crate) fn feed(&mut self, piece: &[u8]) -> Result<Option<(usize, u16)>, ReadRefusal>
         requires { IsSound self.old }
         ensures taken { IfOk result (TakesAll self.old self.new piece.now) }
-        ensures refused { IfErr result (RefusesBy (taken self.old ++ piece.now)) }
+        ensures refused { IfErr result (RefusesBy (stream_of self.old ++ piece.now)) }
     {
         let mut at = 0;
         while at < piece.len() {
@@ -87,10 +103,10 @@ impl Taker {
         requires sound { IsSound self.old }
         requires some { 0 < length rest.now }
         ensures taken { IfOk result (TakesRun self.old self.new rest.now) }
-        ensures refused { IfErr result (RefusesBy (taken self.old ++ rest.now)) }
+        ensures refused { IfErr result (RefusesBy (stream_of self.old ++ rest.now)) }
     {
         let count = self.hold(rest)?;
-        let end = self.settle()?;
+        let end = self.advance()?;
         Ok((count, end))
     }
 
@@ -113,29 +129,28 @@ impl Taker {
 
     /// Goes on to the next part where this one is whole, and answers the flags of the end where it was
     /// that.
-    fn settle(&mut self) -> Result<Option<u16>, ReadRefusal>
+    fn advance(&mut self) -> Result<Option<u16>, ReadRefusal>
         requires at { AtPart self.old.part self.old }
         requires within { length self.old.held.items ≤ size_of self.old.part }
-        ensures settled { IfOk result (Settles self.old self.new) }
-        ensures refused { IfErr result (RefusesBy (taken self.old)) }
+        ensures advanced { IfOk result (Advances self.old self.new) }
+        ensures refused { IfErr result (RefusesBy (stream_of self.old)) }
     {
         match self.part {
-            Part::InHead => self.settle_head(),
-            Part::InHeader => self.settle_header(),
-            Part::InPayload(header) => self.settle_payload(header),
+            Part::InHead => self.advance_from_head(),
+            Part::InHeader => self.advance_from_header(),
+            Part::InPayload(header, kind) => self.advance_from_payload(header, kind),
         }
     }
 
-    fn settle_head(&mut self) -> Result<Option<u16>, ReadRefusal>
+    fn advance_from_head(&mut self) -> Result<Option<u16>, ReadRefusal>
         requires part { self.old.part ≡ Part.InHead }
         requires at { AtPart self.old.part self.old }
         requires within { length self.old.held.items ≤ size_of self.old.part }
-        ensures settled { IfOk result (Settles self.old self.new) }
-        ensures refused { IfErr result (RefusesBy (taken self.old)) }
+        ensures advanced { IfOk result (Advances self.old self.new) }
+        ensures refused { IfErr result (RefusesBy (stream_of self.old)) }
     {
-        match head_fault(&self.held) {
-            None => {}
-            Some(why) => return Err(refused_head(why)),
+        if let Some(fault) = head_fault(&self.held) {
+            return Err(refused_head(fault));
         }
         if self.held.len() == HEAD_SIZE {
             self.head = read_head(&self.held);
@@ -146,67 +161,88 @@ impl Taker {
         Ok(None)
     }
 
-    fn settle_header(&mut self) -> Result<Option<u16>, ReadRefusal>
+    fn advance_from_header(&mut self) -> Result<Option<u16>, ReadRefusal>
         requires part { self.old.part ≡ Part.InHeader }
         requires at { AtPart self.old.part self.old }
         requires within { length self.old.held.items ≤ size_of self.old.part }
-        ensures settled { IfOk result (Settles self.old self.new) }
-        ensures refused { IfErr result (RefusesBy (taken self.old)) }
+        ensures advanced { IfOk result (Advances self.old self.new) }
+        ensures refused { IfErr result (RefusesBy (stream_of self.old)) }
     {
         if self.held.len() < HEADER_SIZE {
             return Ok(None);
         }
         let header = BlockHeader::read(&self.held);
+        let kind = BlockKind::of(header.name);
         let place = self.place;
-        match header_fault(self.blocks.len(), place, header) {
-            None => {}
-            Some(why) => return Err(ReadRefusal::At { place, why }),
+        if let Some(fault) = header_fault(self.blocks.len(), place, header, kind) {
+            return Err(ReadRefusal::At {
+                place,
+                why: fault.why(),
+            });
         }
-        if header.name == END_NAME {
-            return Ok(Some(header.flags));
+        match kind {
+            BlockKind::End => Ok(Some(header.flags)),
+            _ => {
+                self.held.clear();
+                self.part = Part::InPayload(header, kind);
+                self.advance_from_payload(header, kind)
+            }
         }
-        self.held.clear();
-        self.part = Part::InPayload(header);
-        self.settle_payload(header)
     }
 
-    fn settle_payload(&mut self, header: BlockHeader) -> Result<Option<u16>, ReadRefusal>
-        requires part { self.old.part ≡ Part.InPayload header }
+    fn advance_from_payload(
+        &mut self,
+        header: BlockHeader,
+        kind: BlockKind,
+    ) -> Result<Option<u16>, ReadRefusal>
+        requires part { self.old.part ≡ Part.InPayload header kind }
         requires at { AtPart self.old.part self.old }
         requires within { length self.old.held.items ≤ size_of self.old.part }
-        ensures settled { IfOk result (Settles self.old self.new) }
-        ensures refused { IfErr result (RefusesBy (taken self.old)) }
+        ensures advanced { IfOk result (Advances self.old self.new) }
+        ensures refused { IfErr result (RefusesBy (stream_of self.old)) }
     {
         if self.held.len() < header.size as usize {
             return Ok(None);
         }
         let payload = mem::replace(&mut self.held, Vec::new(self.alloc));
-        let block = match take_block(self.alloc, header.name, header.flags, Bytes(payload)) {
-            Ok(block) => block,
-            Err(BlockRefusal::Malformed { items }) => {
-                let why = ReadWhy::Malformed { items };
-                return Err(ReadRefusal::At {
-                    place: self.place,
-                    why,
-                });
+        match take_block(self.alloc, kind, header.name, Bytes(payload)) {
+            Ok(block) => {
+                self.blocks.push(PlacedBlock {
+                    flags: header.flags,
+                    block,
+                })?;
+                self.part = Part::InHeader;
+                self.place += HEADER_SIZE as u32 + header.size;
+                Ok(None)
             }
-            Err(BlockRefusal::NoMemory) => return Err(ReadRefusal::NoMemory),
-            Err(BlockRefusal::UnknownMandatory) => unreachable!(),
-        };
-        self.blocks.push(PlacedBlock {
-            flags: header.flags,
-            block,
-        })?;
-        self.part = Part::InHeader;
-        self.place += HEADER_SIZE as u32 + header.size;
-        Ok(None)
+            Err(refusal) => Err(refused_payload(self.place, refusal)),
+        }
     }
 }
 
-/// The refusal by a rule of the header. Only the version has a place of its own.
-fn refused_head(why: ReadWhy) -> ReadRefusal
-    ensures { result ≡ ReadRefusal.At (head_place why) why }
+/// The refusal by a fault of the header. Only the version has a place of its own.
+fn refused_head(fault: HeadFault) -> ReadRefusal
+    ensures { result ≡ ReadRefusal.At (head_place (head_why fault)) (head_why fault) }
 {
-    let place = if why == ReadWhy::Version { 11 } else { 0 };
-    ReadRefusal::At { place, why }
+    let place = match fault {
+        HeadFault::Signature => 0,
+        HeadFault::Version => VERSION_AT as u32,
+    };
+    ReadRefusal::At {
+        place,
+        why: fault.why(),
+    }
+}
+
+/// The refusal by the payload of a block that begins at a place.
+fn refused_payload(place: u32, refusal: PayloadRefusal) -> ReadRefusal
+    ensures { result ≡ payload_refusal place refusal }
+{
+    match refusal {
+        PayloadRefusal::Malformed { items } => ReadRefusal::At {
+            place,
+            why: ReadWhy::Malformed { items },
+        },
+        PayloadRefusal::NoMemory => ReadRefusal::NoMemory,
+    }
 }

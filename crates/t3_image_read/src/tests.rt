@@ -2,7 +2,8 @@
 use super::*;
 use std::alloc::{AllocError, Global};
 use std::test::Fail;
-use t3_blocks::Block;
+use t3_blocks::{Block, BlockRefusal, PayloadRefusal};
+use t3_holder::NoMemory;
 
 /// A header whose reserved bytes are 0 and whose time is spaces, a block, and the end.
 fn image(alloc: Global, flags: u8) -> Result<Vec<u8>, AllocError> {
@@ -20,15 +21,15 @@ fn reads_an_image_in_pieces_of_each_length(rt: HostRuntime) -> Result<(), Fail> 
     let mut bytes = image(rt.alloc(), 0)?;
     let end = bytes.len();
     assert_eq!(rt; end, 92);
-    // What stands behind the end is left alone.
-    bytes.extend_from_slice(b"behind")?;
+    // What stands after the end is left alone.
+    bytes.extend_from_slice(b"trailing")?;
     for length in 1..=bytes.len() {
         let mut reader = ImageReader::new(rt.alloc());
         let mut taken = 0;
         for piece in bytes.chunks(length) {
             let fed = reader.feed(piece)?;
             if taken >= end {
-                assert_eq!(rt; fed, Fed::Done { used: 0 }, "behind the end, by {length}");
+                assert_eq!(rt; fed, Fed::Done { used: 0 }, "after the end, by {length}");
             } else if taken + piece.len() >= end {
                 assert_eq!(rt;
                     fed,
@@ -73,7 +74,7 @@ fn refuses_a_malformed_payload_in_pieces_of_each_length(rt: HostRuntime) -> Resu
         let mut taken = 0usize;
         for piece in bytes.chunks(length) {
             taken = taken.saturating_add(piece.len());
-            // The payload ends behind 97 bytes.
+            // The payload ends after 97 bytes.
             let want = if taken < 97 {
                 Ok(Fed::More)
             } else {
@@ -98,7 +99,7 @@ fn refuses_an_image_in_pieces_of_each_length(rt: HostRuntime) -> Result<(), Fail
         let mut taken = 0usize;
         for piece in bytes.chunks(length) {
             taken = taken.saturating_add(piece.len());
-            // The block's header ends behind 79 bytes.
+            // The block's header ends after 79 bytes.
             let want = if taken < 79 {
                 Ok(Fed::More)
             } else {
@@ -114,9 +115,9 @@ fn refuses_an_image_in_pieces_of_each_length(rt: HostRuntime) -> Result<(), Fail
 #[test]
 fn refuses_what_ends_too_early(rt: HostRuntime) -> Result<(), Fail> {
     let bytes = image(rt.alloc(), 0)?;
-    let front = bytes.get(..68).ok_or("the image has a header")?;
+    let prefix = bytes.get(..68).ok_or("the image has a header")?;
     let mut cut = ImageReader::new(rt.alloc());
-    assert_eq!(rt; cut.feed(front)?, Fed::More);
+    assert_eq!(rt; cut.feed(prefix)?, Fed::More);
     let refusal = ReadRefusal::At {
         place: 0,
         why: ReadWhy::Truncated,
@@ -164,5 +165,78 @@ fn counts_the_end_among_the_blocks(rt: HostRuntime) -> Result<(), Fail> {
         why: ReadWhy::TooMany,
     };
     assert_eq!(rt; other.feed(end), Err(refusal));
+    Ok(())
+}
+
+/// The text of every error that these crates answer.
+#[test]
+fn shows_what_is_refused_and_where(rt: HostRuntime) -> Result<(), Fail> {
+    let rules = [
+        (ReadWhy::Signature, "the signature is another"),
+        (ReadWhy::Version, "the version isn't 1"),
+        (ReadWhy::TooLong, "the block ends past the greatest image"),
+        (ReadWhy::TooMany, "the block is one too many"),
+        (
+            ReadWhy::UnknownMandatory,
+            "the block is mandatory and unknown",
+        ),
+        (
+            ReadWhy::Malformed { items: 3 },
+            "the block's payload is malformed after 3 items",
+        ),
+        (ReadWhy::EofSize, "the end has a payload"),
+        (ReadWhy::Truncated, "the stream ends too early"),
+    ];
+    for (why, wanted) in rules {
+        let text = format!(in rt.alloc(); "{why}")?;
+        assert_eq!(rt; text.as_str(), wanted);
+        let refusal = ReadRefusal::At { place: 82, why };
+        let text = format!(in rt.alloc(); "{refusal}")?;
+        let wanted = format!(in rt.alloc(); "an image is refused at 82: {wanted}")?;
+        assert_eq!(rt; text.as_str(), wanted.as_str());
+    }
+    let blocks = [
+        (
+            BlockRefusal::UnknownMandatory,
+            "an unknown block is mandatory",
+        ),
+        (
+            BlockRefusal::Malformed { items: 3 },
+            "a block's payload is malformed after 3 items",
+        ),
+        (BlockRefusal::NoMemory, "out of memory"),
+    ];
+    for (refusal, wanted) in blocks {
+        let text = format!(in rt.alloc(); "{refusal}")?;
+        assert_eq!(rt; text.as_str(), wanted);
+    }
+    let malformed = PayloadRefusal::Malformed { items: 3 };
+    let text = format!(in rt.alloc(); "{malformed}")?;
+    assert_eq!(rt;
+        text.as_str(),
+        "a block's payload is malformed after 3 items"
+    );
+    let wants = format!(in rt.alloc();
+        "{}, {}, {}",
+        NoMemory,
+        PayloadRefusal::NoMemory,
+        ReadRefusal::NoMemory
+    )?;
+    assert_eq!(rt;
+        wants.as_str(),
+        "out of memory, out of memory, out of memory"
+    );
+    Ok(())
+}
+
+/// The example of the crate's first page.
+#[test]
+fn reads_an_image_in_two_pieces(rt: HostRuntime) -> Result<(), Fail> {
+    let bytes = image(rt.alloc(), 0)?;
+    let (first, second) = bytes.split_at_checked(70).ok_or("the image is longer")?;
+    let mut reader = ImageReader::new(rt.alloc());
+    assert_eq!(rt; reader.feed(first)?, Fed::More);
+    assert_eq!(rt; reader.feed(second)?, Fed::Done { used: 22 });
+    assert_eq!(rt; reader.finish()?.blocks.0.len(), 1);
     Ok(())
 }

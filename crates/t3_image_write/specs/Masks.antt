@@ -6,12 +6,12 @@ use Rattle.t3_image_read.specs.ImageText.{ImageValue}
 use Rattle.t3_image_read.specs.declared.image.PlacedBlock.{PlacedBlock}
 
 -- a page gets the mask, any other block stays
-abbrev pub remasked_block : ℕ → Block → Block
-remasked_block mask (Page pool index own bytes) = Page pool index mask bytes
-remasked_block mask block = block
+abbrev pub remask_block_of : ℕ → Block → Block
+remask_block_of mask (Page pool index own bytes) = Page pool index mask bytes
+remask_block_of mask block = block
 
-abbrev pub remasked_placed : ℕ → PlacedBlock → PlacedBlock
-remasked_placed mask placed = record placed { block = remasked_block mask placed.block }
+abbrev pub remask_placed_of : ℕ → PlacedBlock → PlacedBlock
+remask_placed_of mask placed = record placed { block = remask_block_of mask placed.block }
 
-abbrev pub remasked : ℕ → ImageValue → ImageValue
-remasked mask image = record image { blocks = map (remasked_placed mask) image.blocks }
+abbrev pub remask_of : ℕ → ImageValue → ImageValue
+remask_of mask image = record image { blocks = map (remask_placed_of mask) image.blocks }

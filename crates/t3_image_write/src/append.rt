@@ -1,5 +1,5 @@
 //! The parts of an image, appended to bytes.
-ghost use Rattle.t3_blocks.specs.Appending.{Appends};
+ghost use Rattle.t3_blocks.specs.Inner.Appending.{Appends};
 ghost use Rattle.t3_image_read.specs.ImageText.{head_text, header_text, block_text, end_header};
 ghost use Rattle.t3_image_read.specs.Validity.{IsGood};
 
@@ -34,9 +34,10 @@ pub(crate) fn append_end(flags: u16, out: &mut Vec<u8>) -> Result<(), NoMemory>
     append_header(END_NAME, 0, flags, out)
 }
 
-/// Appends the 10 bytes in front of a payload.
+/// Appends the 10 bytes before a payload.
 fn append_header(name: [u8; 4], size: u32, flags: u16, out: &mut Vec<u8>) -> Result<(), NoMemory>
-    ensures { Appends out.old.items out.new.items (header_text (record { name = name; size = size; flags = flags })) result }
+    ensures { Appends out.old.items out.new.items
+        (header_text (record { name = name; size = size; flags = flags })) result }
 {
     append_bytes(&name, out)?;
     append_bytes(&u32_bytes(size), out)?;

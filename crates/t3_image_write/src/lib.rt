@@ -1,4 +1,10 @@
 //! Writes an image as the bytes that spell it, and puts its pages under another mask.
+//!
+//! ```
+//! let mut image = reader.finish()?;
+//! remask(&mut image, 0);
+//! let plain = write_image(alloc, &image)?;
+//! ```
 #![tactic(auto)]
 
 mod append;

@@ -64,6 +64,7 @@ fn writes_an_image_without_blocks(rt: HostRuntime) -> Result<(), Fail> {
     Ok(())
 }
 
+/// The example of the crate's first page.
 #[test]
 fn puts_a_page_under_another_mask(rt: HostRuntime) -> Result<(), Fail> {
     let mut image = read(rt.alloc(), &image(rt.alloc(), MASKED)?)?;

@@ -1,6 +1,6 @@
 ghost use Rattle.std.specs.Prelude.{◌≡◌, ◌++◌, IfOk};
 ghost use Rattle.std.specs.List.{flat_map, AllByRecursion};
-ghost use Rattle.t3_blocks.specs.Appending.{Appends};
+ghost use Rattle.t3_blocks.specs.Inner.Appending.{Appends};
 ghost use Rattle.t3_image_read.specs.ImageText.{block_text, text};
 ghost use Rattle.t3_image_read.specs.Validity.{IsGood};
 

@@ -1,35 +1,5 @@
-use Rattle.std.proofs.Common.{◌≡◌, ◌^◌, ◌<◌, take, refl, sym, ap, inl, inr, ◌∙◌, arith}
-use Rattle.t3_holder.specs.NumberText.{little_endian}
-use Rattle.t3_blocks.specs.Spelling.{name_text, IsName}
-use Rattle.t3_blocks.proofs.ItemLists.{is_empty, not_empty}
-use Rattle.t3_blocks.proofs.Counted.{counted_at, counted_behind, counted_whole, spells_functions}
+use Rattle.t3_blocks.proofs.Counted.{spells_functions}
 use Rattle.t3_blocks.proofs.functions.functions.Goals as goal
 
-pub returns-then-payload-lt2 : goal.returns-then-payload-lt2
-returns-then-payload-lt2 c = (inr (inl (refl, inl (c.if-payload-lt2.true, refl))))
-
-pub returns-in-None : goal.returns-in-None
-returns-in-None c =
-    let payload = c.args.payload.now in
-    let due = c.from-due.result in
-    let fits : due < 2 ^ 16 = omega (arith, c.from-due.ensures, c.u16_at.type_inv) in
-    let is : take 2 payload ≡ little_endian 2 due = c.u16_at.ensures ∙ ap (little_endian 2) (sym c.from-due.ensures) in
-    (inr (inl (refl, counted_at name_text IsName payload c.loop-alloc.rest.now due c.len-in-None.result c.loop-alloc.names.items fits is c.loop-alloc.invariant (omega (arith, c.len-in-None.ensures, c.loop-alloc.names.ok.0)) (omega (arith, c.len.ensures, c.len-in-None.ensures, c.loop-alloc-test.true)) c.in-None.ensures)))
-
-pub returns-then-not-is_empty : goal.returns-then-not-is_empty
-returns-then-not-is_empty c =
-    let payload = c.args.payload.now in
-    let due = c.from-due.result in
-    let within = c.loop-alloc.invariant.within in
-    let fits : due < 2 ^ 16 = omega (arith, c.from-due.ensures, c.u16_at.type_inv) in
-    let is : take 2 payload ≡ little_endian 2 due = c.u16_at.ensures ∙ ap (little_endian 2) (sym c.from-due.ensures) in
-    (inr (inl (refl, counted_behind name_text IsName payload c.loop-alloc.rest.now due c.loop-alloc.names.items fits is c.loop-alloc.invariant (omega (arith, c.len.ensures, c.loop-alloc.names.ok.0, c.loop-alloc-test.false)) (not_empty c.loop-alloc.rest.now c.if-not-is_empty.ensures))))
-
 pub returns : goal.returns
-returns c =
-    let payload = c.args.payload.now in
-    let due = c.from-due.result in
-    let within = c.loop-alloc.invariant.within in
-    let fits : due < 2 ^ 16 = omega (arith, c.from-due.ensures, c.u16_at.type_inv) in
-    let is : take 2 payload ≡ little_endian 2 due = c.u16_at.ensures ∙ ap (little_endian 2) (sym c.from-due.ensures) in
-    spells_functions payload c.loop-alloc.names.items (counted_whole name_text IsName payload c.loop-alloc.rest.now due c.loop-alloc.names.items fits is c.loop-alloc.invariant (omega (arith, c.len.ensures, c.loop-alloc.names.ok.0, c.loop-alloc-test.false)) (is_empty c.loop-alloc.rest.now c.if-not-is_empty.ensures))
+returns c = spells_functions c.args.payload.now c.in_ok-take_counted.field-0.items c.in_ok-take_counted.ensures

@@ -9,4 +9,6 @@ returns c =
     let i = c.args.at in
     let text = get_or xs i 0 ∷ get_or xs (i + 1) 0 ∷ [] in
     let says : value_of text ≡ c.from_le_bytes.result = omega (arith, c.from_le_bytes.ensures) in
-    two_at xs i c.requires ∙ sym (little_endian-value_of text (omega (arith, c.type_inv.bytes i), (omega (arith, c.type_inv.bytes (i + 1)), tt))) ∙ ap (little_endian 2) says
+    two_at xs i c.requires ∙ sym
+    (little_endian-value_of text (omega (arith, c.type_inv.bytes i), (omega (arith, c.type_inv.bytes (i + 1)), tt)))
+    ∙ ap (little_endian 2) says

@@ -9,4 +9,11 @@ returns c =
     let i = c.args.at in
     let text = get_or xs i 0 ∷ get_or xs (i + 1) 0 ∷ get_or xs (i + 2) 0 ∷ get_or xs (i + 3) 0 ∷ [] in
     let says : value_of text ≡ c.from_le_bytes.result = omega (arith, c.from_le_bytes.ensures) in
-    four_at xs i c.requires ∙ sym (little_endian-value_of text (omega (arith, c.type_inv.bytes i), (omega (arith, c.type_inv.bytes (i + 1)), (omega (arith, c.type_inv.bytes (i + 2)), (omega (arith, c.type_inv.bytes (i + 3)), tt))))) ∙ ap (little_endian 4) says
+    four_at xs i c.requires ∙ sym
+    (little_endian-value_of text (
+      omega (arith, c.type_inv.bytes i),
+      (
+        omega (arith, c.type_inv.bytes (i + 1)),
+        (omega (arith, c.type_inv.bytes (i + 2)), (omega (arith, c.type_inv.bytes (i + 3)), tt)),
+      ),
+    )) ∙ ap (little_endian 4) says

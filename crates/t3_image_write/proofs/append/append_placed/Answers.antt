@@ -7,5 +7,7 @@ returns c =
     let mid = c.append_header.new.out.items in
     let new = c.append_block.new.out.items in
     let answer = c.append_block.result in
-    let payload = appends_or_leaves mid new (payload_of c.args.placed.now.block) answer c.append_block.ensures.appended c.append_block.ensures.kept in
-    appends_placed c.args.out.now.items mid new c.name.result c.payload_size-size.result c.args.placed.now answer c.name.ensures c.payload_size-size.ensures c.in_ok-append_header.ensures payload
+    let payload =
+    appends_or_leaves mid new (payload_of c.args.placed.now.block) answer c.append_block.ensures.appended c.append_block.ensures.kept in
+    appends_placed c.args.out.now.items mid new c.name.result c.payload_size-size.result c.args.placed.now answer c.name.ensures
+    c.payload_size-size.ensures c.in_ok-append_header.ensures payload

@@ -12,8 +12,8 @@ returns-clause-reads_back c image valid = record {
 }
 
 pub returns-clause-alone : goal.returns-clause-alone
-returns-clause-alone c a b behind valid_a valid_b e =
-    let parts = one_image a b [] behind valid_a valid_b (append-nil (text a) ∙ e) in
+returns-clause-alone c a b trailing valid_a valid_b e =
+    let parts = one_image a b [] trailing valid_a valid_b (append-nil (text a) ∙ e) in
     (parts.0, sym parts.1)
 
 pub returns-clause-writes_used : goal.returns-clause-writes_used

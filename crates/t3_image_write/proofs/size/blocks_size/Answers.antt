@@ -10,4 +10,9 @@ overflow_add-size c =
     let loop = c.loop-placed in
     let there = c.deref-placed-items.ensures.value ∙ c.blocks-2.view_is in
     let few = subst (λ (bs : List PlacedBlock). length (flat_map block_text bs) < 2 ^ 32) (sym there) c.requires.few in
-    omega (arith, c.size-size.ensures, size_within block_text c.deref-placed-items.result.now loop.placed-index loop.size c.placed-item.result c.loop-placed-test.true c.placed-item.is loop.invariant few)
+    omega (
+      arith,
+      c.size-size.ensures,
+      size_within block_text c.deref-placed-items.result.now loop.placed-index loop.size c.placed-item.result c.loop-placed-test.true
+          c.placed-item.is loop.invariant few,
+    )

@@ -1,0 +1,100 @@
+-- How the fields of a reader stand for the stream that was taken, and what each step does to them.
+use Rattle.std.specs.Prelude.{◌≡◌, ◌≢◌, ℕ, ◌<◌, ◌≤◌, List, [], ◌++◌, length, take, Option, Some, None}
+use Rattle.t3_blocks.specs.BlockName.{end_name, HasKind}
+use Rattle.t3_blocks.specs.declared.kind.BlockKind.{BlockKind}
+use Rattle.t3_image_read.specs.declared.header.BlockHeader.{BlockHeader}
+use Rattle.t3_image_read.specs.declared.taker.Part.{Part}
+use Rattle.t3_image_read.specs.declared.taker.Part.TheVariants.{InHead, InHeader, InPayload}
+use Rattle.t3_image_read.specs.declared.taker.Taker.{Taker}
+use Rattle.t3_image_read.specs.declared.reader.State.{State}
+use Rattle.t3_image_read.specs.declared.reader.State.TheVariants as states
+use Rattle.t3_image_read.specs.ImageText.{ImageValue, header_text, prefix_text, text}
+use Rattle.t3_image_read.specs.Validity.{IsHeader, IsGoodPrefix, IsValid}
+use Rattle.t3_image_read.specs.Inner.Faults.{IsGoodSoFar, IsAllowed}
+use Rattle.t3_image_read.specs.Reader.{Reading, Taking, Ended, Failed}
+
+-- how many bytes the part has
+abbrev pub size_of : Part → ℕ
+size_of InHead = 69
+size_of InHeader = 10
+size_of (InPayload header kind) = header.size
+
+-- the stream before the part
+abbrev pub text_before : Part → Taker → List ℕ
+text_before InHead t = []
+text_before InHeader t = prefix_text t.head t.blocks.items
+text_before (InPayload header kind) t = prefix_text t.head t.blocks.items ++ header_text header
+
+-- the stream that was taken
+abbrev pub stream_of : Taker → List ℕ
+stream_of t = text_before t.part t ++ t.held.items
+
+-- a good prefix of the stream ends at the place
+pub record AtBlock (t : Taker) : Type 0 where
+  pub prefix : IsGoodPrefix t.head t.blocks.items
+  pub place_is : t.place ≡ length (prefix_text t.head t.blocks.items)
+
+-- a header that breaks no rule and isn't that of the end
+pub record IsOpen (count place : ℕ) (header : BlockHeader) (kind : BlockKind) : Type 0 where
+  pub fits : IsHeader header
+  pub has_kind : HasKind header.name kind
+  pub allowed : IsAllowed count place header
+  pub not_end : header.name ≢ end_name
+
+abbrev pub AtPart : Part → Taker → Type 0
+AtPart InHead t = (t.blocks.items ≡ []) × (t.place ≡ 0)
+AtPart InHeader t = AtBlock t
+AtPart (InPayload header kind) t = AtBlock t × IsOpen (length t.blocks.items) t.place header kind
+
+abbrev pub HoldsGood : Part → List ℕ → Type 0
+HoldsGood InHead held = IsGoodSoFar held
+HoldsGood InHeader held = Unit {0}
+HoldsGood (InPayload header kind) held = Unit {0}
+
+-- the part isn't whole, and nothing is wrong so far
+pub record IsSound (t : Taker) : Type 0 where
+  pub at : AtPart t.part t
+  pub good : HoldsGood t.part t.held.items
+  pub short : length t.held.items < size_of t.part
+
+abbrev pub image_of : Taker → ℕ → ImageValue
+image_of t flags = record { head = t.head; blocks = t.blocks.items; eof_flags = flags }
+
+-- the reader as its callers see it
+abbrev pub reading_of : State → Reading
+reading_of (states.Taking t) = Taking (stream_of t)
+reading_of (states.Ended image) = Ended image
+reading_of (states.Failed refusal) = Failed refusal
+
+abbrev pub IsSoundState : State → Type 0
+IsSoundState (states.Taking t) = IsSound t
+IsSoundState (states.Ended image) = IsValid image
+IsSoundState (states.Failed refusal) = Unit {0}
+
+-- the next bytes of the part are held, at least one of them
+pub record Holds (old new : Taker) (rest : List ℕ) (count : ℕ) : Type 0 where
+  pub some : 0 < count
+  pub there : count ≤ length rest
+  pub held : new.held.items ≡ old.held.items ++ take count rest
+  pub within : length new.held.items ≤ size_of old.part
+  pub others : new ≡ record old { held = new.held }
+
+-- these bytes are taken, and the image goes on or has ended
+abbrev pub RunsTo : List ℕ → Taker → Option ℕ → Type 0
+RunsTo stream new None = IsSound new × (stream_of new ≡ stream)
+RunsTo stream new (Some flags) = IsValid (image_of new flags) × (text (image_of new flags) ≡ stream)
+
+abbrev pub Advances : Taker → Taker → Option ℕ → Type 0
+Advances old new end = RunsTo (stream_of old) new end
+
+-- so many bytes of a run are taken, at least one
+pub record TakesRun (old new : Taker) (rest : List ℕ) (run : ℕ × Option ℕ) : Type 0 where
+  pub some : 0 < run.0
+  pub there : run.0 ≤ length rest
+  pub runs : RunsTo (stream_of old ++ take run.0 rest) new run.1
+
+-- all of a piece is taken, or what the image used of it
+abbrev pub TakesAll : Taker → Taker → List ℕ → Option (ℕ × ℕ) → Type 0
+TakesAll old new piece None = RunsTo (stream_of old ++ piece) new None
+TakesAll old new piece (Some end) =
+    (end.0 ≤ length piece) × RunsTo (stream_of old ++ take end.0 piece) new (Some end.1)
