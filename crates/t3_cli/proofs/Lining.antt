@@ -6,7 +6,7 @@ use Rattle.std.proofs.lemmas.Grind.{flat_map-append}
 use Rattle.std.proofs.lemmas.List.Folds.{length-flat_map-take}
 use Rattle.t3_image_read.specs.declared.image.Head.{Head}
 use Rattle.t3_image_read.specs.declared.image.PlacedBlock.{PlacedBlock}
-use Rattle.t3_image_read.specs.ImageText.{ImageValue, head_text, block_text, front_text}
+use Rattle.t3_image_read.specs.ImageText.{ImageValue, head_text, block_text, prefix_text}
 use Rattle.t3_image_read.specs.Validity.{IsValid}
 use Rattle.t3_image_read.proofs.Heads.{length-head_text}
 use Rattle.t3_image_write.proofs.Parts.{length-text}
@@ -20,8 +20,8 @@ appends_two old mid new a b (Ok done) first second = second ∙ ap (λ t. t ++ b
 appends_two old mid new a b (Err error) first second = tt
 
 front_size : (head : Head) (blocks : List PlacedBlock)
-    → length (front_text head blocks) ≡ length (head_text head) + length (flat_map block_text blocks)
-unfolding front_text
+    → length (prefix_text head blocks) ≡ length (head_text head) + length (flat_map block_text blocks)
+unfolding prefix_text
 front_size head blocks = length-append (head_text head) (flat_map block_text blocks)
 
 -- the lines of so many blocks are there, and the rest stands after the place
@@ -48,10 +48,10 @@ lined_more first place index size blocks old now new placed so_far less is line 
       place_is =
           omega (arith, so_far.place_is, sized, same, longer, apart, length-append (flat_map block_text front) (block_text (get_or blocks index placed) ++ []), length-append (block_text (get_or blocks index placed)) []);
       lines = λ head starts.
-          let stands : place ≡ length (front_text head front) = omega (arith, so_far.place_is, starts, front_size head front) in
+          let stands : place ≡ length (prefix_text head front) = omega (arith, so_far.place_is, starts, front_size head front) in
           (λ i. line i ++ block_lines head (more i) rest)
           ∙ (λ i. (now ++ block_line (stands i) placed) ++ block_lines head (front ++ placed ∷ []) rest)
-          ∙ append_assoc now (block_line (length (front_text head front)) placed) (block_lines head (front ++ placed ∷ []) rest)
+          ∙ append_assoc now (block_line (length (prefix_text head front)) placed) (block_lines head (front ++ placed ∷ []) rest)
           ∙ ap (λ ps. now ++ block_lines head front ps) (sym next)
           ∙ so_far.lines head starts;
     }
@@ -77,7 +77,7 @@ pub image_lined : (image : ImageValue) (end : ℕ) (blocks ended whole all : Lis
     → end ≡ 69 + length (flat_map block_text image.blocks) → ended ≡ blocks ++ end_line_at end image.eof_flags → whole ≡ check_text image
     → all ≡ ended ++ whole → all ≡ show_text image
 image_lined image end blocks ended whole all valid first place last is joined =
-    let place_is : end ≡ length (front_text image.head image.blocks) = omega (arith, place, front_size image.head image.blocks, length-head_text image.head valid.head) in
+    let place_is : end ≡ length (prefix_text image.head image.blocks) = omega (arith, place, front_size image.head image.blocks, length-head_text image.head valid.head) in
     joined ∙ (λ i. last i ++ is i) ∙ (λ i. (first i ++ end_line_at (place_is i) image.eof_flags) ++ check_text image)
 
 -- the whole is within the limit

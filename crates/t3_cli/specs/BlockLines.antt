@@ -7,7 +7,7 @@ use Rattle.t3_blocks.specs.declared.block.Block.{Block}
 use Rattle.t3_blocks.specs.declared.block.Block.TheVariants.{Entry, PoolDef, Page, Functions, Metas, Objects, Symbols, Opaque}
 use Rattle.t3_image_read.specs.declared.image.Head.{Head}
 use Rattle.t3_image_read.specs.declared.image.PlacedBlock.{PlacedBlock}
-use Rattle.t3_image_read.specs.ImageText.{ImageValue, front_text, text}
+use Rattle.t3_image_read.specs.ImageText.{ImageValue, prefix_text, text}
 use Rattle.t3_cli.specs.Lines.{newline, ok_line}
 
 -- a byte of a name that isn't from 20 to 7E is shown as a question mark
@@ -43,7 +43,7 @@ block_line place placed =
 unfoldable pub block_lines : Head → List PlacedBlock → List PlacedBlock → List ℕ
 block_lines head before [] = []
 block_lines head before (placed ∷ rest) =
-    block_line (length (front_text head before)) placed ++ block_lines head (before ++ placed ∷ []) rest
+    block_line (length (prefix_text head before)) placed ++ block_lines head (before ++ placed ∷ []) rest
 
 -- the line of the block that ends an image
 abbrev pub end_line_at : ℕ → ℕ → List ℕ
@@ -51,7 +51,7 @@ end_line_at place flags = header_fields end_name place 0 flags ++ newline
 
 -- the lines of an image's blocks and of its end
 abbrev pub image_lines : ImageValue → List ℕ
-image_lines image = block_lines image.head [] image.blocks ++ end_line_at (length (front_text image.head image.blocks)) image.eof_flags
+image_lines image = block_lines image.head [] image.blocks ++ end_line_at (length (prefix_text image.head image.blocks)) image.eof_flags
 
 -- what `check` shows: how many blocks and bytes an image has
 abbrev pub check_text : ImageValue → List ℕ

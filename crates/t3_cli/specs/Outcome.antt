@@ -8,7 +8,7 @@ use Rattle.t3_image_read.specs.declared.refusal.ReadWhy.{ReadWhy}
 use Rattle.t3_image_read.specs.ImageText.{ImageValue, text}
 use Rattle.t3_image_read.specs.Validity.{IsValid}
 use Rattle.t3_image_read.specs.Refusal.{Refused}
-use Rattle.t3_image_write.specs.Masks.{remasked}
+use Rattle.t3_image_write.specs.Masks.{remask_of}
 use Rattle.t3_cli.specs.declared.status.Status.{Status}
 use Rattle.t3_cli.specs.declared.status.Status.TheVariants.{Done, Usage, Absent, ImageRefused, LoadRefused, Unhandled, BadCode, StepLimit}
 use Rattle.t3_cli.specs.declared.run.turn.End.{End}
@@ -49,7 +49,7 @@ pub record BeginsWith (bytes : List ℕ) (image : ImageValue) : Type 0 where
 -- the image with every page under the mask, where one is given
 abbrev pub masked_image : Option ℕ → ImageValue → ImageValue
 masked_image None image = image
-masked_image (Some mask) image = remasked mask image
+masked_image (Some mask) image = remask_of mask image
 
 -- what is written of an image
 abbrev pub written_text : Option ℕ → ImageValue → List ℕ
