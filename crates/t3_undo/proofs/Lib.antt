@@ -1,0 +1,5 @@
+pub mod Maps
+pub mod SlotLists
+pub mod PuttingBack
+pub mod AnyOrder
+pub mod Undoing
