@@ -3,3 +3,5 @@ pub mod SlotLists
 pub mod PuttingBack
 pub mod AnyOrder
 pub mod Undoing
+pub mod RowLists
+pub mod Apart

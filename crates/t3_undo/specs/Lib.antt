@@ -5,3 +5,4 @@ pub mod Objects
 pub mod Slots
 pub mod Journal
 pub mod UndoLaw
+pub mod Inner

@@ -3,15 +3,19 @@
 
 mod cell;
 mod content;
+mod journal;
 mod kept;
 mod key;
 mod law;
+mod mark;
 mod metaclass;
 mod numbers;
+mod rows;
 mod slots;
 
 pub use cell::Cell;
 pub use content::Content;
+pub use journal::Journal;
 pub use kept::Kept;
 pub use key::Key;
 pub use law::undo_law;
