@@ -1,4 +1,4 @@
--- Slots as lists: what they answer, and what a change of one does.
+-- Slots as lists: what they answer, and what a change of one does. Other crates may use these.
 use Rattle.std.proofs.Common.{◌≡◌, ◌∙◌, ap, sym, subst, refl, ℕ, zero, suc, ◌+◌, Bool, true, false, cond, ◌||◌, List, [], ◌∷◌, ◌++◌, length, filter, take, slice_get, Option, None, Some, IsTrue, IsSome, is_some, true≢false, add-one, arith}
 use Rattle.std.specs.Ordering.{eq_by_cmp}
 use Rattle.std.specs.Cmp.{Equal-is, eq_by_cmp_equiv}
@@ -292,3 +292,18 @@ take-at slots i slot e = rw add-one (take-next slots i slot e)
 pub filter-at : (slots : Entries) (i : ℕ) (slot : Cell × Content) → slice_get slots i ≡ Some slot
     → filter is_present (take (i + 1) slots) ≡ filter is_present (take i slots) ++ filter is_present (slot ∷ [])
 filter-at slots i slot e = ap (filter is_present) (take-at slots i slot e) ∙ filter-append is_present (take i slots) (slot ∷ [])
+
+-- the parts up to behind a slot, of which those before it don't have its cell
+new-among : (slots : Entries) (i : ℕ) (slot : Cell × Content) → IsDistinct same (keys_of slots) → slice_get slots i ≡ Some slot → list_any (same slot.0) (keys_of (take i slots)) ≡ false
+unfolding IsDistinct
+new-among [] i slot apart e = cc
+new-among (first ∷ slots) zero slot apart e = refl
+new-among (first ∷ slots) (suc i) slot apart e =
+    ap (λ b. b || list_any (same slot.0) (keys_of (take i slots))) (apart-at first.0 slots i slot apart.0 e) ∙ new-among slots i slot apart.1 e
+
+pub parts_of-at : (slots : Entries) (i : ℕ) (slot : Cell × Content) → IsDistinct same (keys_of slots) → slice_get slots i ≡ Some slot
+    → parts_of (take (i + 1) slots) ≡ set_at (parts_of (take i slots)) slot.0 (shown slot.1)
+parts_of-at slots i slot apart e = ap parts_of (take-at slots i slot e) ∙ parts_of-add (take i slots) slot.0 slot.1 (new-among slots i slot apart e)
+
+pub get-at : (slots : Entries) (i : ℕ) (slot : Cell × Content) → IsDistinct same (keys_of slots) → slice_get slots i ≡ Some slot → get (parts_of (take i slots)) slot.0 ≡ None
+get-at slots i slot apart e = get-parts_of (take i slots) slot.0 ∙ ap seen (lookup-none (take i slots) slot.0 (new-among slots i slot apart e))

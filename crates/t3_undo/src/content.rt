@@ -1,4 +1,4 @@
-ghost use Rattle.std.specs.Prelude.{◌≡◌, is_some};
+ghost use Rattle.std.specs.Prelude.{◌≡◌, is_some, option_map};
 ghost use Rattle.t3_undo.specs.Content.{shown};
 
 use t3_holder::Holder;
@@ -20,6 +20,16 @@ impl Content {
         ensures { result ≡ is_some (shown self.now) }
     {
         !matches!(self, Content::Absent)
+    }
+
+    /// The value, without a tick. `None` exactly where the content is absent.
+    pub fn value(&self) -> Option<Holder>
+        ensures { result ≡ option_map (λ present. present.value) (shown self.now) }
+    {
+        match self {
+            Content::Absent => None,
+            Content::Held(value) | Content::Slot(_, value) => Some(*value),
+        }
     }
 }
 

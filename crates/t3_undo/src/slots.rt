@@ -1,4 +1,4 @@
-ghost use Rattle.std.specs.Prelude.{◌≡◌, ◌++◌, [], ◌∷◌, false, None, Some, IsTrue, IsSome, OnOk, OnErr, IfOk, filter, length, slice_get};
+ghost use Rattle.std.specs.Prelude.{◌≡◌, ◌<◌, ◌↔◌, ◌++◌, [], ◌∷◌, false, None, Some, IsTrue, IsSome, OnOk, OnErr, IfOk, filter, length, slice_get};
 ghost use Rattle.std.specs.FinMap.{get};
 ghost use Rattle.std.specs.FinSet as set;
 ghost use Rattle.std.specs.List.{IsDistinct, list_any};
@@ -139,7 +139,8 @@ impl Slots {
 
     /// The cell and the content that stand at an index.
     pub fn slot(&self, index: usize) -> Option<(&Cell, &Content)>
-        ensures { option_map deref_pair result ≡ slice_get self.now index }
+        ensures slot { option_map deref_pair result ≡ slice_get self.now index }
+        ensures found { IsSome result ↔ (index < length self.now) }
     {
         self.cells.get_index(index)
     }

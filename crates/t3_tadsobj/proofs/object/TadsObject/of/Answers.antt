@@ -1,0 +1,6 @@
+use Rattle.t3_undo.specs.Slots.{parts_of, places_of}
+use Rattle.t3_tadsobj.proofs.object.TadsObject.of.Goals as goal
+
+pub returns : goal.returns
+unfolding parts_of
+returns c = λ i. record { parts = parts_of (c.new.ensures i); places = places_of (c.new.ensures i); supers = c.args.supers; class = c.args.class }
