@@ -1,5 +1,5 @@
 -- The properties that parts have, and how they are gathered by their numbers. Other crates may use these.
-use Rattle.std.proofs.Common.{◌≡◌, ◌∙◌, ap, sym, subst, refl, ℕ, Bool, true, false, cond, List, [], ◌∷◌, length, map, filter_map, Option, None, Some, nat_eq, arith}
+use Rattle.std.proofs.Common.{◌≡◌, ◌∙◌, ap, sym, subst, refl, ℕ, Bool, true, false, cond, List, [], ◌∷◌, length, map, filter_map, Option, None, Some, IsTrue, is_some, true≢false, ◌||◌, ◌⊎◌, inl, inr, nat_eq, arith}
 use Rattle.std.specs.declared.cmp.Ordering.{Ordering}
 use Rattle.std.specs.declared.cmp.Ordering.TheVariants.{Less, Equal, Greater}
 use Rattle.std.specs.Ordering.{nat_cmp, eq_by_cmp, is_eq, ordering_then, match_ordering}
@@ -14,13 +14,19 @@ use Rattle.std.specs.FinMap.Entries.{find, by_order}
 use Rattle.std.specs.List.{IsDistinct}
 use Rattle.t3_holder.specs.declared.holder.Holder.{Holder}
 use Rattle.t3_undo.specs.Cell.{cell_cmp, cell_cmp_total}
-use Rattle.t3_undo.specs.Content.{Present, Parts}
+use Rattle.t3_undo.specs.Content.{Present, Parts, Places, places_for}
 use Rattle.t3_undo.specs.Objects.{set_at}
-use Rattle.t3_undo.specs.Slots.{parts_of}
+use Rattle.t3_undo.specs.Slots.{parts_of, places_of}
+use Rattle.t3_undo.specs.declared.content.Content.{Content}
+use Rattle.std.specs.Map.{lookup}
+use Rattle.std.specs.FinMap.{keys, contains_key-keys}
+use Rattle.std.specs.FinSet as set
+use Rattle.std.specs.FinSet.{contains, contains-empty, contains-insert, contains-from_list}
+use Rattle.t3_undo.proofs.SlotLists.{same, same-is, seen, get-parts_of, contains-places_of}
 use Rattle.t3_undo.specs.declared.cell.Cell.{Cell}
 use Rattle.t3_undo.specs.declared.cell.Cell.TheVariants as cells
 use Rattle.t3_undo.proofs.Maps.{get-set_at, get-tied}
-use Rattle.t3_tadsobj.specs.Object.{prop_in, props_of}
+use Rattle.t3_tadsobj.specs.Object.{prop_in, props_of, is_prop, HasOnlyProps}
 use Rattle.t3_tadsobj.specs.Inner.Ordered.{with_prop, listed}
 
 abbrev Entries : Type 0
@@ -140,3 +146,26 @@ entries-empty {K} {X} R = no_length _ (sym (len-entries (empty {K = K} {X = X} {
 pub no-props : entries (props_of (parts_of [])) ≡ []
 unfolding parts_of props_of
 no-props = (λ i. entries (from_entries {R = nat_cmp} (gathered (entries-empty cell_cmp i)))) ∙ entries-empty nat_cmp
+
+-- only properties have a place, in a new object, with a place more, and in a copy
+pub only-none : HasOnlyProps (places_of [])
+only-none cell placed = absurd (true≢false (sym placed ∙ contains-empty cell_cmp cell))
+
+or-true : (a b : Bool) → (a || b) ≡ true → (a ≡ true) ⊎ (b ≡ true)
+or-true true b e = inl refl
+or-true false b e = inr e
+
+pub only-insert : (places : Places) (new : Cell) → HasOnlyProps places → IsTrue (is_prop new) → HasOnlyProps (set.insert places new)
+only-insert places new all prop cell placed = by (or-true (eq_by_cmp cell_cmp cell new) (contains places cell) (sym (contains-insert cell_cmp_total places new cell) ∙ placed))
+  where
+    by : ((eq_by_cmp cell_cmp cell new ≡ true) ⊎ (contains places cell ≡ true)) → IsTrue (is_prop cell)
+    by (inl e) = let P : Cell → Type 0 = λ c. IsTrue (is_prop c) in subst P (sym (same-is cell new e)) prop
+    by (inr e) = all cell e
+
+pub only-copied : (slots : List (Cell × Content)) → HasOnlyProps (places_of slots) → HasOnlyProps (places_for (parts_of slots))
+only-copied slots all cell placed =
+    all cell (contains-places_of slots cell ∙ found (lookup (same cell) slots) (ap is_some (sym (get-parts_of slots cell)) ∙ contains_key-keys (parts_of slots) cell ∙ sym (contains-from_list cell_cmp_total (keys (parts_of slots)) cell) ∙ placed))
+  where
+    found : (o : Option Content) → is_some (seen o) ≡ true → is_some o ≡ true
+    found None e = e
+    found (Some content) e = refl

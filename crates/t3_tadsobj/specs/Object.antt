@@ -1,5 +1,5 @@
 -- Tads-objects: what they are, and their properties.
-use Rattle.std.specs.Prelude.{ℕ, Bool, true, false, List, Option, None, Some, refl}
+use Rattle.std.specs.Prelude.{ℕ, Bool, true, false, IsTrue, List, Option, None, Some, refl}
 use Rattle.std.specs.List.{filter_map}
 use Rattle.std.specs.Ordering.{nat_cmp}
 use Rattle.std.specs.FinMap.{FinMap, entries, from_entries}
@@ -33,6 +33,10 @@ is_prop (cells.Prop _) = true
 is_prop (cells.Elem _) = false
 is_prop (cells.Key _) = false
 is_prop cells.Default = false
+
+-- only properties have a place
+abbrev pub HasOnlyProps : Places → Type 0
+HasOnlyProps places = (cell : Cell) → IsTrue (set.contains places cell) → IsTrue (is_prop cell)
 
 -- a property's number and value
 abbrev pub prop_in : Cell → Present → Option (ℕ × Holder)

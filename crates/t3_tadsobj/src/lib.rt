@@ -3,6 +3,8 @@
 
 mod object;
 mod props;
+#[cfg(test)]
+mod tests;
 
 pub use object::TadsObject;
 pub use props::{PropValue, Props};

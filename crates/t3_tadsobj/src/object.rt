@@ -1,11 +1,11 @@
-ghost use Rattle.std.specs.Prelude.{◌≡◌, false, [], map, IsTrue, IfOk, OnOk, OnErr};
+ghost use Rattle.std.specs.Prelude.{◌≡◌, false, [], map, IsTrue, IsSome, IfOk, OnOk, OnErr};
 ghost use Rattle.std.specs.FinMap.{get, entries};
 ghost use Rattle.std.specs.List.Sorted.{IsStrictlyIncreasing};
 ghost use Rattle.std.specs.FinSet as set;
 ghost use Rattle.t3_undo.specs.Content.{shown, is_form, places_for};
 ghost use Rattle.t3_undo.specs.Objects.{set_at};
 ghost use Rattle.t3_undo.specs.Slots.{parts_of};
-ghost use Rattle.t3_tadsobj.specs.Object.{bare, props_of};
+ghost use Rattle.t3_tadsobj.specs.Object.{bare, is_prop, props_of};
 ghost use Rattle.t3_tadsobj.specs.Inner.Ordered.{with_prop, listed};
 ghost use Rattle.std.specs.BTreeMap.{IsOrdered};
 ghost use Rattle.std.specs.Ordering.{nat_cmp};
@@ -34,6 +34,10 @@ impl Model for TadsObject {
     ghost coded = { coded_tads };
 
     ghost view = { λ o. record { parts = parts_of o.slots; places = places_of o.slots; supers = o.supers; class = o.class } };
+
+    ghost use Rattle.t3_tadsobj.specs.Object.{HasOnlyProps};
+
+    ghost invariant = { λ o. HasOnlyProps (places_of o.slots) };
 }
 
 impl TadsObject {
@@ -60,7 +64,7 @@ impl TadsObject {
         ensures { IfOk result (λ copy. copy ≡ record self.now { places = places_for self.now.parts }) }
     {
         let slots = self.slots.copy(alloc)?;
-        let supers = Vec::from_slice(alloc, self.supers.0.as_slice())?;
+        let supers = Vec::from_slice(alloc, self.supers())?;
         Ok(TadsObject {
             slots,
             supers: Numbers(supers),
@@ -103,7 +107,12 @@ impl Metaclass for TadsObject {
 
     ghost can_have = { λ o cell. IsTrue (is_prop cell) };
 
-    fn get(&self, cell: &Cell) -> Content {
+    fn get(&self, cell: &Cell) -> Content
+        ensures content { shown result ≡ get self.now.parts cell.now }
+        ensures placed { IsSome (shown result) → IsTrue (set.contains self.now.places cell.now) }
+        ensures formed { IsTrue (set.contains self.now.places cell.now) → IsTrue (is_form cell.now (shown result)) }
+        ensures only_props { IsSome (shown result) → IsTrue (is_prop cell.now) }
+    {
         self.slots.get(cell)
     }
 
@@ -122,7 +131,8 @@ impl Metaclass for TadsObject {
         ensures ok { OnOk result (self.new ≡ record self.old { places = set.insert self.old.places cell }) }
         ensures err { OnErr result (self.new ≡ self.old) }
     {
-        self.slots.make_place(cell)
+        self.slots.make_place(cell)?;
+        Ok(())
     }
 
     fn places(&self) -> u64 {
