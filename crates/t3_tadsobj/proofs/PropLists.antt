@@ -44,11 +44,13 @@ then-Equal Greater = refl
 pub same-Prop : (n k : ℕ) → eq_by_cmp cell_cmp (cells.Prop n) (cells.Prop k) ≡ eq_by_cmp nat_cmp n k
 same-Prop n k = then-Equal (nat_cmp n k)
 
-option_map-cond : (b : Bool) (p : Present) (o : Option Present) → option_map (λ present. present.value) (cond b (Some p) o) ≡ cond b (Some p.value) (option_map (λ present. present.value) o)
+option_map-cond : (b : Bool) (p : Present) (o : Option Present) → option_map (λ present. present.value) (cond b (Some p) o)
+    ≡ cond b (Some p.value) (option_map (λ present. present.value) o)
 option_map-cond true p o = refl
 option_map-cond false p o = refl
 
-find-gathered : (n : ℕ) (es : Entries) → find nat_cmp n (gathered es) ≡ option_map (λ present. present.value) (find cell_cmp (cells.Prop n) es)
+find-gathered : (n : ℕ) (es : Entries) → find nat_cmp n (gathered es)
+    ≡ option_map (λ present. present.value) (find cell_cmp (cells.Prop n) es)
 find-gathered n [] = refl
 find-gathered n ((cells.Prop k, p) ∷ es) =
     (λ i. cond (sym (same-Prop n k) i) (Some p.value) (find-gathered n es i))
@@ -65,11 +67,13 @@ get-props_of parts n =
     ∙ ap (option_map (λ present. present.value)) (sym (get-entries parts (cells.Prop n)))
 
 -- parts are known to have the same properties by what stands in these
-same_props : (parts : Parts) (props : FinMap nat_cmp Holder) → ((n : ℕ) → option_map (λ present. present.value) (get parts (cells.Prop n)) ≡ get props n) → props_of parts ≡ props
+same_props : (parts : Parts) (props : FinMap nat_cmp Holder)
+    → ((n : ℕ) → option_map (λ present. present.value) (get parts (cells.Prop n)) ≡ get props n) → props_of parts ≡ props
 same_props parts props alike = same_map nat_cmp_total nat_cmp-IsAntisymmetric _ _ (λ n. get-props_of parts n ∙ alike n)
 
 -- a property set among others
-pub props_of-set : (parts : Parts) (k : ℕ) (p : Present) → props_of (set_at parts (cells.Prop k) (Some p)) ≡ insert (props_of parts) k p.value
+pub props_of-set : (parts : Parts) (k : ℕ) (p : Present) → props_of (set_at parts (cells.Prop k) (Some p))
+    ≡ insert (props_of parts) k p.value
 props_of-set parts k p =
     same_props _ _ (λ n.
     ap (option_map (λ present. present.value)) (get-set_at cell_cmp_total parts (cells.Prop k) (Some p) (cells.Prop n))
@@ -78,8 +82,10 @@ props_of-set parts k p =
     ∙ sym (get-insert nat_cmp_total (props_of parts) k p.value n))
 
 -- what isn't a property, or isn't present, leaves them
-props_of-alike : (parts : Parts) (cell : Cell) (o : Option Present) → ((n : ℕ) → get (set_at parts cell o) (cells.Prop n) ≡ get parts (cells.Prop n)) → props_of (set_at parts cell o) ≡ props_of parts
-props_of-alike parts cell o alike = same_props _ _ (λ n. ap (option_map (λ present. present.value)) (alike n) ∙ sym (get-props_of parts n))
+props_of-alike : (parts : Parts) (cell : Cell) (o : Option Present)
+    → ((n : ℕ) → get (set_at parts cell o) (cells.Prop n) ≡ get parts (cells.Prop n)) → props_of (set_at parts cell o) ≡ props_of parts
+props_of-alike parts cell o alike = same_props _ _ (λ n. ap (option_map (λ present. present.value)) (alike n)
+    ∙ sym (get-props_of parts n))
 
 cond-same : {X : Type 0} (b : Bool) (x y : X) → (b ≡ true → y ≡ x) → cond b x y ≡ y
 cond-same true x y same = sym (same refl)
@@ -89,7 +95,8 @@ props_of-none : (parts : Parts) (cell : Cell) → get parts cell ≡ None → pr
 props_of-none parts cell none =
     props_of-alike parts cell None (λ n.
     get-set_at cell_cmp_total parts cell None (cells.Prop n)
-    ∙ cond-same (eq_by_cmp cell_cmp (cells.Prop n) cell) None (get parts (cells.Prop n)) (λ t. sym (get-tied cell_cmp_total parts (cells.Prop n) cell t) ∙ none))
+    ∙ cond-same (eq_by_cmp cell_cmp (cells.Prop n) cell) None (get parts (cells.Prop n))
+        (λ t. sym (get-tied cell_cmp_total parts (cells.Prop n) cell t) ∙ none))
 
 -- to insert into ordered entries is to put
 insert_entry-put : (es : List (ℕ × Holder)) (k : ℕ) (v : Holder) → insert_entry nat_cmp es k v ≡ put nat_cmp k v es
@@ -97,7 +104,8 @@ insert_entry-put [] k v = refl
 insert_entry-put (e ∷ es) k v = by (insert_entry-put es k v) (nat_cmp k e.0)
   where
     by : insert_entry nat_cmp es k v ≡ put nat_cmp k v es → (r : Ordering)
-        → match_ordering r ((k, v) ∷ e ∷ es) ((e.0, v) ∷ es) (e ∷ insert_entry nat_cmp es k v) ≡ by_order r ((k, v) ∷ e ∷ es) ((e.0, v) ∷ es) (e ∷ put nat_cmp k v es)
+        → match_ordering r ((k, v) ∷ e ∷ es) ((e.0, v) ∷ es) (e ∷ insert_entry nat_cmp es k v)
+            ≡ by_order r ((k, v) ∷ e ∷ es) ((e.0, v) ∷ es) (e ∷ put nat_cmp k v es)
     by rest Less = refl
     by rest Equal = refl
     by rest Greater = ap (λ xs. e ∷ xs) rest
@@ -111,12 +119,16 @@ pub entries-with_prop : (parts : Parts) (cell : Cell) (o : Option Present) → g
 entries-with_prop parts cell None none = ap entries (sym (props_of-none parts cell none))
 entries-with_prop parts (cells.Prop k) (Some p) none =
     sym (entries-insert nat_cmp_total (props_of parts) k p.value) ∙ ap entries (sym (props_of-set parts k p))
-entries-with_prop parts (cells.Elem k) (Some p) none = ap entries (sym (props_of-alike parts (cells.Elem k) (Some p) (λ n. get-set_at cell_cmp_total parts (cells.Elem k) (Some p) (cells.Prop n))))
-entries-with_prop parts (cells.Key k) (Some p) none = ap entries (sym (props_of-alike parts (cells.Key k) (Some p) (λ n. get-set_at cell_cmp_total parts (cells.Key k) (Some p) (cells.Prop n))))
-entries-with_prop parts cells.Default (Some p) none = ap entries (sym (props_of-alike parts cells.Default (Some p) (λ n. get-set_at cell_cmp_total parts cells.Default (Some p) (cells.Prop n))))
+entries-with_prop parts (cells.Elem k) (Some p) none = ap entries
+    (sym (props_of-alike parts (cells.Elem k) (Some p) (λ n. get-set_at cell_cmp_total parts (cells.Elem k) (Some p) (cells.Prop n))))
+entries-with_prop parts (cells.Key k) (Some p) none = ap entries
+    (sym (props_of-alike parts (cells.Key k) (Some p) (λ n. get-set_at cell_cmp_total parts (cells.Key k) (Some p) (cells.Prop n))))
+entries-with_prop parts cells.Default (Some p) none = ap entries
+    (sym (props_of-alike parts cells.Default (Some p) (λ n. get-set_at cell_cmp_total parts cells.Default (Some p) (cells.Prop n))))
 
 -- what a slot's value adds
-pub with-found : (cell : Cell) (o : Option Present) (k : ℕ) (v : Holder) (es : List (ℕ × Holder)) → cell ≡ cells.Prop k → Some v ≡ option_map (λ present. present.value) o → put nat_cmp k v es ≡ with_prop cell o es
+pub with-found : (cell : Cell) (o : Option Present) (k : ℕ) (v : Holder) (es : List (ℕ × Holder)) → cell ≡ cells.Prop k → Some v
+    ≡ option_map (λ present. present.value) o → put nat_cmp k v es ≡ with_prop cell o es
 with-found cell None k v es is e = cc
 with-found cell (Some p) k v es is e =
     let value : v ≡ p.value = cc in
@@ -156,7 +168,8 @@ or-true true b e = inl refl
 or-true false b e = inr e
 
 pub only-insert : (places : Places) (new : Cell) → HasOnlyProps places → IsTrue (is_prop new) → HasOnlyProps (set.insert places new)
-only-insert places new all prop cell placed = by (or-true (eq_by_cmp cell_cmp cell new) (contains places cell) (sym (contains-insert cell_cmp_total places new cell) ∙ placed))
+only-insert places new all prop cell placed = by
+    (or-true (eq_by_cmp cell_cmp cell new) (contains places cell) (sym (contains-insert cell_cmp_total places new cell) ∙ placed))
   where
     by : ((eq_by_cmp cell_cmp cell new ≡ true) ⊎ (contains places cell ≡ true)) → IsTrue (is_prop cell)
     by (inl e) = let P : Cell → Type 0 = λ c. IsTrue (is_prop c) in subst P (sym (same-is cell new e)) prop
@@ -164,7 +177,9 @@ only-insert places new all prop cell placed = by (or-true (eq_by_cmp cell_cmp ce
 
 pub only-copied : (slots : List (Cell × Content)) → HasOnlyProps (places_of slots) → HasOnlyProps (places_for (parts_of slots))
 only-copied slots all cell placed =
-    all cell (contains-places_of slots cell ∙ found (lookup (same cell) slots) (ap is_some (sym (get-parts_of slots cell)) ∙ contains_key-keys (parts_of slots) cell ∙ sym (contains-from_list cell_cmp_total (keys (parts_of slots)) cell) ∙ placed))
+    all cell (contains-places_of slots cell
+        ∙ found (lookup (same cell) slots) (ap is_some (sym (get-parts_of slots cell)) ∙ contains_key-keys (parts_of slots) cell
+        ∙ sym (contains-from_list cell_cmp_total (keys (parts_of slots)) cell) ∙ placed))
   where
     found : (o : Option Content) → is_some (seen o) ≡ true → is_some o ≡ true
     found None e = e

@@ -12,13 +12,15 @@ pub apart-drop : (ss : List Segment) → HaveDistinctCells ss → HaveDistinctCe
 apart-drop [] all = all
 apart-drop (s ∷ ss) all = all.1
 
-apart-if : (b : Bool) (s : Segment) (ss : List Segment) → AreApart s.records → HaveDistinctCells ss → HaveDistinctCells (if b then s ∷ ss else [])
+apart-if : (b : Bool) (s : Segment) (ss : List Segment) → AreApart s.records → HaveDistinctCells ss
+    → HaveDistinctCells (if b then s ∷ ss else [])
 apart-if true s ss one all = (one, all)
 apart-if false s ss one all = tt
 
 apart-room : (limit : ℕ) (ss : List Segment) → HaveDistinctCells ss → HaveDistinctCells (room limit ss)
 apart-room limit [] all = all
-apart-room limit (s ∷ ss) all = apart-if (nat_lt (length s.records) limit) s (room (limit - length s.records) ss) all.0 (apart-room (limit - length s.records) ss all.1)
+apart-room limit (s ∷ ss) all = apart-if (nat_lt (length s.records) limit) s (room (limit - length s.records) ss) all.0
+    (apart-room (limit - length s.records) ss all.1)
 
 new : (a b : Bool) → (a && not b) ≡ true → b ≡ false
 new true true e = sym e
@@ -29,7 +31,8 @@ pub apart-note_in : (limit : ℕ) (part : OldPart) (ss : List Segment) → HaveD
 apart-note_in limit part [] all = all
 apart-note_in limit part (s ∷ ss) all = by (nat_lt part.number s.next && not (is_noted part.number part.cell s.records)) refl
   where
-    added : (b : Bool) → is_noted part.number part.cell s.records ≡ false → HaveDistinctCells (add part (if b then s ∷ room (limit - length s.records) ss else []))
+    added : (b : Bool) → is_noted part.number part.cell s.records ≡ false
+        → HaveDistinctCells (add part (if b then s ∷ room (limit - length s.records) ss else []))
     added true fresh = ((fresh, all.0), apart-room (limit - length s.records) ss all.1)
     added false fresh = tt
 

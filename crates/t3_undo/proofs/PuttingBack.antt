@@ -84,21 +84,25 @@ module _ {S : Type 0} where
       λ i. Some (one i, other i)
 
   -- objects are known by their shapes and by what stands in their cells
-  pub same_objects : (a b : Objects S) → ((q : ℕ) → shape_at a q ≡ shape_at b q) → ((q : ℕ) (d : Cell) → part_at a q d ≡ part_at b q d) → a ≡ b
-  same_objects a b shapes parts = same_map nat_cmp_total nat_cmp-IsAntisymmetric a b (λ q. same_object (get a q) (get b q) (shapes q) (parts q))
+  pub same_objects : (a b : Objects S) → ((q : ℕ) → shape_at a q ≡ shape_at b q) → ((q : ℕ) (d : Cell) → part_at a q d ≡ part_at b q d)
+      → a ≡ b
+  same_objects a b shapes parts = same_map nat_cmp_total nat_cmp-IsAntisymmetric a b
+      (λ q. same_object (get a q) (get b q) (shapes q) (parts q))
 
   -- a content, if there is the object
   abbrev pub kept : Option S → Option Present → Option Present
   kept None o = None
   kept (Some s) o = o
 
-  shape-adjusted : (b : Bool) (c : Cell) (o : Option Present) (x : Option (S × Parts)) → shape_of (cond b (option_map (with_part c o) x) x) ≡ shape_of x
+  shape-adjusted : (b : Bool) (c : Cell) (o : Option Present) (x : Option (S × Parts))
+      → shape_of (cond b (option_map (with_part c o) x) x) ≡ shape_of x
   shape-adjusted true c o None = refl
   shape-adjusted true c o (Some x) = refl
   shape-adjusted false c o x = refl
 
   pub shape_at-set_cell : (m : Objects S) (n : ℕ) (c : Cell) (o : Option Present) (q : ℕ) → shape_at (set_cell m n c o) q ≡ shape_at m q
-  shape_at-set_cell m n c o q = ap shape_of (get-adjust nat_cmp_total m n (with_part c o) q) ∙ shape-adjusted (same_number q n) c o (get m q)
+  shape_at-set_cell m n c o q = ap shape_of (get-adjust nat_cmp_total m n (with_part c o) q)
+      ∙ shape-adjusted (same_number q n) c o (get m q)
 
   part-adjusted : (b : Bool) (c : Cell) (o : Option Present) (x : Option (S × Parts)) (d : Cell)
       → part_of (cond b (option_map (with_part c o) x) x) d ≡ cond (b && same_cell d c) (kept (shape_of x) o) (part_of x d)
@@ -108,7 +112,8 @@ module _ {S : Type 0} where
 
   pub part_at-set_cell : (m : Objects S) (n : ℕ) (c : Cell) (o : Option Present) (q : ℕ) (d : Cell)
       → part_at (set_cell m n c o) q d ≡ cond (is_of q d (at n c)) (kept (shape_at m q) o) (part_at m q d)
-  part_at-set_cell m n c o q d = ap (λ x. part_of x d) (get-adjust nat_cmp_total m n (with_part c o) q) ∙ part-adjusted (same_number q n) c o (get m q) d
+  part_at-set_cell m n c o q d = ap (λ x. part_of x d) (get-adjust nat_cmp_total m n (with_part c o) q)
+      ∙ part-adjusted (same_number q n) c o (get m q) d
 
   -- twice set, each at a place of its own test
   twice : (m : Objects S) (n : ℕ) (c : Cell) (o : Option Present) (n' : ℕ) (c' : Cell) (o' : Option Present) (q : ℕ) (d : Cell)
@@ -132,7 +137,8 @@ module _ {S : Type 0} where
   kept-own None c = refl
   kept-own (Some x) c = refl
 
-  own : (m : Objects S) (n : ℕ) (c : Cell) (q : ℕ) (d : Cell) (b : Bool) → is_of q d (at n c) ≡ b → cond b (kept (shape_at m q) (part_at m n c)) (part_at m q d) ≡ part_at m q d
+  own : (m : Objects S) (n : ℕ) (c : Cell) (q : ℕ) (d : Cell) (b : Bool) → is_of q d (at n c) ≡ b
+      → cond b (kept (shape_at m q) (part_at m n c)) (part_at m q d) ≡ part_at m q d
   own m n c q d true e =
       let is = is_of-is q d (at n c) e in
       (λ i. kept (shape_at m q) (part_at m (sym is.0 i) (sym is.1 i))) ∙ kept-own (get m q) d
@@ -157,7 +163,8 @@ module _ {S : Type 0} where
       ∙ sym (twice m r.number r.cell r.old n c o q d))
 
   -- a cell with a record may be changed: the record still puts it back
-  pub put_back-noted : (rs : List OldPart) (m : Objects S) (n : ℕ) (c : Cell) (o : Option Present) → is_noted n c rs ≡ true → put_back (set_cell m n c o) rs ≡ put_back m rs
+  pub put_back-noted : (rs : List OldPart) (m : Objects S) (n : ℕ) (c : Cell) (o : Option Present) → is_noted n c rs ≡ true
+      → put_back (set_cell m n c o) rs ≡ put_back m rs
   unfolding put_back
   put_back-noted [] m n c o e = absurd (true≢false (sym e))
   put_back-noted (r ∷ rs) m n c o e = by (λ m e. put_back-noted rs m n c o e) (is_of n c r) refl e
@@ -176,7 +183,8 @@ module _ {S : Type 0} where
   unfolding put_back
   put_back-note rs m n c o = ap (λ x. put_back x rs) (set_cell-back m n c o)
 
-  get-set_cell : (a b : Objects S) (n : ℕ) (c : Cell) (o : Option Present) (q : ℕ) → get a q ≡ get b q → get (set_cell a n c o) q ≡ get (set_cell b n c o) q
+  get-set_cell : (a b : Objects S) (n : ℕ) (c : Cell) (o : Option Present) (q : ℕ) → get a q ≡ get b q → get (set_cell a n c o) q
+      ≡ get (set_cell b n c o) q
   get-set_cell a b n c o q alike =
       get-adjust nat_cmp_total a n (with_part c o) q
       ∙ (λ i. cond (same_number q n) (option_map (with_part c o) (alike i)) (alike i))
@@ -203,11 +211,13 @@ module _ {S : Type 0} where
       ∙ sym (get-before s b q))
 
   -- an object made since, or changed
-  pub before-newer : (s : Segment) (m : Objects S) (n : ℕ) (c : Cell) (o : Option Present) → s.next ≤ n → before (set_cell m n c o) s ≡ before m s
+  pub before-newer : (s : Segment) (m : Objects S) (n : ℕ) (c : Cell) (o : Option Present) → s.next ≤ n → before (set_cell m n c o) s
+      ≡ before m s
   before-newer s m n c o later =
       before-alike s _ m (λ q less.
       let lower : q < n = omega arith in
-      get-adjust nat_cmp_total m n (with_part c o) q ∙ ap (λ b. cond b (option_map (with_part c o) (get m q)) (get m q)) (differs q n lower))
+      get-adjust nat_cmp_total m n (with_part c o) q
+          ∙ ap (λ b. cond b (option_map (with_part c o) (get m q)) (get m q)) (differs q n lower))
 
   pub before-made : (s : Segment) (m : Objects S) (n : ℕ) (x : S × Parts) → s.next ≤ n → before (insert m n x) s ≡ before m s
   before-made s m n x later =

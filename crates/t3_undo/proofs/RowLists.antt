@@ -70,7 +70,8 @@ total-cut (mark ∷ marks) parts h =
     let f = length-take-le' mark.count parts (omega arith) in
     omega (arith, e, f)
 
-pub total-segments : (marks : List Mark) (records : List Kept) → AreCounted marks records → total (segments_of marks records) ≡ length records
+pub total-segments : (marks : List Mark) (records : List Kept) → AreCounted marks records → total (segments_of marks records)
+    ≡ length records
 total-segments marks records all =
     let e = counted-reverse marks in
     let l = length-olds records in
@@ -78,7 +79,8 @@ total-segments marks records all =
 
 -- the newest savepoint apart
 pub segments-newest : (marks : List Mark) (mark : Mark) (records : List Kept)
-    → segments_of (marks ++ mark ∷ []) records ≡ record { next = mark.next; records = take mark.count (olds records) } ∷ cut (reverse marks) (drop mark.count (olds records))
+    → segments_of (marks ++ mark ∷ []) records
+        ≡ record { next = mark.next; records = take mark.count (olds records) } ∷ cut (reverse marks) (drop mark.count (olds records))
 unfolding cut
 segments-newest marks mark records = ap (λ ms. cut ms (olds records)) (reverse-push marks mark)
 
@@ -88,7 +90,8 @@ segments-none records = refl
 
 -- a savepoint more
 pub segments-marked : (marks : List Mark) (records : List Kept) (next : ℕ)
-    → segments_of (marks ++ record { next = next; count = 0 } ∷ []) records ≡ record { next = next; records = [] } ∷ segments_of marks records
+    → segments_of (marks ++ record { next = next; count = 0 } ∷ []) records
+        ≡ record { next = next; records = [] } ∷ segments_of marks records
 segments-marked marks records next = segments-newest marks (record { next = next; count = 0 }) records
 
 olds-push : (records : List Kept) (kept : Kept) → olds (records ++ kept ∷ []) ≡ old_of kept ∷ olds records
@@ -96,24 +99,30 @@ olds-push records kept = olds-append records (kept ∷ [])
 
 -- a record more
 pub segments-recorded : (marks : List Mark) (mark : Mark) (records : List Kept) (kept : Kept)
-    → segments_of (marks ++ record { next = mark.next; count = mark.count + 1 } ∷ []) (records ++ kept ∷ []) ≡ add (old_of kept) (segments_of (marks ++ mark ∷ []) records)
+    → segments_of (marks ++ record { next = mark.next; count = mark.count + 1 } ∷ []) (records ++ kept ∷ [])
+        ≡ add (old_of kept) (segments_of (marks ++ mark ∷ []) records)
 segments-recorded marks mark records kept =
     segments-newest marks (record { next = mark.next; count = mark.count + 1 }) (records ++ kept ∷ [])
-    ∙ (λ i. record { next = mark.next; records = take (mark.count + 1) (olds-push records kept i) } ∷ cut (reverse marks) (drop (mark.count + 1) (olds-push records kept i)))
-    ∙ (λ i. record { next = mark.next; records = take (add-one mark.count i) (old_of kept ∷ olds records) } ∷ cut (reverse marks) (drop (add-one mark.count i) (old_of kept ∷ olds records)))
+    ∙ (λ i. record { next = mark.next; records = take (mark.count + 1) (olds-push records kept i) } ∷ cut (reverse marks)
+        (drop (mark.count + 1) (olds-push records kept i)))
+    ∙ (λ i. record { next = mark.next; records = take (add-one mark.count i) (old_of kept ∷ olds records) } ∷ cut (reverse marks)
+        (drop (add-one mark.count i) (old_of kept ∷ olds records)))
     ∙ sym (ap (add (old_of kept)) (segments-newest marks mark records))
 
 -- a record less
 pub segments-taken : (marks : List Mark) (next count : ℕ) (records : List Kept) (kept : Kept)
-    → segments_of (marks ++ record { next = next; count = count } ∷ []) records ≡ but_newest_record (segments_of (marks ++ record { next = next; count = count + 1 } ∷ []) (records ++ kept ∷ []))
+    → segments_of (marks ++ record { next = next; count = count } ∷ []) records
+        ≡ but_newest_record (segments_of (marks ++ record { next = next; count = count + 1 } ∷ []) (records ++ kept ∷ []))
 segments-taken marks next count records kept =
     segments-newest marks (record { next = next; count = count }) records
-    ∙ sym (ap but_newest_record (segments-recorded marks (record { next = next; count = count }) records kept ∙ ap (add (old_of kept)) (segments-newest marks (record { next = next; count = count }) records)))
+    ∙ sym (ap but_newest_record (segments-recorded marks (record { next = next; count = count }) records kept
+        ∙ ap (add (old_of kept)) (segments-newest marks (record { next = next; count = count }) records)))
 
 pub newest-taken : (marks : List Mark) (next count : ℕ) (records : List Kept) (kept : Kept)
     → Some (old_of kept) ≡ newest_record (segments_of (marks ++ record { next = next; count = count + 1 } ∷ []) (records ++ kept ∷ []))
 newest-taken marks next count records kept =
-    sym (ap newest_record (segments-recorded marks (record { next = next; count = count }) records kept ∙ ap (add (old_of kept)) (segments-newest marks (record { next = next; count = count }) records)))
+    sym (ap newest_record (segments-recorded marks (record { next = next; count = count }) records kept
+        ∙ ap (add (old_of kept)) (segments-newest marks (record { next = next; count = count }) records)))
 
 -- the oldest savepoint dropped
 cut-push : (marks : List Mark) (mark : Mark) (parts rest : List OldPart) → counted marks ≡ length parts
@@ -125,7 +134,8 @@ cut-push (m ∷ marks) mark parts rest e =
     let c = counted-cons m marks in
     let short : m.count ≤ length parts = omega arith in
     let left : counted marks ≡ length (drop m.count parts) = omega (arith, length-drop m.count parts) in
-    (λ i. record { next = m.next; records = take-append-le m.count parts rest short i } ∷ cut (marks ++ mark ∷ []) (drop-append-le m.count parts rest short i))
+    (λ i. record { next = m.next; records = take-append-le m.count parts rest short i } ∷ cut (marks ++ mark ∷ [])
+        (drop-append-le m.count parts rest short i))
     ∙ ap (λ ss. record { next = m.next; records = take m.count parts } ∷ ss) (cut-push marks mark (drop m.count parts) rest left)
 
 reverse-cons : {X : Type 0} (x : X) (xs : List X) → reverse (x ∷ xs) ≡ reverse xs ++ x ∷ []
@@ -137,12 +147,16 @@ segments-dropped mark marks records all =
     let left = drop mark.count records in
     let gone = take mark.count records in
     let whole : olds records ≡ olds left ++ olds gone = ap olds (sym (take-append-drop mark.count records)) ∙ olds-append gone left in
-    let enough : counted (reverse marks) ≡ length (olds left) = omega (arith, counted-cons mark marks, counted-reverse marks, length-olds left, length-drop mark.count records) in
+    let enough : counted (reverse marks)
+        ≡ length (olds left) = omega
+        (arith, counted-cons mark marks, counted-reverse marks, length-olds left, length-drop mark.count records) in
     let split = (λ i. cut (reverse-cons mark marks i) (whole i)) ∙ cut-push (reverse marks) mark (olds left) (olds gone) enough in
     sym (ap (take (length marks)) split
-    ∙ take_at (segments_of marks left) (record { next = mark.next; records = take mark.count (olds gone) } ∷ []) (length marks) (length-segments marks left))
+    ∙ take_at (segments_of marks left) (record { next = mark.next; records = take mark.count (olds gone) } ∷ []) (length marks)
+        (length-segments marks left))
 
-pub counted-dropped : (mark : Mark) (marks : List Mark) (records : List Kept) → AreCounted (mark ∷ marks) records → AreCounted marks (drop mark.count records)
+pub counted-dropped : (mark : Mark) (marks : List Mark) (records : List Kept) → AreCounted (mark ∷ marks) records
+    → AreCounted marks (drop mark.count records)
 counted-dropped mark marks records all = omega (arith, counted-cons mark marks, length-drop mark.count records)
 
 -- a list without its oldest part
@@ -162,11 +176,13 @@ total-take zero segments = omega arith
 total-take (suc n) [] = omega arith
 total-take (suc n) (s ∷ ss) = let h = total-take n ss in omega (arith, h)
 
-room-again : (b : Bool) (limit : ℕ) (s : Segment) (some whole : List Segment) → (b ≡ true → some ≡ whole) → (if b then s ∷ some else []) ≡ (if b then s ∷ whole else [])
+room-again : (b : Bool) (limit : ℕ) (s : Segment) (some whole : List Segment) → (b ≡ true → some ≡ whole) → (if b then s ∷ some else [])
+    ≡ (if b then s ∷ whole else [])
 room-again true limit s some whole same = ap (λ xs. s ∷ xs) (same refl)
 room-again false limit s some whole same = refl
 
-pub room-dropped : (limit n : ℕ) (segments : List Segment) → n + 1 ≡ length segments → limit ≤ total segments → room limit (take n segments) ≡ room limit segments
+pub room-dropped : (limit n : ℕ) (segments : List Segment) → n + 1 ≡ length segments → limit ≤ total segments
+    → room limit (take n segments) ≡ room limit segments
 room-dropped limit n [] e h = absurd (omega arith)
 room-dropped limit zero (s ∷ []) e h = sym (ap (λ b. if b then s ∷ [] else []) (by (nat_lt (length s.records) limit) refl))
   where
@@ -184,12 +200,14 @@ pub is_noted-newest : (records : List Kept) (count : ℕ) (n : ℕ) (c : Cell) �
 is_noted-newest records count n c h =
     let k = length records - count in
     let left = drop k records in
-    let whole : olds records ≡ olds left ++ olds (take k records) = ap olds (sym (take-append-drop k records)) ∙ olds-append (take k records) left in
+    let whole : olds records ≡ olds left ++ olds (take k records) = ap olds (sym (take-append-drop k records))
+        ∙ olds-append (take k records) left in
     let size : length (olds left) ≡ count = omega (arith, length-olds left, length-drop k records) in
     list_any-IsPermutation (is_of n c) (map old_of left) (olds left) (IsPermutation-reverse (map old_of left))
     ∙ ap (is_noted n c) (sym (ap (take count) whole ∙ take_at (olds left) (olds (take k records)) count size))
 
-pub last-counted : (marks : List Mark) (mark : Mark) (records : List Kept) → AreCounted (marks ++ mark ∷ []) records → mark.count ≤ length records
+pub last-counted : (marks : List Mark) (mark : Mark) (records : List Kept) → AreCounted (marks ++ mark ∷ []) records
+    → mark.count ≤ length records
 last-counted marks mark records all = omega (arith, sum_by-append (λ m. m.count) marks (mark ∷ []))
 
 -- the last of the savepoints, as the code finds it
@@ -203,7 +221,8 @@ missed [] i e n = omega arith
 missed (x ∷ xs) zero e n = cc
 missed (x ∷ xs) (suc i) e n = missed xs i (omega arith) n
 
-pub last-is : (marks : List Mark) (mark : Mark) → Some mark ≡ slice_get marks (length marks - 1) → marks ≡ take (length marks - 1) marks ++ mark ∷ []
+pub last-is : (marks : List Mark) (mark : Mark) → Some mark ≡ slice_get marks (length marks - 1) → marks
+    ≡ take (length marks - 1) marks ++ mark ∷ []
 last-is [] mark e = cc
 last-is (m ∷ marks) mark e =
     split-last (m ∷ marks) (length (m ∷ marks) - 1) mark (omega arith)
@@ -231,16 +250,21 @@ list_any-map p f [] = refl
 list_any-map p f (x ∷ xs) = ap (λ b. p (f x) || b) (list_any-map p f xs)
 
 -- whether a record is due
-pub is_due-newest : (marks front : List Mark) (mark : Mark) (records : List Kept) (n : ℕ) (c : Cell) → marks ≡ front ++ mark ∷ [] → AreCounted marks records
-    → is_due n c (segments_of marks records) ≡ (nat_lt n mark.next && not (list_any (λ kept. is_of n c (old_of kept)) (drop (length records - mark.count) records)))
+pub is_due-newest : (marks front : List Mark) (mark : Mark) (records : List Kept) (n : ℕ) (c : Cell) → marks ≡ front ++ mark ∷ []
+    → AreCounted marks records
+    → is_due n c (segments_of marks records)
+        ≡ (nat_lt n mark.next && not (list_any (λ kept. is_of n c (old_of kept)) (drop (length records - mark.count) records)))
 is_due-newest marks front mark records n c e all =
     let fits = last-counted front mark records (subst (λ ms. AreCounted ms records) e all) in
     ap (is_due n c) (ap (λ ms. segments_of ms records) e ∙ segments-newest front mark records)
-    ∙ ap (λ b. nat_lt n mark.next && not b) (sym (is_noted-newest records mark.count n c fits) ∙ list_any-map (is_of n c) old_of (drop (length records - mark.count) records))
+    ∙ ap (λ b. nat_lt n mark.next && not b) (sym (is_noted-newest records mark.count n c fits)
+        ∙ list_any-map (is_of n c) old_of (drop (length records - mark.count) records))
 
 -- a record more, as the code adds it
-pub segments-added : (marks : List Mark) (i : ℕ) (mark : Mark) (records : List Kept) (kept : Kept) → i + 1 ≡ length marks → mark ≡ get_or marks i mark
-    → segments_of (set marks i (record { next = mark.next; count = mark.count + 1 })) (records ++ kept ∷ []) ≡ add (old_of kept) (segments_of marks records)
+pub segments-added : (marks : List Mark) (i : ℕ) (mark : Mark) (records : List Kept) (kept : Kept) → i + 1 ≡ length marks → mark
+    ≡ get_or marks i mark
+    → segments_of (set marks i (record { next = mark.next; count = mark.count + 1 })) (records ++ kept ∷ [])
+        ≡ add (old_of kept) (segments_of marks records)
 segments-added marks i mark records kept last is =
     (λ j. segments_of (set-last marks i (record { next = mark.next; count = mark.count + 1 }) last j) (records ++ kept ∷ []))
     ∙ segments-recorded (take i marks) mark records kept
@@ -263,21 +287,24 @@ marks-lower : (marks : List Mark) (i : ℕ) (mark : Mark) → i + 1 ≡ length m
     → marks ≡ take i marks ++ record { next = mark.next; count = mark.count - 1 + 1 } ∷ []
 marks-lower marks i mark last is some = split-last marks i mark last ∙ ap (λ m. take i marks ++ m ∷ []) (sym is ∙ lower mark some)
 
-some-record : (marks : List Mark) (i : ℕ) (mark : Mark) (records new : List Kept) (result : Option Kept) → IsTaken marks i mark records new result → 0 < length records
+some-record : (marks : List Mark) (i : ℕ) (mark : Mark) (records new : List Kept) (result : Option Kept)
+    → IsTaken marks i mark records new result → 0 < length records
 some-record marks i mark records new result t =
     let all = subst (λ ms. AreCounted ms records) (split-last marks i mark t.last ∙ ap (λ m. take i marks ++ m ∷ []) (sym t.is)) t.all in
     let fits = last-counted (take i marks) mark records all in
     let some = t.some in
     omega arith
 
-pub newest-gone : (marks : List Mark) (i : ℕ) (mark : Mark) (records new : List Kept) (result : Option Kept) → IsTaken marks i mark records new result
+pub newest-gone : (marks : List Mark) (i : ℕ) (mark : Mark) (records new : List Kept) (result : Option Kept)
+    → IsTaken marks i mark records new result
     → option_map old_of result ≡ newest_record (segments_of marks records)
 newest-gone marks i mark records new None t = absurd (true≢false (sym (t.variant (some-record marks i mark records new None t))))
 newest-gone marks i mark records new (Some kept) t =
     newest-taken (take i marks) mark.next (mark.count - 1) new kept
     ∙ λ j. newest_record (segments_of (sym (marks-lower marks i mark t.last t.is t.some) j) (sym t.items j))
 
-pub segments-gone : (marks : List Mark) (i : ℕ) (mark : Mark) (records new : List Kept) (result : Option Kept) → IsTaken marks i mark records new result
+pub segments-gone : (marks : List Mark) (i : ℕ) (mark : Mark) (records new : List Kept) (result : Option Kept)
+    → IsTaken marks i mark records new result
     → segments_of (set marks i (record { next = mark.next; count = mark.count - 1 })) new ≡ but_newest_record (segments_of marks records)
 segments-gone marks i mark records new None t = absurd (true≢false (sym (t.variant (some-record marks i mark records new None t))))
 segments-gone marks i mark records new (Some kept) t =
@@ -286,12 +313,14 @@ segments-gone marks i mark records new (Some kept) t =
     ∙ λ j. but_newest_record (segments_of (sym (marks-lower marks i mark t.last t.is t.some) j) (sym t.items j))
 
 -- a newest savepoint without records
-pub newest-bare : (marks : List Mark) (i : ℕ) (mark : Mark) (records : List Kept) → i + 1 ≡ length marks → mark ≡ get_or marks i mark → mark.count ≡ 0
+pub newest-bare : (marks : List Mark) (i : ℕ) (mark : Mark) (records : List Kept) → i + 1 ≡ length marks → mark ≡ get_or marks i mark
+    → mark.count ≡ 0
     → segments_of marks records ≡ record { next = mark.next; records = [] } ∷ cut (reverse (take i marks)) (olds records)
 newest-bare marks i mark records last is none =
     (λ j. segments_of ((split-last marks i mark last ∙ ap (λ m. take i marks ++ m ∷ []) (sym is)) j) records)
     ∙ segments-newest (take i marks) mark records
-    ∙ λ j. record { next = mark.next; records = take (none j) (olds records) } ∷ cut (reverse (take i marks)) (drop (none j) (olds records))
+    ∙ λ j. record { next = mark.next; records = take (none j) (olds records) } ∷ cut (reverse (take i marks))
+        (drop (none j) (olds records))
 
 -- the newest savepoint ended
 none-first : (n : ℕ) (parts : List OldPart) → n ≤ length parts → first (take n parts) ≡ None → n ≡ 0
@@ -299,25 +328,31 @@ none-first zero parts h e = refl
 none-first (suc n) [] h e = absurd (omega arith)
 none-first (suc n) (part ∷ parts) h e = cc
 
-pub none-left : (marks : List Mark) (mark : Mark) (records : List Kept) → AreCounted (marks ++ mark ∷ []) records → newest_record (segments_of (marks ++ mark ∷ []) records) ≡ None → mark.count ≡ 0
+pub none-left : (marks : List Mark) (mark : Mark) (records : List Kept) → AreCounted (marks ++ mark ∷ []) records
+    → newest_record (segments_of (marks ++ mark ∷ []) records) ≡ None → mark.count ≡ 0
 none-left marks mark records all e =
     let fits = last-counted marks mark records all in
-    none-first mark.count (olds records) (omega (arith, length-olds records)) (sym (ap newest_record (segments-newest marks mark records)) ∙ e)
+    none-first mark.count (olds records) (omega (arith, length-olds records))
+        (sym (ap newest_record (segments-newest marks mark records)) ∙ e)
 
-pub segments-ended : (marks : List Mark) (mark : Mark) (records : List Kept) → mark.count ≡ 0 → segments_of marks records ≡ drop 1 (segments_of (marks ++ mark ∷ []) records)
+pub segments-ended : (marks : List Mark) (mark : Mark) (records : List Kept) → mark.count ≡ 0 → segments_of marks records
+    ≡ drop 1 (segments_of (marks ++ mark ∷ []) records)
 segments-ended marks mark records none =
     sym (ap (drop 1) (segments-newest marks mark records) ∙ λ i. cut (reverse marks) (drop (none i) (olds records)))
 
-pub counted-ended : (marks : List Mark) (mark : Mark) (records : List Kept) → mark.count ≡ 0 → AreCounted (marks ++ mark ∷ []) records → AreCounted marks records
+pub counted-ended : (marks : List Mark) (mark : Mark) (records : List Kept) → mark.count ≡ 0 → AreCounted (marks ++ mark ∷ []) records
+    → AreCounted marks records
 counted-ended marks mark records none all = omega (arith, sum_by-append (λ m. m.count) marks (mark ∷ []))
 
 -- the oldest savepoint dropped, as the code drops it
-pub segments-oldest : (marks : List Mark) (mark : Mark) (records : List Kept) → 0 < length marks → mark ≡ get_or marks 0 mark → AreCounted marks records
+pub segments-oldest : (marks : List Mark) (mark : Mark) (records : List Kept) → 0 < length marks → mark ≡ get_or marks 0 mark
+    → AreCounted marks records
     → segments_of (drop 1 marks) (drop mark.count records) ≡ take (length marks - 1) (segments_of marks records)
 segments-oldest [] mark records h is all = absurd (omega arith)
 segments-oldest (m ∷ marks) mark records h is all =
     let e : length marks ≡ length (m ∷ marks) - 1 = omega arith in
-    (λ i. segments_of marks (drop (is i).count records)) ∙ segments-dropped m marks records all ∙ λ i. take (e i) (segments_of (m ∷ marks) records)
+    (λ i. segments_of marks (drop (is i).count records)) ∙ segments-dropped m marks records all
+        ∙ λ i. take (e i) (segments_of (m ∷ marks) records)
 
 -- two reads of one place
 default : {X : Type 0} (xs : List X) (i : ℕ) (d e : X) → i + 1 ≡ length xs → get_or xs i d ≡ get_or xs i e

@@ -59,7 +59,8 @@ apart-noted (s ∷ ss) part all = by (nat_lt part.number s.next && not (is_noted
     new true false e = refl
     new false b e = absurd (true≢false (sym e))
 
-    by : (b : Bool) → (nat_lt part.number s.next && not (is_noted part.number part.cell s.records)) ≡ b → HaveDistinctCells (if b then add part (s ∷ ss) else (s ∷ ss))
+    by : (b : Bool) → (nat_lt part.number s.next && not (is_noted part.number part.cell s.records)) ≡ b
+        → HaveDistinctCells (if b then add part (s ∷ ss) else (s ∷ ss))
     by true t = ((new (nat_lt part.number s.next) (is_noted part.number part.cell s.records) t, all.0), all.1)
     by false t = all
 
@@ -81,7 +82,8 @@ module _ {S : Type 0} where
   unfolding copies
   copies-none a = refl
 
-  before-undue : (s : Segment) (m : Objects S) (n : ℕ) (c : Cell) (o : Option Present) → (nat_lt n s.next && not (is_noted n c s.records)) ≡ false
+  before-undue : (s : Segment) (m : Objects S) (n : ℕ) (c : Cell) (o : Option Present)
+      → (nat_lt n s.next && not (is_noted n c s.records)) ≡ false
       → before (set_cell m n c o) s ≡ before m s
   before-undue s m n c o e = by (is_noted n c s.records) refl
     where
@@ -95,8 +97,10 @@ module _ {S : Type 0} where
   copies-set (s ∷ ss) m n c o = by (nat_lt n s.next && not (is_noted n c s.records)) refl
     where
       by : (b : Bool) → (nat_lt n s.next && not (is_noted n c s.records)) ≡ b
-          → copies (set_cell m n c o) (if b then add (record { number = n; cell = c; old = part_at m n c }) (s ∷ ss) else (s ∷ ss)) ≡ copies m (s ∷ ss)
-      by true t = copies-newest (record { next = s.next; records = record { number = n; cell = c; old = part_at m n c } ∷ s.records }) s ss _ m (ap (below s.next) (put_back-note s.records m n c o))
+          → copies (set_cell m n c o) (if b then add (record { number = n; cell = c; old = part_at m n c }) (s ∷ ss) else (s ∷ ss))
+              ≡ copies m (s ∷ ss)
+      by true t = copies-newest (record { next = s.next; records = record { number = n; cell = c; old = part_at m n c } ∷ s.records }) s
+          ss _ m (ap (below s.next) (put_back-note s.records m n c o))
       by false t = copies-newest s s ss _ m (before-undue s m n c o t)
 
   copies-made : (ss : List Segment) (m : Objects S) (n : ℕ) (x : S × Parts) → AreOlder n ss → copies (insert m n x) ss ≡ copies m ss
@@ -112,7 +116,8 @@ module _ {S : Type 0} where
   unchanged : (next : ℕ) (m : Objects S) → AreBelow next m → before m (record { next = next; records = [] }) ≡ m
   unfolding put_back
   unchanged next m all =
-      same_map nat_cmp_total nat_cmp-IsAntisymmetric _ m (λ q. get-before (record { next = next; records = [] }) m q ∙ by q (nat_lt q next) refl)
+      same_map nat_cmp_total nat_cmp-IsAntisymmetric _ m (λ q. get-before (record { next = next; records = [] }) m q
+          ∙ by q (nat_lt q next) refl)
     where
       by : (q : ℕ) (b : Bool) → nat_lt q next ≡ b → cond b (get m q) None ≡ get m q
       by q true t = refl
@@ -121,9 +126,11 @@ module _ {S : Type 0} where
   -- one thing that happens
   happens : (k : Noted S) (e : Event S) → IsKept k → copied_after (whole k) e ≡ whole (noted_after k e)
   unfolding copies
-  happens k (Sets n c o) is = λ i. record { objects = set_cell k.objects n c o; next = k.next; copies = sym (copies-set k.segments k.objects n c o) i }
+  happens k (Sets n c o) is = λ i. record
+      { objects = set_cell k.objects n c o; next = k.next; copies = sym (copies-set k.segments k.objects n c o) i }
   happens k (Makes shape parts) is =
-      λ i. record { objects = insert k.objects k.next (shape, parts); next = k.next + 1; copies = sym (copies-made k.segments k.objects k.next (shape, parts) is.older) i }
+      λ i. record { objects = insert k.objects k.next (shape, parts); next = k.next + 1; copies = sym
+          (copies-made k.segments k.objects k.next (shape, parts) is.older) i }
   happens k Saves is =
       let same = sym (unchanged k.next k.objects is.below) in
       λ i. record { objects = k.objects; next = k.next; copies = same i ∷ copies (same i) k.segments }
@@ -160,7 +167,8 @@ module _ {S : Type 0} where
   stays k (Sets n c o) is = record {
     apart = apart-noted k.segments (record { number = n; cell = c; old = part_at k.objects n c }) is.apart;
     older = older-noted k.segments (record { number = n; cell = c; old = part_at k.objects n c }) k.next is.older;
-    below = λ q later. get-adjust nat_cmp_total k.objects n (with_part c o) q ∙ none-set (same_number q n) (with_part c o) (get k.objects q) (is.below q later);
+    below = λ q later. get-adjust nat_cmp_total k.objects n (with_part c o) q
+        ∙ none-set (same_number q n) (with_part c o) (get k.objects q) (is.below q later);
   }
   stays k (Makes shape parts) is = record {
     apart = is.apart;
@@ -201,5 +209,6 @@ undo_law S objects next events all =
     let same = all-happen events start sound in
     let kept = all-stay events start sound in (
       sym (ap (λ c. c.objects) same),
-      λ segments moved. copies-reordered (fold noted_after start events).segments segments kept.apart moved (fold noted_after start events).objects ∙ sym (ap (λ c. c.copies) same),
+      λ segments moved. copies-reordered (fold noted_after start events).segments segments kept.apart moved
+          (fold noted_after start events).objects ∙ sym (ap (λ c. c.copies) same),
     )

@@ -5,7 +5,8 @@ use Rattle.t3_undo.proofs.rows.make_room.Given as goal
 
 abbrev pub invariant-loop-records : goal.invariant-loop-records
 invariant-loop-records l = record {
-  segments : room l.limit (segments_of l.marks.items l.records.items) ≡ room l.limit (segments_of l.initial.marks.items l.initial.records.items);
+  segments : room l.limit (segments_of l.marks.items l.records.items)
+      ≡ room l.limit (segments_of l.initial.marks.items l.initial.records.items);
   counted : AreCounted l.marks.items l.records.items;
   marks : vec_len l.marks ≤ vec_len l.initial.marks;
   records : vec_len l.records ≤ vec_len l.initial.records;

@@ -6,7 +6,8 @@ use Rattle.t3_tadsobj.proofs.object.TadsObject.of.Goals as goal
 
 pub returns : goal.returns
 unfolding parts_of
-returns c = λ i. record { parts = parts_of (c.new.ensures i); places = places_of (c.new.ensures i); supers = c.args.supers; class = c.args.class }
+returns c = λ i. record
+    { parts = parts_of (c.new.ensures i); places = places_of (c.new.ensures i); supers = c.args.supers; class = c.args.class }
 
 pub invariant_of-result : goal.invariant_of-result
 invariant_of-result c = subst (λ slots. HasOnlyProps (places_of slots)) (sym c.new.ensures) only-none

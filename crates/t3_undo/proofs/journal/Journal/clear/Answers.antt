@@ -7,7 +7,9 @@ use Rattle.t3_undo.proofs.journal.Journal.clear.Goals as goal
 pub invariant_of-self : goal.invariant_of-self
 invariant_of-self c = record {
   counted = ap counted c.clear.ensures.items ∙ omega (arith, c.clear-2.ensures.len, c.clear-2.new.self.ok.0);
-  apart = subst HaveDistinctCells (sym (segments-empty c.clear.new.self.items c.clear-2.new.self.items (omega (arith, c.clear.ensures.len, c.clear.new.self.ok.0)))) tt;
+  apart = subst HaveDistinctCells
+      (sym (segments-empty c.clear.new.self.items c.clear-2.new.self.items (omega (arith, c.clear.ensures.len, c.clear.new.self.ok.0))))
+      tt;
   one_mark = c.self.invariant.one_mark;
   one_record = c.self.invariant.one_record;
   few_marks = omega (arith, c.clear.ensures.len, c.clear.new.self.ok.0);
@@ -21,5 +23,7 @@ invariant_of-self c = record {
 
 pub returns : goal.returns
 returns c =
-    let bare = segments-empty c.clear.new.self.items c.clear-2.new.self.items (omega (arith, c.clear.ensures.len, c.clear.new.self.ok.0)) in
-    λ i. record { segments = bare i; marks = (c.self.view_is i).marks; record_limit = (c.self.view_is i).record_limit; mark_limit = (c.self.view_is i).mark_limit }
+    let bare = segments-empty c.clear.new.self.items c.clear-2.new.self.items
+        (omega (arith, c.clear.ensures.len, c.clear.new.self.ok.0)) in
+    λ i. record { segments = bare i; marks = (c.self.view_is i).marks; record_limit = (c.self.view_is i).record_limit; mark_limit =
+        (c.self.view_is i).mark_limit }

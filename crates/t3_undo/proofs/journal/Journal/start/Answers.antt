@@ -6,7 +6,8 @@ use Rattle.t3_undo.proofs.journal.Journal.start.Goals as goal
 
 pub invariant_of-result : goal.invariant_of-result
 invariant_of-result c = record {
-  counted = ap counted c.in_ok-with_capacity.ensures.items ∙ omega (arith, c.in_ok-with_capacity-2.ensures.len, c.in_ok-with_capacity-2.field-0.ok.0);
+  counted = ap counted c.in_ok-with_capacity.ensures.items
+      ∙ omega (arith, c.in_ok-with_capacity-2.ensures.len, c.in_ok-with_capacity-2.field-0.ok.0);
   apart =
       subst HaveDistinctCells (sym (segments-empty c.in_ok-with_capacity.field-0.items c.in_ok-with_capacity-2.field-0.items
       (omega (arith, c.in_ok-with_capacity.ensures.len, c.in_ok-with_capacity.field-0.ok.0)))) tt;

@@ -9,11 +9,13 @@ use Rattle.t3_undo.proofs.slots.Slots.put.Goals as goal
 
 pub exchange-requires : goal.exchange-requires
 exchange-requires c =
-    sym (contains-places_of c.self.inside.cells.entries c.args.cell.now) ∙ (λ i. contains (places_of (c.self.view_is i)) c.args.cell.now) ∙ c.requires.place
+    sym (contains-places_of c.self.inside.cells.entries c.args.cell.now)
+        ∙ (λ i. contains (places_of (c.self.view_is i)) c.args.cell.now) ∙ c.requires.place
 
 pub invariant_of-self : goal.invariant_of-self
 invariant_of-self c =
-    subst AreFormed (sym c.exchange.ensures.entries) (formed-set_value c.self.inside.cells.entries c.args.cell.now c.args.content c.self.invariant c.requires.form)
+    subst AreFormed (sym c.exchange.ensures.entries)
+        (formed-set_value c.self.inside.cells.entries c.args.cell.now c.args.content c.self.invariant c.requires.form)
 
 pub returns-clause-parts : goal.returns-clause-parts
 returns-clause-parts c =
@@ -34,4 +36,5 @@ returns-clause-old c =
     ∙ λ i. get (parts_of (c.self.view_is i)) c.args.cell.now
 
 pub returns-clause-formed : goal.returns-clause-formed
-returns-clause-formed c = formed-lookup c.self.inside.cells.entries c.args.cell.now c.self.invariant c.exchange.result c.exchange.ensures.old
+returns-clause-formed c = formed-lookup c.self.inside.cells.entries c.args.cell.now c.self.invariant c.exchange.result
+    c.exchange.ensures.old
