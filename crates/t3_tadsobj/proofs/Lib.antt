@@ -1,3 +1,4 @@
+pub mod PropLists
 pub mod OrderMembers
 pub mod OrderDepth
 pub mod OrderClosed

@@ -1,0 +1,55 @@
+//! Tads-objects, each call once.
+use super::*;
+use std::test::Fail;
+use t3_holder::{Holder, NoMemory};
+use t3_undo::{Cell, Content, Metaclass, Numbers};
+
+/// Sets a property to a number.
+fn set(object: &mut TadsObject, number: u16, value: i32) -> Result<(), NoMemory> {
+    object.make_place(Cell::Prop(number))?;
+    let _old = object.put(&Cell::Prop(number), Content::Held(Holder::Int(value)));
+    Ok(())
+}
+
+#[test]
+fn properties_come_by_rising_number(rt: HostRuntime) -> Result<(), Fail> {
+    let alloc = rt.alloc();
+    let mut object = TadsObject::new(alloc);
+    assert_eq!(rt;
+        (object.places(), object.is_class(), object.supers().len()),
+        (0, false, 0)
+    );
+    set(&mut object, 9, 0)?;
+    set(&mut object, 2, 2)?;
+    set(&mut object, 9, 1)?;
+    object.make_place(Cell::Prop(5))?;
+    let props = object.props(alloc)?;
+    let rising = [
+        PropValue {
+            number: 2,
+            value: Holder::Int(2),
+        },
+        PropValue {
+            number: 9,
+            value: Holder::Int(1),
+        },
+    ];
+    assert_eq!(rt; props.items(), rising.as_slice());
+    Ok(())
+}
+
+#[test]
+fn a_copy_has_no_place_for_an_absent_cell(rt: HostRuntime) -> Result<(), Fail> {
+    let alloc = rt.alloc();
+    let supers = Numbers(Vec::from_slice(alloc, &[3, 1])?);
+    let mut object = TadsObject::of(alloc, supers, true);
+    object.make_place(Cell::Prop(1))?;
+    object.make_place(Cell::Prop(2))?;
+    object.make_place(Cell::Prop(1))?;
+    assert_eq!(rt; object.places(), 2);
+    let copy = object.copy(alloc)?;
+    assert_eq!(rt; (copy.places(), copy.is_class()), (0, true));
+    assert_eq!(rt; copy.supers(), [3, 1].as_slice());
+    assert_eq!(rt; copy.get(&Cell::Prop(1)), Content::Absent);
+    Ok(())
+}

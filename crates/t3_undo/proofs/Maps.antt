@@ -1,0 +1,39 @@
+-- What a finite map answers after a key was set or its value changed. Other crates may use these.
+use Rattle.std.proofs.Common.{◌≡◌, ◌∙◌, ap, sym, refl, Bool, true, false, cond, Option, None, Some}
+use Rattle.std.specs.declared.cmp.Ordering.{Ordering}
+use Rattle.std.specs.Ordering.{eq_by_cmp}
+use Rattle.std.specs.Option.{option_map}
+use Rattle.std.specs.Cmp.{IsTotalOrder, Equal-is}
+use Rattle.std.specs.FinMap.{FinMap, get, get-insert, get-remove, get_tied, IsAntisymmetric, same_map}
+use Rattle.t3_undo.specs.Objects.{set_at, adjust, adjusted}
+
+module _ {K X : Type 0} {R : K → K → Ordering} (total : IsTotalOrder R) where
+  pub get-set_at : (m : FinMap R X) (k : K) (o : Option X) (q : K) → get (set_at m k o) q ≡ cond (eq_by_cmp R q k) o (get m q)
+  unfolding set_at
+  get-set_at m k None q = get-remove total m k q
+  get-set_at m k (Some v) q = get-insert total m k v q
+
+  -- a key that ties has the same value
+  pub get-tied : (m : FinMap R X) (q k : K) → eq_by_cmp R q k ≡ true → get m k ≡ get m q
+  get-tied m q k e = get_tied total m q k ((Equal-is (R q k)).0 e)
+
+  get-adjusted : (m : FinMap R X) (k : K) (f : X → X) (q : K) (o : Option X) → get m k ≡ o → (b : Bool) → eq_by_cmp R q k ≡ b
+      → get (adjusted m k f o) q ≡ cond b (option_map f (get m q)) (get m q)
+  get-adjusted m k f q None is true t = (sym (get-tied m q k t) ∙ is) ∙ sym (ap (option_map f) (sym (get-tied m q k t) ∙ is))
+  get-adjusted m k f q None is false t = refl
+  get-adjusted m k f q (Some v) is true t =
+      get-insert total m k (f v) q ∙ ap (λ b. cond b (Some (f v)) (get m q)) t ∙ sym (ap (option_map f) (sym (get-tied m q k t) ∙ is))
+  get-adjusted m k f q (Some v) is false t = get-insert total m k (f v) q ∙ ap (λ b. cond b (Some (f v)) (get m q)) t
+
+  pub get-adjust : (m : FinMap R X) (k : K) (f : X → X) (q : K) → get (adjust m k f) q
+      ≡ cond (eq_by_cmp R q k) (option_map f (get m q)) (get m q)
+  unfolding adjust
+  get-adjust m k f q = get-adjusted m k f q (get m k) refl (eq_by_cmp R q k) refl
+
+  -- what stood at a key put back
+  pub set_at-back : IsAntisymmetric R → (m : FinMap R X) (k : K) (o : Option X) → set_at (set_at m k o) k (get m k) ≡ m
+  set_at-back same m k o = same_map total same _ m (λ q. get-set_at (set_at m k o) k (get m k) q ∙ by q (eq_by_cmp R q k) refl)
+    where
+      by : (q : K) (b : Bool) → eq_by_cmp R q k ≡ b → cond b (get m k) (get (set_at m k o) q) ≡ get m q
+      by q true t = get-tied m q k t
+      by q false t = get-set_at m k o q ∙ ap (λ b. cond b o (get m q)) t

@@ -1,0 +1,2 @@
+-- What only private functions' contracts cite.
+pub mod Rows
