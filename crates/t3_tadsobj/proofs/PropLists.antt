@@ -96,7 +96,7 @@ props_of-none parts cell none =
     props_of-alike parts cell None (λ n.
     get-set_at cell_cmp_total parts cell None (cells.Prop n)
     ∙ cond-same (eq_by_cmp cell_cmp (cells.Prop n) cell) None (get parts (cells.Prop n))
-        (λ t. sym (get-tied cell_cmp_total parts (cells.Prop n) cell t) ∙ none))
+    (λ t. sym (get-tied cell_cmp_total parts (cells.Prop n) cell t) ∙ none))
 
 -- to insert into ordered entries is to put
 insert_entry-put : (es : List (ℕ × Holder)) (k : ℕ) (v : Holder) → insert_entry nat_cmp es k v ≡ put nat_cmp k v es
@@ -105,7 +105,7 @@ insert_entry-put (e ∷ es) k v = by (insert_entry-put es k v) (nat_cmp k e.0)
   where
     by : insert_entry nat_cmp es k v ≡ put nat_cmp k v es → (r : Ordering)
         → match_ordering r ((k, v) ∷ e ∷ es) ((e.0, v) ∷ es) (e ∷ insert_entry nat_cmp es k v)
-            ≡ by_order r ((k, v) ∷ e ∷ es) ((e.0, v) ∷ es) (e ∷ put nat_cmp k v es)
+        ≡ by_order r ((k, v) ∷ e ∷ es) ((e.0, v) ∷ es) (e ∷ put nat_cmp k v es)
     by rest Less = refl
     by rest Equal = refl
     by rest Greater = ap (λ xs. e ∷ xs) rest
@@ -178,8 +178,8 @@ only-insert places new all prop cell placed = by
 pub only-copied : (slots : List (Cell × Content)) → HasOnlyProps (places_of slots) → HasOnlyProps (places_for (parts_of slots))
 only-copied slots all cell placed =
     all cell (contains-places_of slots cell
-        ∙ found (lookup (same cell) slots) (ap is_some (sym (get-parts_of slots cell)) ∙ contains_key-keys (parts_of slots) cell
-        ∙ sym (contains-from_list cell_cmp_total (keys (parts_of slots)) cell) ∙ placed))
+    ∙ found (lookup (same cell) slots) (ap is_some (sym (get-parts_of slots cell)) ∙ contains_key-keys (parts_of slots) cell
+    ∙ sym (contains-from_list cell_cmp_total (keys (parts_of slots)) cell) ∙ placed))
   where
     found : (o : Option Content) → is_some (seen o) ≡ true → is_some o ≡ true
     found None e = e

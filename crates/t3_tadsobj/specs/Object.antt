@@ -22,7 +22,7 @@ abbrev pub coded_tads : Coded Tads
 coded_tads =
     code_by (Parts × (Places × (List ℕ × Bool))) (coded× coded_parts (coded× coded_places (coded× (coded_list coded_ℕ) coded_bool)))
     (λ t. (t.parts, (t.places, (t.supers, t.class)))) (λ c. record { parts = c.0; places = c.1.0; supers = c.1.1.0; class = c.1.1.1 })
-        (λ _. refl)
+    (λ _. refl)
 
 -- an object without properties
 abbrev pub bare : List ℕ → Bool → Tads

@@ -33,10 +33,12 @@ impl Model for TadsObject {
 
     ghost coded = { coded_tads };
 
-    ghost view = {
-        λ o. record { parts = parts_of o.slots; places = places_of o.slots; supers = o.supers;
-            class = o.class }
-    };
+    ghost view = { λ o. record {
+      parts = parts_of o.slots;
+      places = places_of o.slots;
+      supers = o.supers;
+      class = o.class;
+    } };
 
     ghost use Rattle.t3_tadsobj.specs.Object.{HasOnlyProps};
 
@@ -64,9 +66,7 @@ impl TadsObject {
 
     /// An object like this one, with a place for each present property alone.
     pub fn copy(&self, alloc: Global) -> Result<TadsObject, NoMemory>
-        ensures {
-            IfOk result (λ copy. copy ≡ record self.now { places = places_for self.now.parts })
-        }
+        ensures { IfOk result (λ copy. copy ≡ record self.now { places = places_for self.now.parts }) }
     {
         let slots = self.slots.copy(alloc)?;
         let supers = Vec::from_slice(alloc, self.supers())?;
@@ -79,13 +79,9 @@ impl TadsObject {
 
     /// The present properties with their values, by rising number.
     pub fn props(&self, alloc: Global) -> Result<Props, NoMemory>
-        ensures props {
-            IfOk result (λ props. map (λ prop. (prop.number, prop.value)) props
-                ≡ entries (props_of self.now.parts))
-        }
-        ensures rising {
-            IfOk result (λ props. IsStrictlyIncreasing (map (λ prop. prop.number) props))
-        }
+        ensures props { IfOk result (λ props. map (λ prop. (prop.number, prop.value)) props
+            ≡ entries (props_of self.now.parts)) }
+        ensures rising { IfOk result (λ props. IsStrictlyIncreasing (map (λ prop. prop.number) props)) }
     {
         let ordered = ordered_props(alloc, &self.slots)?;
         let props = listed(alloc, &ordered)?;
@@ -120,10 +116,8 @@ impl Metaclass for TadsObject {
     fn get(&self, cell: &Cell) -> Content
         ensures content { shown result ≡ get self.now.parts cell.now }
         ensures placed { IsSome (shown result) → IsTrue (set.contains self.now.places cell.now) }
-        ensures formed {
-            IsTrue (set.contains self.now.places cell.now)
-                → IsTrue (is_form cell.now (shown result))
-        }
+        ensures formed { IsTrue (set.contains self.now.places cell.now)
+            → IsTrue (is_form cell.now (shown result)) }
         ensures only_props { IsSome (shown result) → IsTrue (is_prop cell.now) }
     {
         self.slots.get(cell)
@@ -132,9 +126,7 @@ impl Metaclass for TadsObject {
     fn put(&mut self, cell: &Cell, content: Content) -> Content
         requires place { IsTrue (set.contains self.old.places cell.now) }
         requires form { IsTrue (is_form cell.now (shown content)) }
-        ensures object {
-            self.new ≡ record self.old { parts = set_at self.old.parts cell.now (shown content) }
-        }
+        ensures object { self.new ≡ record self.old { parts = set_at self.old.parts cell.now (shown content) } }
         ensures old { shown result ≡ get self.old.parts cell.now }
         ensures formed { IsTrue (is_form cell.now (shown result)) }
     {
@@ -143,9 +135,7 @@ impl Metaclass for TadsObject {
 
     fn make_place(&mut self, cell: Cell) -> Result<(), NoMemory>
         requires { IsTrue (is_prop cell) }
-        ensures ok {
-            OnOk result (self.new ≡ record self.old { places = set.insert self.old.places cell })
-        }
+        ensures ok { OnOk result (self.new ≡ record self.old { places = set.insert self.old.places cell }) }
         ensures err { OnErr result (self.new ≡ self.old) }
     {
         self.slots.make_place(cell)?;
@@ -175,10 +165,8 @@ fn add_prop(
     cell: &Cell,
     content: &Content,
 ) -> Result<(), NoMemory>
-    ensures {
-        OnOk result (ordered.new.entries
-            ≡ with_prop cell.now (shown content.now) ordered.old.entries)
-    }
+    ensures { OnOk result (ordered.new.entries
+        ≡ with_prop cell.now (shown content.now) ordered.old.entries) }
 {
     if let Cell::Prop(number) = cell {
         if let Some(value) = content.value() {

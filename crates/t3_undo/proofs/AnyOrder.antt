@@ -80,7 +80,7 @@ module _ {S : Type 0} where
   part_at-put_back F (r ∷ rs) all m q d =
       part_at-put_back F rs all.1 (set_cell m r.number r.cell r.old) q d
       ∙ (λ i. cond (is_noted q d rs) (kept (shape_at-set_cell m r.number r.cell r.old q i) (F q d))
-          (part_at-set_cell m r.number r.cell r.old q d i))
+      (part_at-set_cell m r.number r.cell r.old q d i))
       ∙ joined (is_noted q d rs) (is_of q d r) _ _ _ (λ t.
       let is = is_of-is q d r t in
       ap (kept (shape_at m q)) (sym all.0 ∙ λ i. F (sym is.0 i) (sym is.1 i)))

@@ -217,7 +217,7 @@ module _ {S : Type 0} where
       before-alike s _ m (λ q less.
       let lower : q < n = omega arith in
       get-adjust nat_cmp_total m n (with_part c o) q
-          ∙ ap (λ b. cond b (option_map (with_part c o) (get m q)) (get m q)) (differs q n lower))
+      ∙ ap (λ b. cond b (option_map (with_part c o) (get m q)) (get m q)) (differs q n lower))
 
   pub before-made : (s : Segment) (m : Objects S) (n : ℕ) (x : S × Parts) → s.next ≤ n → before (insert m n x) s ≡ before m s
   before-made s m n x later =

@@ -80,7 +80,7 @@ total-segments marks records all =
 -- the newest savepoint apart
 pub segments-newest : (marks : List Mark) (mark : Mark) (records : List Kept)
     → segments_of (marks ++ mark ∷ []) records
-        ≡ record { next = mark.next; records = take mark.count (olds records) } ∷ cut (reverse marks) (drop mark.count (olds records))
+    ≡ record { next = mark.next; records = take mark.count (olds records) } ∷ cut (reverse marks) (drop mark.count (olds records))
 unfolding cut
 segments-newest marks mark records = ap (λ ms. cut ms (olds records)) (reverse-push marks mark)
 
@@ -91,7 +91,7 @@ segments-none records = refl
 -- a savepoint more
 pub segments-marked : (marks : List Mark) (records : List Kept) (next : ℕ)
     → segments_of (marks ++ record { next = next; count = 0 } ∷ []) records
-        ≡ record { next = next; records = [] } ∷ segments_of marks records
+    ≡ record { next = next; records = [] } ∷ segments_of marks records
 segments-marked marks records next = segments-newest marks (record { next = next; count = 0 }) records
 
 olds-push : (records : List Kept) (kept : Kept) → olds (records ++ kept ∷ []) ≡ old_of kept ∷ olds records
@@ -100,29 +100,29 @@ olds-push records kept = olds-append records (kept ∷ [])
 -- a record more
 pub segments-recorded : (marks : List Mark) (mark : Mark) (records : List Kept) (kept : Kept)
     → segments_of (marks ++ record { next = mark.next; count = mark.count + 1 } ∷ []) (records ++ kept ∷ [])
-        ≡ add (old_of kept) (segments_of (marks ++ mark ∷ []) records)
+    ≡ add (old_of kept) (segments_of (marks ++ mark ∷ []) records)
 segments-recorded marks mark records kept =
     segments-newest marks (record { next = mark.next; count = mark.count + 1 }) (records ++ kept ∷ [])
     ∙ (λ i. record { next = mark.next; records = take (mark.count + 1) (olds-push records kept i) } ∷ cut (reverse marks)
-        (drop (mark.count + 1) (olds-push records kept i)))
+    (drop (mark.count + 1) (olds-push records kept i)))
     ∙ (λ i. record { next = mark.next; records = take (add-one mark.count i) (old_of kept ∷ olds records) } ∷ cut (reverse marks)
-        (drop (add-one mark.count i) (old_of kept ∷ olds records)))
+    (drop (add-one mark.count i) (old_of kept ∷ olds records)))
     ∙ sym (ap (add (old_of kept)) (segments-newest marks mark records))
 
 -- a record less
 pub segments-taken : (marks : List Mark) (next count : ℕ) (records : List Kept) (kept : Kept)
     → segments_of (marks ++ record { next = next; count = count } ∷ []) records
-        ≡ but_newest_record (segments_of (marks ++ record { next = next; count = count + 1 } ∷ []) (records ++ kept ∷ []))
+    ≡ but_newest_record (segments_of (marks ++ record { next = next; count = count + 1 } ∷ []) (records ++ kept ∷ []))
 segments-taken marks next count records kept =
     segments-newest marks (record { next = next; count = count }) records
     ∙ sym (ap but_newest_record (segments-recorded marks (record { next = next; count = count }) records kept
-        ∙ ap (add (old_of kept)) (segments-newest marks (record { next = next; count = count }) records)))
+    ∙ ap (add (old_of kept)) (segments-newest marks (record { next = next; count = count }) records)))
 
 pub newest-taken : (marks : List Mark) (next count : ℕ) (records : List Kept) (kept : Kept)
     → Some (old_of kept) ≡ newest_record (segments_of (marks ++ record { next = next; count = count + 1 } ∷ []) (records ++ kept ∷ []))
 newest-taken marks next count records kept =
     sym (ap newest_record (segments-recorded marks (record { next = next; count = count }) records kept
-        ∙ ap (add (old_of kept)) (segments-newest marks (record { next = next; count = count }) records)))
+    ∙ ap (add (old_of kept)) (segments-newest marks (record { next = next; count = count }) records)))
 
 -- the oldest savepoint dropped
 cut-push : (marks : List Mark) (mark : Mark) (parts rest : List OldPart) → counted marks ≡ length parts
@@ -135,7 +135,7 @@ cut-push (m ∷ marks) mark parts rest e =
     let short : m.count ≤ length parts = omega arith in
     let left : counted marks ≡ length (drop m.count parts) = omega (arith, length-drop m.count parts) in
     (λ i. record { next = m.next; records = take-append-le m.count parts rest short i } ∷ cut (marks ++ mark ∷ [])
-        (drop-append-le m.count parts rest short i))
+    (drop-append-le m.count parts rest short i))
     ∙ ap (λ ss. record { next = m.next; records = take m.count parts } ∷ ss) (cut-push marks mark (drop m.count parts) rest left)
 
 reverse-cons : {X : Type 0} (x : X) (xs : List X) → reverse (x ∷ xs) ≡ reverse xs ++ x ∷ []
@@ -148,12 +148,12 @@ segments-dropped mark marks records all =
     let gone = take mark.count records in
     let whole : olds records ≡ olds left ++ olds gone = ap olds (sym (take-append-drop mark.count records)) ∙ olds-append gone left in
     let enough : counted (reverse marks)
-        ≡ length (olds left) = omega
-        (arith, counted-cons mark marks, counted-reverse marks, length-olds left, length-drop mark.count records) in
+    ≡ length (olds left) = omega
+    (arith, counted-cons mark marks, counted-reverse marks, length-olds left, length-drop mark.count records) in
     let split = (λ i. cut (reverse-cons mark marks i) (whole i)) ∙ cut-push (reverse marks) mark (olds left) (olds gone) enough in
     sym (ap (take (length marks)) split
     ∙ take_at (segments_of marks left) (record { next = mark.next; records = take mark.count (olds gone) } ∷ []) (length marks)
-        (length-segments marks left))
+    (length-segments marks left))
 
 pub counted-dropped : (mark : Mark) (marks : List Mark) (records : List Kept) → AreCounted (mark ∷ marks) records
     → AreCounted marks (drop mark.count records)
@@ -201,7 +201,7 @@ is_noted-newest records count n c h =
     let k = length records - count in
     let left = drop k records in
     let whole : olds records ≡ olds left ++ olds (take k records) = ap olds (sym (take-append-drop k records))
-        ∙ olds-append (take k records) left in
+    ∙ olds-append (take k records) left in
     let size : length (olds left) ≡ count = omega (arith, length-olds left, length-drop k records) in
     list_any-IsPermutation (is_of n c) (map old_of left) (olds left) (IsPermutation-reverse (map old_of left))
     ∙ ap (is_noted n c) (sym (ap (take count) whole ∙ take_at (olds left) (olds (take k records)) count size))
@@ -253,18 +253,18 @@ list_any-map p f (x ∷ xs) = ap (λ b. p (f x) || b) (list_any-map p f xs)
 pub is_due-newest : (marks front : List Mark) (mark : Mark) (records : List Kept) (n : ℕ) (c : Cell) → marks ≡ front ++ mark ∷ []
     → AreCounted marks records
     → is_due n c (segments_of marks records)
-        ≡ (nat_lt n mark.next && not (list_any (λ kept. is_of n c (old_of kept)) (drop (length records - mark.count) records)))
+    ≡ (nat_lt n mark.next && not (list_any (λ kept. is_of n c (old_of kept)) (drop (length records - mark.count) records)))
 is_due-newest marks front mark records n c e all =
     let fits = last-counted front mark records (subst (λ ms. AreCounted ms records) e all) in
     ap (is_due n c) (ap (λ ms. segments_of ms records) e ∙ segments-newest front mark records)
     ∙ ap (λ b. nat_lt n mark.next && not b) (sym (is_noted-newest records mark.count n c fits)
-        ∙ list_any-map (is_of n c) old_of (drop (length records - mark.count) records))
+    ∙ list_any-map (is_of n c) old_of (drop (length records - mark.count) records))
 
 -- a record more, as the code adds it
 pub segments-added : (marks : List Mark) (i : ℕ) (mark : Mark) (records : List Kept) (kept : Kept) → i + 1 ≡ length marks → mark
     ≡ get_or marks i mark
     → segments_of (set marks i (record { next = mark.next; count = mark.count + 1 })) (records ++ kept ∷ [])
-        ≡ add (old_of kept) (segments_of marks records)
+    ≡ add (old_of kept) (segments_of marks records)
 segments-added marks i mark records kept last is =
     (λ j. segments_of (set-last marks i (record { next = mark.next; count = mark.count + 1 }) last j) (records ++ kept ∷ []))
     ∙ segments-recorded (take i marks) mark records kept
@@ -320,7 +320,7 @@ newest-bare marks i mark records last is none =
     (λ j. segments_of ((split-last marks i mark last ∙ ap (λ m. take i marks ++ m ∷ []) (sym is)) j) records)
     ∙ segments-newest (take i marks) mark records
     ∙ λ j. record { next = mark.next; records = take (none j) (olds records) } ∷ cut (reverse (take i marks))
-        (drop (none j) (olds records))
+    (drop (none j) (olds records))
 
 -- the newest savepoint ended
 none-first : (n : ℕ) (parts : List OldPart) → n ≤ length parts → first (take n parts) ≡ None → n ≡ 0
@@ -333,7 +333,7 @@ pub none-left : (marks : List Mark) (mark : Mark) (records : List Kept) → AreC
 none-left marks mark records all e =
     let fits = last-counted marks mark records all in
     none-first mark.count (olds records) (omega (arith, length-olds records))
-        (sym (ap newest_record (segments-newest marks mark records)) ∙ e)
+    (sym (ap newest_record (segments-newest marks mark records)) ∙ e)
 
 pub segments-ended : (marks : List Mark) (mark : Mark) (records : List Kept) → mark.count ≡ 0 → segments_of marks records
     ≡ drop 1 (segments_of (marks ++ mark ∷ []) records)
@@ -352,7 +352,7 @@ segments-oldest [] mark records h is all = absurd (omega arith)
 segments-oldest (m ∷ marks) mark records h is all =
     let e : length marks ≡ length (m ∷ marks) - 1 = omega arith in
     (λ i. segments_of marks (drop (is i).count records)) ∙ segments-dropped m marks records all
-        ∙ λ i. take (e i) (segments_of (m ∷ marks) records)
+    ∙ λ i. take (e i) (segments_of (m ∷ marks) records)
 
 -- two reads of one place
 default : {X : Type 0} (xs : List X) (i : ℕ) (d e : X) → i + 1 ≡ length xs → get_or xs i d ≡ get_or xs i e

@@ -186,7 +186,7 @@ pub insert-places_of : (slots : Entries) (cell : Cell) → contains (places_of s
 insert-places_of slots cell there =
     same_set cell_cmp_total cell_cmp-IsAntisymmetric _ _ (λ q.
     or-there (same q cell) _ (λ t. let P : Cell → Type 0 = λ c. contains (places_of slots) c
-        ≡ true in subst P (sym (same-is q cell t)) there)
+    ≡ true in subst P (sym (same-is q cell t)) there)
     ∙ sym (contains-insert cell_cmp_total (places_of slots) cell q))
 
 -- how many cells have a place
@@ -200,7 +200,7 @@ len-from_list [] apart = len-empty cell_cmp
 len-from_list (cell ∷ cells) apart =
     len-insert cell_cmp_total (from_list cells) cell
     ∙ ap (λ b. cond b (len (from_list {R = cell_cmp} cells)) (len (from_list {R = cell_cmp} cells) + 1))
-        (contains-from_list cell_cmp_total cells cell ∙ none_after same cell cells apart.0)
+    (contains-from_list cell_cmp_total cells cell ∙ none_after same cell cells apart.0)
     ∙ (let e = len-from_list cells apart.1 in omega (arith, e))
 
 length-keys : (slots : Entries) → length (keys_of slots) ≡ length slots
@@ -236,14 +236,14 @@ seen-filter (slot ∷ slots) apart cell = by (seen-filter slots apart.1 cell) (i
     by : seen (lookup (same cell) (filter is_present slots)) ≡ seen (lookup (same cell) slots) → (p : Bool) → is_present slot ≡ p
         → (b : Bool) → same cell slot.0 ≡ b
         → seen (lookup (same cell) (cond p (slot ∷ filter is_present slots) (filter is_present slots)))
-            ≡ seen (cond b (Some slot.1) (lookup (same cell) slots))
+        ≡ seen (cond b (Some slot.1) (lookup (same cell) slots))
     by rest true there true t = ap (λ b. seen (cond b (Some slot.1) (lookup (same cell) (filter is_present slots)))) t
     by rest true there false t = ap (λ b. seen (cond b (Some slot.1) (lookup (same cell) (filter is_present slots)))) t ∙ rest
     by rest false there true t =
         let P : Cell → Type 0 = λ c. lookup (same c) slots ≡ None in
         let none : lookup (same cell) slots
-            ≡ None = subst P (sym (same-is cell slot.0 t)) (lookup-none slots slot.0 (none_after same slot.0 (keys_of slots) apart.0))
-            in
+        ≡ None = subst P (sym (same-is cell slot.0 t)) (lookup-none slots slot.0 (none_after same slot.0 (keys_of slots) apart.0))
+        in
         ap seen (none-filter slots cell none) ∙ sym (not_there slot.1 there)
     by rest false there false t = rest
 
@@ -308,7 +308,7 @@ new-at (first ∷ slots) (suc i) slot apart e = by (new-at slots i slot apart.1 
   where
     by : list_any (same slot.0) (keys_of (filter is_present (take i slots))) ≡ false
         → (b : Bool) → list_any (same slot.0)
-            (keys_of (cond b (first ∷ filter is_present (take i slots)) (filter is_present (take i slots)))) ≡ false
+        (keys_of (cond b (first ∷ filter is_present (take i slots)) (filter is_present (take i slots)))) ≡ false
     by rest true = ap (λ b. b || list_any (same slot.0) (keys_of (filter is_present (take i slots))))
         (apart-at first.0 slots i slot apart.0 e) ∙ rest
     by rest false = rest
@@ -336,7 +336,7 @@ new-among [] i slot apart e = cc
 new-among (first ∷ slots) zero slot apart e = refl
 new-among (first ∷ slots) (suc i) slot apart e =
     ap (λ b. b || list_any (same slot.0) (keys_of (take i slots))) (apart-at first.0 slots i slot apart.0 e)
-        ∙ new-among slots i slot apart.1 e
+    ∙ new-among slots i slot apart.1 e
 
 pub parts_of-at : (slots : Entries) (i : ℕ) (slot : Cell × Content) → IsDistinct same (keys_of slots) → slice_get slots i ≡ Some slot
     → parts_of (take (i + 1) slots) ≡ set_at (parts_of (take i slots)) slot.0 (shown slot.1)

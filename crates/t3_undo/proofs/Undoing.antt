@@ -98,7 +98,7 @@ module _ {S : Type 0} where
     where
       by : (b : Bool) → (nat_lt n s.next && not (is_noted n c s.records)) ≡ b
           → copies (set_cell m n c o) (if b then add (record { number = n; cell = c; old = part_at m n c }) (s ∷ ss) else (s ∷ ss))
-              ≡ copies m (s ∷ ss)
+          ≡ copies m (s ∷ ss)
       by true t = copies-newest (record { next = s.next; records = record { number = n; cell = c; old = part_at m n c } ∷ s.records }) s
           ss _ m (ap (below s.next) (put_back-note s.records m n c o))
       by false t = copies-newest s s ss _ m (before-undue s m n c o t)
@@ -117,7 +117,7 @@ module _ {S : Type 0} where
   unfolding put_back
   unchanged next m all =
       same_map nat_cmp_total nat_cmp-IsAntisymmetric _ m (λ q. get-before (record { next = next; records = [] }) m q
-          ∙ by q (nat_lt q next) refl)
+      ∙ by q (nat_lt q next) refl)
     where
       by : (q : ℕ) (b : Bool) → nat_lt q next ≡ b → cond b (get m q) None ≡ get m q
       by q true t = refl
@@ -129,8 +129,12 @@ module _ {S : Type 0} where
   happens k (Sets n c o) is = λ i. record
       { objects = set_cell k.objects n c o; next = k.next; copies = sym (copies-set k.segments k.objects n c o) i }
   happens k (Makes shape parts) is =
-      λ i. record { objects = insert k.objects k.next (shape, parts); next = k.next + 1; copies = sym
-          (copies-made k.segments k.objects k.next (shape, parts) is.older) i }
+      λ i. record {
+        objects = insert k.objects k.next (shape, parts);
+        next = k.next + 1;
+        copies = sym
+            (copies-made k.segments k.objects k.next (shape, parts) is.older) i;
+      }
   happens k Saves is =
       let same = sym (unchanged k.next k.objects is.below) in
       λ i. record { objects = k.objects; next = k.next; copies = same i ∷ copies (same i) k.segments }

@@ -51,7 +51,7 @@ cell_cmp_total = on_texts cell_code
 pub cell_cmp-IsAntisymmetric : IsAntisymmetric cell_cmp
 cell_cmp-IsAntisymmetric x y e =
     sym (cell_from-cell_code x) ∙ ap cell_from (slice_cmp-IsAntisymmetric nat_cmp-IsAntisymmetric (cell_code x) (cell_code y) e)
-        ∙ cell_from-cell_code y
+    ∙ cell_from-cell_code y
 
 -- what is fed to a hasher: the kind, and the number or key
 abbrev pub cell_input : Cell → fed.HashWrites

@@ -68,7 +68,7 @@ pub record Present : Type 0 where
 abbrev pub coded_present : Coded Present
 coded_present =
     code_by (Option ℕ × Holder) (coded× (coded_option coded_ℕ) coded_holder) (λ p. (p.tick, p.value))
-        (λ t. record { tick = t.0; value = t.1 }) (λ _. refl)
+    (λ t. record { tick = t.0; value = t.1 }) (λ _. refl)
 
 -- a content as what stands in a cell, none where it is absent
 abbrev pub shown : Content → Option Present

@@ -70,13 +70,13 @@ pub record Held : Type 0 where
 abbrev coded_old : Coded OldPart
 coded_old =
     code_by (ℕ × (Cell × Option Present)) (coded× coded_ℕ (coded× coded_cell (coded_option coded_present)))
-        (λ p. (p.number, (p.cell, p.old)))
+    (λ p. (p.number, (p.cell, p.old)))
     (λ t. record { number = t.0; cell = t.1.0; old = t.1.1 }) (λ _. refl)
 
 abbrev coded_segment : Coded Segment
 coded_segment =
     code_by (ℕ × List OldPart) (coded× coded_ℕ (coded_list coded_old)) (λ s. (s.next, s.records))
-        (λ t. record { next = t.0; records = t.1 }) (λ _. refl)
+    (λ t. record { next = t.0; records = t.1 }) (λ _. refl)
 
 abbrev pub coded_held : Coded Held
 coded_held =

@@ -69,7 +69,7 @@ key_cmp_total = on_texts key_code
 pub key_cmp-IsAntisymmetric : IsAntisymmetric key_cmp
 key_cmp-IsAntisymmetric x y e =
     sym (key_from-key_code x) ∙ ap key_from (slice_cmp-IsAntisymmetric nat_cmp-IsAntisymmetric (key_code x) (key_code y) e)
-        ∙ key_from-key_code y
+    ∙ key_from-key_code y
 
 -- what is fed to a hasher: the kind, and the value
 abbrev pub key_input : Key → fed.HashWrites

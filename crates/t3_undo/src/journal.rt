@@ -35,15 +35,15 @@ impl Model for Journal {
     ghost use Rattle.std.specs.Prelude.{vec_capacity};
     ghost use Rattle.t3_undo.specs.Inner.Rows.{segments_of, IsJournal};
 
-    ghost view = {
-        λ j. record { segments = segments_of j.marks.items j.records.items; marks = j.made;
-            record_limit = j.record_limit; mark_limit = j.mark_limit }
-    };
+    ghost view = { λ j. record {
+      segments = segments_of j.marks.items j.records.items;
+      marks = j.made;
+      record_limit = j.record_limit;
+      mark_limit = j.mark_limit;
+    } };
 
-    ghost invariant = {
-        λ j. IsJournal j.marks.items j.records.items (vec_capacity j.marks)
-            (vec_capacity j.records) j.made j.mark_limit j.record_limit
-    };
+    ghost invariant = { λ j. IsJournal j.marks.items j.records.items (vec_capacity j.marks)
+        (vec_capacity j.records) j.made j.mark_limit j.record_limit };
 }
 
 impl Journal {
@@ -51,11 +51,14 @@ impl Journal {
     pub fn start(alloc: Global, records: u32, savepoints: u32) -> Result<Journal, NoMemory>
         requires records { 0 < records }
         requires savepoints { 0 < savepoints }
-        ensures {
-            IfOk result (λ journal. journal
-                ≡ record { segments = []; marks = 0; record_limit = records; mark_limit =
-                savepoints })
-        }
+        ensures { IfOk result (λ journal. journal
+            ≡ record {
+              segments = [];
+              marks = 0;
+              record_limit = records;
+              mark_limit =
+                  savepoints;
+            }) }
     {
         Ok(Journal {
             marks: Vec::with_capacity(alloc, savepoints as usize)?,
@@ -70,10 +73,11 @@ impl Journal {
     /// limit says, the oldest goes first.
     pub fn mark(&mut self, next: u32)
         requires { self.old.marks < 2 ^ 63 }
-        ensures {
-            self.new ≡ record self.old { segments = record { next = next; records = [] }
-                ∷ take (self.old.mark_limit - 1) self.old.segments; marks = self.old.marks + 1 }
-        }
+        ensures { self.new ≡ record self.old {
+          segments = record { next = next; records = [] }
+              ∷ take (self.old.mark_limit - 1) self.old.segments;
+          marks = self.old.marks + 1;
+        } }
     {
         add_mark(&mut self.marks, &mut self.records, self.mark_limit, next);
         self.made += 1;
@@ -84,11 +88,10 @@ impl Journal {
     /// records as the limit says, the oldest savepoint goes first, with its records; where none is left,
     /// nothing is recorded.
     pub fn note(&mut self, number: u32, cell: Cell, old: Content)
-        ensures {
-            self.new ≡ record self.old
-                { segments = note_in self.old.record_limit
-                (record { number = number; cell = cell; old = shown old }) self.old.segments }
-        }
+        ensures { self.new ≡ record self.old {
+          segments = note_in self.old.record_limit
+              (record { number = number; cell = cell; old = shown old }) self.old.segments;
+        } }
     {
         note_record(
             &mut self.marks,
@@ -109,9 +112,7 @@ impl Journal {
     /// the newest has no record left.
     pub fn take_kept(&mut self) -> Option<Kept>
         ensures kept { option_map old_of result ≡ newest_record self.old.segments }
-        ensures left {
-            self.new ≡ record self.old { segments = but_newest_record self.old.segments }
-        }
+        ensures left { self.new ≡ record self.old { segments = but_newest_record self.old.segments } }
     {
         take_record(&mut self.marks, &mut self.records)
     }

@@ -30,10 +30,8 @@ pub trait Metaclass {
     fn get(&self, cell: &Cell) -> Content
         ensures content { shown result ≡ get (parts self.now) cell.now }
         ensures placed { IsSome (shown result) → IsTrue (set.contains (places self.now) cell.now) }
-        ensures formed {
-            IsTrue (set.contains (places self.now) cell.now)
-                → IsTrue (is_form cell.now (shown result))
-        };
+        ensures formed { IsTrue (set.contains (places self.now) cell.now)
+            → IsTrue (is_form cell.now (shown result)) };
 
     /// Sets the cell, and hands out what stood there. No memory is taken.
     fn put(&mut self, cell: &Cell, content: Content) -> Content

@@ -26,10 +26,8 @@ fn is_noted(records: &[Kept], number: u32, cell: &Cell) -> bool
 /// Whether one of so many newest records is of the cell.
 fn is_noted_since(records: &[Kept], count: u32, number: u32, cell: &Cell) -> bool
     requires { count ≤ length records.now }
-    ensures {
-        result ≡ list_any (λ kept. is_of number cell.now (old_of kept))
-            (drop (length records.now - count) records.now)
-    }
+    ensures { result ≡ list_any (λ kept. is_of number cell.now (old_of kept))
+        (drop (length records.now - count) records.now) }
 {
     let since = &records[records.len() - count as usize..];
     is_noted(since, number, cell)
@@ -55,10 +53,8 @@ fn is_due(marks: &[Mark], records: &[Kept], number: u32, cell: &Cell) -> bool
 fn drop_oldest(marks: &mut Vec<Mark>, records: &mut Vec<Kept>)
     requires counted { AreCounted marks.old.items records.old.items }
     requires held { 0 < vec_len marks.old }
-    ensures segments {
-        segments_of marks.new.items records.new.items
-            ≡ take (vec_len marks.old - 1) (segments_of marks.old.items records.old.items)
-    }
+    ensures segments { segments_of marks.new.items records.new.items
+        ≡ take (vec_len marks.old - 1) (segments_of marks.old.items records.old.items) }
     ensures counted { AreCounted marks.new.items records.new.items }
     ensures marks { vec_len marks.new + 1 ≡ vec_len marks.old }
     ensures records { vec_len records.new ≤ vec_len records.old }
@@ -75,10 +71,8 @@ fn drop_oldest(marks: &mut Vec<Mark>, records: &mut Vec<Kept>)
 /// Drops the oldest savepoints, until there are fewer records than the limit.
 fn make_room(marks: &mut Vec<Mark>, records: &mut Vec<Kept>, limit: u32)
     requires { AreCounted marks.old.items records.old.items }
-    ensures segments {
-        segments_of marks.new.items records.new.items
-            ≡ room limit (segments_of marks.old.items records.old.items)
-    }
+    ensures segments { segments_of marks.new.items records.new.items
+        ≡ room limit (segments_of marks.old.items records.old.items) }
     ensures counted { AreCounted marks.new.items records.new.items }
     ensures marks { vec_len marks.new ≤ vec_len marks.old }
     ensures records { vec_len records.new ≤ vec_len records.old }
@@ -96,10 +90,8 @@ fn add_record(marks: &mut Vec<Mark>, records: &mut Vec<Kept>, kept: Kept)
     requires counted { AreCounted marks.old.items records.old.items }
     requires room { 0 < vec_len marks.old → vec_len records.old < vec_capacity records.old }
     requires small { 0 < vec_len marks.old → vec_len records.old + 1 < 2 ^ 32 }
-    ensures segments {
-        segments_of marks.new.items records.new.items
-            ≡ add (old_of kept) (segments_of marks.old.items records.old.items)
-    }
+    ensures segments { segments_of marks.new.items records.new.items
+        ≡ add (old_of kept) (segments_of marks.old.items records.old.items) }
     ensures counted { AreCounted marks.new.items records.new.items }
     ensures marks { vec_len marks.new ≡ vec_len marks.old }
     ensures records { vec_len records.new ≤ vec_len records.old + 1 }
@@ -120,10 +112,8 @@ pub(crate) fn note_record(marks: &mut Vec<Mark>, records: &mut Vec<Kept>, limit:
     requires counted { AreCounted marks.old.items records.old.items }
     requires room { limit ≤ vec_capacity records.old }
     requires few { vec_len records.old ≤ limit }
-    ensures segments {
-        segments_of marks.new.items records.new.items
-            ≡ note_in limit (old_of kept) (segments_of marks.old.items records.old.items)
-    }
+    ensures segments { segments_of marks.new.items records.new.items
+        ≡ note_in limit (old_of kept) (segments_of marks.old.items records.old.items) }
     ensures counted { AreCounted marks.new.items records.new.items }
     ensures marks { vec_len marks.new ≤ vec_len marks.old }
     ensures records { vec_len records.new ≤ limit }
@@ -141,10 +131,8 @@ fn make_mark_room(marks: &mut Vec<Mark>, records: &mut Vec<Kept>, limit: u32)
     requires counted { AreCounted marks.old.items records.old.items }
     requires some { 0 < limit }
     requires few { vec_len marks.old ≤ limit }
-    ensures segments {
-        segments_of marks.new.items records.new.items
-            ≡ take (limit - 1) (segments_of marks.old.items records.old.items)
-    }
+    ensures segments { segments_of marks.new.items records.new.items
+        ≡ take (limit - 1) (segments_of marks.old.items records.old.items) }
     ensures counted { AreCounted marks.new.items records.new.items }
     ensures marks { vec_len marks.new < limit }
     ensures records { vec_len records.new ≤ vec_len records.old }
@@ -162,10 +150,8 @@ pub(crate) fn add_mark(marks: &mut Vec<Mark>, records: &mut Vec<Kept>, limit: u3
     requires some { 0 < limit }
     requires few { vec_len marks.old ≤ limit }
     requires room { limit ≤ vec_capacity marks.old }
-    ensures segments {
-        segments_of marks.new.items records.new.items ≡ record { next = next; records = [] }
-            ∷ take (limit - 1) (segments_of marks.old.items records.old.items)
-    }
+    ensures segments { segments_of marks.new.items records.new.items ≡ record { next = next; records = [] }
+        ∷ take (limit - 1) (segments_of marks.old.items records.old.items) }
     ensures counted { AreCounted marks.new.items records.new.items }
     ensures marks { vec_len marks.new ≤ limit }
     ensures records { vec_len records.new ≤ vec_len records.old }
@@ -179,13 +165,9 @@ pub(crate) fn add_mark(marks: &mut Vec<Mark>, records: &mut Vec<Kept>, limit: u3
 /// Hands out the newest record of the newest savepoint.
 pub(crate) fn take_record(marks: &mut Vec<Mark>, records: &mut Vec<Kept>) -> Option<Kept>
     requires { AreCounted marks.old.items records.old.items }
-    ensures kept {
-        option_map old_of result ≡ newest_record (segments_of marks.old.items records.old.items)
-    }
-    ensures segments {
-        segments_of marks.new.items records.new.items
-            ≡ but_newest_record (segments_of marks.old.items records.old.items)
-    }
+    ensures kept { option_map old_of result ≡ newest_record (segments_of marks.old.items records.old.items) }
+    ensures segments { segments_of marks.new.items records.new.items
+        ≡ but_newest_record (segments_of marks.old.items records.old.items) }
     ensures counted { AreCounted marks.new.items records.new.items }
     ensures marks { vec_len marks.new ≡ vec_len marks.old }
     ensures records { vec_len records.new ≤ vec_len records.old }
@@ -208,9 +190,7 @@ pub(crate) fn take_mark(marks: &mut Vec<Mark>, records: &[Kept]) -> Option<u32>
     requires counted { AreCounted marks.old.items records.now }
     requires empty { newest_record (segments_of marks.old.items records.now) ≡ None }
     ensures next { result ≡ newest_next (segments_of marks.old.items records.now) }
-    ensures segments {
-        segments_of marks.new.items records.now ≡ drop 1 (segments_of marks.old.items records.now)
-    }
+    ensures segments { segments_of marks.new.items records.now ≡ drop 1 (segments_of marks.old.items records.now) }
     ensures counted { AreCounted marks.new.items records.now }
     ensures marks { vec_len marks.new ≤ vec_len marks.old }
     ensures mark_room { vec_capacity marks.new ≡ vec_capacity marks.old }

@@ -57,13 +57,9 @@ impl Slots {
     /// What stands in the cell.
     pub fn get(&self, cell: &Cell) -> Content
         ensures content { shown result ≡ get (parts_of self.now) cell.now }
-        ensures placed {
-            IsSome (shown result) → IsTrue (set.contains (places_of self.now) cell.now)
-        }
-        ensures formed {
-            IsTrue (set.contains (places_of self.now) cell.now)
-                → IsTrue (is_form cell.now (shown result))
-        }
+        ensures placed { IsSome (shown result) → IsTrue (set.contains (places_of self.now) cell.now) }
+        ensures formed { IsTrue (set.contains (places_of self.now) cell.now)
+            → IsTrue (is_form cell.now (shown result)) }
     {
         match self.cells.get(cell) {
             Some(content) => like(content),
@@ -125,9 +121,7 @@ impl Slots {
     fn add_present(&mut self, alloc: Global, cell: &Cell, content: &Content) -> Result<(), NoMemory>
         requires new { list_any (eq_by_cmp cell_cmp cell.now) (keys_of self.old) ≡ false }
         requires form { IsTrue (is_form cell.now (shown content.now)) }
-        ensures {
-            OnOk result (self.new ≡ self.old ++ filter is_present ((cell.now, content.now) ∷ []))
-        }
+        ensures { OnOk result (self.new ≡ self.old ++ filter is_present ((cell.now, content.now) ∷ [])) }
     {
         if content.is_present() {
             self.add(cell.copy(alloc)?, like(content))?;
@@ -156,9 +150,7 @@ impl Slots {
 /// Puts another content under a cell that is there, and hands out what stood there.
 fn exchange(cells: &mut Cells, cell: &Cell, content: Content) -> Content
     requires { IsSome (get_by (eq_by_cmp cell_cmp cell.now) cells.old) }
-    ensures entries {
-        cells.new.entries ≡ set_value (eq_by_cmp cell_cmp cell.now) cells.old.entries content
-    }
+    ensures entries { cells.new.entries ≡ set_value (eq_by_cmp cell_cmp cell.now) cells.old.entries content }
     ensures old { get_by (eq_by_cmp cell_cmp cell.now) cells.old ≡ Some result }
 {
     match cells.get_mut(cell) {

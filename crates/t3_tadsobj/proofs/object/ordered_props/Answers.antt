@@ -17,14 +17,14 @@ loop-index-init c = c.new-ordered.ensures.empty ∙ sym no-props
 pub loop-index-preserved : goal.loop-index-preserved
 loop-index-preserved c =
     let stands : slice_get c.args.slots.now c.loop-index.index
-        ≡ Some (c.unwrap.result.0.now, c.unwrap.result.1.now) = sym c.slot.ensures.slot ∙ ap (option_map deref_pair) c.unwrap.ensures in
+    ≡ Some (c.unwrap.result.0.now, c.unwrap.result.1.now) = sym c.slot.ensures.slot ∙ ap (option_map deref_pair) c.unwrap.ensures in
     c.in_ok-add_prop.ensures
     ∙ (λ i. with_prop c.unwrap.result.0.now (shown c.unwrap.result.1.now) (c.loop-index.invariant i))
     ∙ entries-with_prop (parts_of (take c.loop-index.index c.args.slots.now)) c.unwrap.result.0.now (shown c.unwrap.result.1.now)
     (get-at c.args.slots.now c.loop-index.index (c.unwrap.result.0.now, c.unwrap.result.1.now) c.places-index-end.ensures.distinct stands)
     ∙ λ i. entries (props_of
-        (sym (parts_of-at c.args.slots.now c.loop-index.index (c.unwrap.result.0.now, c.unwrap.result.1.now)
-        c.places-index-end.ensures.distinct stands) i))
+    (sym (parts_of-at c.args.slots.now c.loop-index.index (c.unwrap.result.0.now, c.unwrap.result.1.now)
+    c.places-index-end.ensures.distinct stands) i))
 
 pub returns : goal.returns
 returns c =

@@ -9,4 +9,4 @@ returns-in-Text-other c =
     let other : c.as_slice-in-Text-other.result.now ≡ c.in-Text-other.same = c.as_slice-in-Text-other.ensures.value ∙ c.same.view_is in
     rw (c.in-Text.is, c.in-Text-other.is)
     (c.eq.ensures ∙ texts_ties c.as_slice.result.now c.as_slice-in-Text-other.result.now
-        ∙ λ i. eq_by_cmp (slice_cmp nat_cmp) (one i) (other i))
+    ∙ λ i. eq_by_cmp (slice_cmp nat_cmp) (one i) (other i))

@@ -14,8 +14,8 @@ pub returns-clause-segments : goal.returns-clause-segments
 returns-clause-segments c =
     let some = above-zero _ c.is_empty.result c.is_empty.ensures c.if-is_empty.false in
     let last : c.len-newest.result - 1 + 1
-        ≡ length c.args.marks.now.items = omega (arith, some, c.args.marks.now.ok.0, c.len-newest.ensures) in
+    ≡ length c.args.marks.now.items = omega (arith, some, c.args.marks.now.ok.0, c.len-newest.ensures) in
     (λ i. segments_of (set c.args.marks.now.items (c.len-newest.result - 1)
-        (record { next = c.index_mut.result.now.next; count = c.index_mut.result.now.count + 1 })) (c.push_reserved.ensures.items i))
+    (record { next = c.index_mut.result.now.next; count = c.index_mut.result.now.count + 1 })) (c.push_reserved.ensures.items i))
     ∙ segments-added c.args.marks.now.items (c.len-newest.result - 1) c.index_mut.result.now c.args.records.now.items c.args.kept last
-        c.index_mut.ensures.value
+    c.index_mut.ensures.value

@@ -7,16 +7,27 @@ use Rattle.t3_undo.proofs.rows.make_room.Goals as goal
 pub loop-records-preserved : goal.loop-records-preserved
 loop-records-preserved c =
     let marks : c.loop-records.marks.len - 1 + 1 ≡ length (segments_of c.loop-records.marks.items c.loop-records.records.items) =
-    omega (arith, above-zero _ c.is_empty.result c.is_empty.ensures c.loop-records-test.true, length-segments c.loop-records.marks.items
-        c.loop-records.records.items, c.loop-records.marks.ok.0) in
+    omega (
+      arith,
+      above-zero _ c.is_empty.result c.is_empty.ensures c.loop-records-test.true,
+      length-segments c.loop-records.marks.items
+          c.loop-records.records.items,
+      c.loop-records.marks.ok.0,
+    ) in
     let full : c.args.limit ≤ total (segments_of c.loop-records.marks.items c.loop-records.records.items) =
-    omega (arith, c.if-len-limit.true, c.len.ensures, total-segments c.loop-records.marks.items c.loop-records.records.items
-        c.loop-records.invariant.counted, c.loop-records.records.ok.0) in
+    omega (
+      arith,
+      c.if-len-limit.true,
+      c.len.ensures,
+      total-segments c.loop-records.marks.items c.loop-records.records.items
+          c.loop-records.invariant.counted,
+      c.loop-records.records.ok.0,
+    ) in
     record {
       segments =
           ap (room c.args.limit) c.drop_oldest.ensures.segments
           ∙ room-dropped c.args.limit (c.loop-records.marks.len - 1)
-              (segments_of c.loop-records.marks.items c.loop-records.records.items) marks full
+          (segments_of c.loop-records.marks.items c.loop-records.records.items) marks full
           ∙ c.loop-records.invariant.segments;
       counted = c.drop_oldest.ensures.counted;
       marks = omega (arith, c.drop_oldest.ensures.marks, c.loop-records.invariant.marks);
@@ -28,10 +39,16 @@ loop-records-preserved c =
 pub returns-else-len-limit-clause-segments : goal.returns-else-len-limit-clause-segments
 returns-else-len-limit-clause-segments c =
     let free : total (segments_of c.loop-records.marks.items c.loop-records.records.items) < c.args.limit =
-    omega (arith, c.if-len-limit.false, c.len.ensures, total-segments c.loop-records.marks.items c.loop-records.records.items
-        c.loop-records.invariant.counted, c.loop-records.records.ok.0) in
+    omega (
+      arith,
+      c.if-len-limit.false,
+      c.len.ensures,
+      total-segments c.loop-records.marks.items c.loop-records.records.items
+          c.loop-records.invariant.counted,
+      c.loop-records.records.ok.0,
+    ) in
     sym (room-fits c.args.limit (segments_of c.loop-records.marks.items c.loop-records.records.items) free)
-        ∙ c.loop-records.invariant.segments
+    ∙ c.loop-records.invariant.segments
 
 pub returns-after-loop-records-clause-segments : goal.returns-after-loop-records-clause-segments
 returns-after-loop-records-clause-segments c =

@@ -19,18 +19,18 @@ pub returns-then-index-eq0-clause-kept : goal.returns-then-index-eq0-clause-kept
 returns-then-index-eq0-clause-kept c =
     let some = above-zero _ c.is_empty.result c.is_empty.ensures c.if-is_empty.false in
     let last : c.len-newest.result - 1 + 1
-        ≡ length c.args.marks.now.items = omega (arith, some, c.args.marks.now.ok.0, c.len-newest.ensures) in
+    ≡ length c.args.marks.now.items = omega (arith, some, c.args.marks.now.ok.0, c.len-newest.ensures) in
     sym (ap newest_record
-        (newest-bare c.args.marks.now.items (c.len-newest.result - 1) c.index.result.now c.args.records.now.items last c.index.ensures
-        c.if-index-eq0.true))
+    (newest-bare c.args.marks.now.items (c.len-newest.result - 1) c.index.result.now c.args.records.now.items last c.index.ensures
+    c.if-index-eq0.true))
 
 pub returns-then-index-eq0-clause-segments : goal.returns-then-index-eq0-clause-segments
 returns-then-index-eq0-clause-segments c =
     let some = above-zero _ c.is_empty.result c.is_empty.ensures c.if-is_empty.false in
     let last : c.len-newest.result - 1 + 1
-        ≡ length c.args.marks.now.items = omega (arith, some, c.args.marks.now.ok.0, c.len-newest.ensures) in
+    ≡ length c.args.marks.now.items = omega (arith, some, c.args.marks.now.ok.0, c.len-newest.ensures) in
     let bare = newest-bare c.args.marks.now.items (c.len-newest.result - 1) c.index.result.now c.args.records.now.items last
-        c.index.ensures c.if-index-eq0.true in
+    c.index.ensures c.if-index-eq0.true in
     bare ∙ sym (ap but_newest_record bare)
 
 taken : (c : After-pop)
@@ -39,10 +39,10 @@ taken : (c : After-pop)
 taken c =
     let some = above-zero _ c.is_empty.result c.is_empty.ensures c.if-is_empty.false in
     let last : c.len-newest.result - 1 + 1
-        ≡ length c.args.marks.now.items = omega (arith, some, c.args.marks.now.ok.0, c.len-newest.ensures) in
+    ≡ length c.args.marks.now.items = omega (arith, some, c.args.marks.now.ok.0, c.len-newest.ensures) in
     let alike = ap (λ m. m.count)
-        (same-read c.args.marks.now.items (c.len-newest.result - 1) c.index.result.now c.index_mut.result.now last c.index.ensures
-        c.index_mut.ensures.value) in
+    (same-read c.args.marks.now.items (c.len-newest.result - 1) c.index.result.now c.index_mut.result.now last c.index.ensures
+    c.index_mut.ensures.value) in
     record {
       last = last;
       is = c.index_mut.ensures.value;

@@ -12,7 +12,7 @@ pub invariant_of-result : goal.invariant_of-result
 invariant_of-result c =
     let P : List ℕ → Type 0 = IsDistinct nat_eq in
     subst P (sym (ap (map (λ (p : PropValue). p.number)) c.in_ok-props.ensures.listed
-        ∙ numbers-listed c.in_ok-ordered.ordered.entries)) (distinct _ c.in_ok-props.ensures.rising)
+    ∙ numbers-listed c.in_ok-ordered.ordered.entries)) (distinct _ c.in_ok-props.ensures.rising)
 
 pub returns-clause-props : goal.returns-clause-props
 returns-clause-props c =
@@ -23,4 +23,4 @@ pub returns-clause-rising : goal.returns-clause-rising
 returns-clause-rising c =
     let P : List ℕ → Type 0 = IsStrictlyIncreasing in
     subst P (sym (ap (map (λ (p : PropValue). p.number)) c.in_ok-props.ensures.listed
-        ∙ numbers-listed c.in_ok-ordered.ordered.entries)) (IsStrictlyIncreasing-from_sorted _ c.in_ok-props.ensures.rising)
+    ∙ numbers-listed c.in_ok-ordered.ordered.entries)) (IsStrictlyIncreasing-from_sorted _ c.in_ok-props.ensures.rising)

@@ -24,6 +24,11 @@ invariant_of-self c = record {
 pub returns : goal.returns
 returns c =
     let bare = segments-empty c.clear.new.self.items c.clear-2.new.self.items
-        (omega (arith, c.clear.ensures.len, c.clear.new.self.ok.0)) in
-    λ i. record { segments = bare i; marks = (c.self.view_is i).marks; record_limit = (c.self.view_is i).record_limit; mark_limit =
-        (c.self.view_is i).mark_limit }
+    (omega (arith, c.clear.ensures.len, c.clear.new.self.ok.0)) in
+    λ i. record {
+      segments = bare i;
+      marks = (c.self.view_is i).marks;
+      record_limit = (c.self.view_is i).record_limit;
+      mark_limit =
+          (c.self.view_is i).mark_limit;
+    }

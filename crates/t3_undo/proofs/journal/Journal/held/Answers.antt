@@ -5,4 +5,4 @@ use Rattle.t3_undo.proofs.journal.Journal.held.Goals as goal
 pub returns-clause-held : goal.returns-clause-held
 returns-clause-held c =
     c.len.ensures ∙ c.self.inside.marks.ok.0 ∙ sym (length-segments c.self.inside.marks.items c.self.inside.records.items)
-        ∙ λ i. length (c.self.view_is i).segments
+    ∙ λ i. length (c.self.view_is i).segments

@@ -10,8 +10,13 @@ invariant_of-self c = record {
       (apart-note_in c.self.inside.record_limit _ _ c.self.invariant.apart);
   one_mark = c.self.invariant.one_mark;
   one_record = c.self.invariant.one_record;
-  few_marks = omega (arith, c.note_record.ensures.marks, c.self.invariant.few_marks, c.self.inside.marks.ok.0,
-      c.note_record.new.marks.ok.0);
+  few_marks = omega (
+    arith,
+    c.note_record.ensures.marks,
+    c.self.invariant.few_marks,
+    c.self.inside.marks.ok.0,
+    c.note_record.new.marks.ok.0,
+  );
   few_records = omega (arith, c.note_record.ensures.records, c.note_record.new.records.ok.0);
   marks_fit = omega (arith, c.note_record.ensures.mark_room, c.self.invariant.marks_fit);
   records_fit = omega (arith, c.note_record.ensures.record_room, c.self.invariant.records_fit);

@@ -6,5 +6,5 @@ use Rattle.t3_undo.proofs.journal.Journal.records.Goals as goal
 pub returns-clause-records : goal.returns-clause-records
 returns-clause-records c =
     c.len.ensures ∙ c.self.inside.records.ok.0
-        ∙ sym (total-segments c.self.inside.marks.items c.self.inside.records.items c.self.invariant.counted)
+    ∙ sym (total-segments c.self.inside.marks.items c.self.inside.records.items c.self.invariant.counted)
     ∙ λ i. total (c.self.view_is i).segments

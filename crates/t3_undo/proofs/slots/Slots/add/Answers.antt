@@ -11,7 +11,7 @@ added c =
     c.in_ok-insert.ensures.entries
     ∙ insert_entry-new same c.self.inside.cells c.args.cell c.args.content
     (lookup-none c.self.inside.cells.entries c.args.cell ((λ i. list_any (same c.args.cell) (keys_of (c.self.view_is i)))
-        ∙ c.requires.new))
+    ∙ c.requires.new))
 
 pub invariant_of-self-2 : goal.invariant_of-self-2
 invariant_of-self-2 c = subst AreFormed (sym (added c))

@@ -27,13 +27,13 @@ loop-index-preserved c =
     c.in_ok-add_present.ensures
     ∙ (λ i. c.loop-index.invariant i ++ filter is_present ((c.unwrap.result.0.now, c.unwrap.result.1.now) ∷ []))
     ∙ sym (filter-at c.self.inside.cells.entries c.loop-index.index _ (sym c.get_index.ensures.entry
-        ∙ ap (option_map deref_pair) c.unwrap.ensures))
+    ∙ ap (option_map deref_pair) c.unwrap.ensures))
 
 whole : (c : After-loop-index) → c.loop-index.copy ≡ filter is_present c.self.inside.cells.entries
 whole c =
     let end : c.loop-index.index ≡ length c.self.inside.cells.entries = omega (arith, c.len-index-end.ensures.len) in
     c.loop-index.invariant
-        ∙ ap (filter is_present) ((λ i. take (end i) c.self.inside.cells.entries) ∙ take-length c.self.inside.cells.entries)
+    ∙ ap (filter is_present) ((λ i. take (end i) c.self.inside.cells.entries) ∙ take-length c.self.inside.cells.entries)
 
 pub returns-clause-parts : goal.returns-clause-parts
 returns-clause-parts c =
@@ -42,4 +42,4 @@ returns-clause-parts c =
 pub returns-clause-places : goal.returns-clause-places
 returns-clause-places c =
     ap places_of (whole c) ∙ places_of-filter c.self.inside.cells.entries c.len-index-end.ensures.unique
-        ∙ λ i. places_for (parts_of (c.self.view_is i))
+    ∙ λ i. places_for (parts_of (c.self.view_is i))

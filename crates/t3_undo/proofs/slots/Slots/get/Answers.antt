@@ -22,7 +22,7 @@ pub returns-in-Some-clause-formed : goal.returns-in-Some-clause-formed
 returns-in-Some-clause-formed c _ =
     let P : Content → Type 0 = λ x. IsTrue (is_form c.args.cell.now (shown x)) in
     subst P (sym c.like.ensures)
-        (formed-lookup c.self.inside.cells.entries c.args.cell.now c.self.invariant c.in-Some.content.now (sym c.in-Some.ensures.value))
+    (formed-lookup c.self.inside.cells.entries c.args.cell.now c.self.invariant c.in-Some.content.now (sym c.in-Some.ensures.value))
 
 pub returns-in-None-clause-content : goal.returns-in-None-clause-content
 returns-in-None-clause-content c =
@@ -33,4 +33,4 @@ pub returns-in-None-clause-formed : goal.returns-in-None-clause-formed
 returns-in-None-clause-formed c placed =
     let P : List (Cell × Content) → Type 0 = λ s. lookup (same c.args.cell.now) s ≡ None in
     absurd (true≢false (sym placed
-        ∙ missed-placed c.args.self.now c.args.cell.now (subst P c.self.view_is (sym c.in-None.ensures.value))))
+    ∙ missed-placed c.args.self.now c.args.cell.now (subst P c.self.view_is (sym c.in-None.ensures.value))))

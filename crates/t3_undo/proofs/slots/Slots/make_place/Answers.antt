@@ -20,7 +20,7 @@ pub returns-clause-parts : goal.returns-clause-parts
 returns-clause-parts c =
     ap parts_of c.in_ok-add.ensures.ok
     ∙ parts_of-add-absent c.args.self.now c.args.cell
-        (unplaced _ _ c.args.cell c.self.view_is _ c.contains_key.ensures c.if-contains_key.false)
+    (unplaced _ _ c.args.cell c.self.view_is _ c.contains_key.ensures c.if-contains_key.false)
 
 pub returns-clause-ok : goal.returns-clause-ok
 returns-clause-ok c = ap places_of c.in_ok-add.ensures.ok ∙ places_of-add c.args.self.now c.args.cell Absent

@@ -10,12 +10,12 @@ use Rattle.t3_undo.proofs.slots.Slots.put.Goals as goal
 pub exchange-requires : goal.exchange-requires
 exchange-requires c =
     sym (contains-places_of c.self.inside.cells.entries c.args.cell.now)
-        ∙ (λ i. contains (places_of (c.self.view_is i)) c.args.cell.now) ∙ c.requires.place
+    ∙ (λ i. contains (places_of (c.self.view_is i)) c.args.cell.now) ∙ c.requires.place
 
 pub invariant_of-self : goal.invariant_of-self
 invariant_of-self c =
     subst AreFormed (sym c.exchange.ensures.entries)
-        (formed-set_value c.self.inside.cells.entries c.args.cell.now c.args.content c.self.invariant c.requires.form)
+    (formed-set_value c.self.inside.cells.entries c.args.cell.now c.args.content c.self.invariant c.requires.form)
 
 pub returns-clause-parts : goal.returns-clause-parts
 returns-clause-parts c =
