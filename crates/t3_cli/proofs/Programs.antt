@@ -5,7 +5,7 @@ use Rattle.std.specs.List.{list_any}
 use Rattle.std.proofs.lemmas.Bool.{cases_eq, cases_lt, eq-eqb}
 use Rattle.t3_image_read.specs.declared.image.PlacedBlock.{PlacedBlock}
 use Rattle.t3_image_read.specs.ImageText.{ImageValue}
-use Rattle.t3_pools.specs.Pool.{Pool, PoolsValue, Defined, Paged, Said, said_of, pool_in, pools_in}
+use Rattle.t3_pools.specs.Pool.{Pool, PoolsValue, Paged, Said, said_of, pool_in, pools_in}
 use Rattle.t3_pools.specs.declared.refusal.PoolRefusal.{PoolRefusal}
 use Rattle.t3_pools.specs.declared.refusal.PoolRefusal.TheVariants.{NoCode, TwoDefs, TooWide, PageIndex, PageTwice, PageMissing, PageLong, NoMemory}
 use Rattle.t3_pools.specs.Building.{KeepsRules, Refuses, count_by, pages_at}
@@ -23,8 +23,10 @@ use Rattle.t3_cli.specs.Inner.Launching.{IsEntry, IsIoAlone, Loads, refusal_by_p
 
 one_entry : (blocks : List PlacedBlock) (a b : ℕ) → IsEntry blocks a → IsEntry blocks b → a ≡ b
 one_entry blocks a b is_a is_b =
-    let both : ◌≡◌ {A = List EntryValue} (record { code = a; method_size = 10; exception_size = 10 } ∷ []) (record { code = b; method_size = 10; exception_size = 10 } ∷ []) = sym is_a ∙ is_b in
-    let same : ◌≡◌ {A = EntryValue} (record { code = a; method_size = 10; exception_size = 10 }) (record { code = b; method_size = 10; exception_size = 10 }) = cc in
+    let both : ◌≡◌ {A = List EntryValue} (record { code = a; method_size = 10; exception_size = 10 } ∷ [])
+      (record { code = b; method_size = 10; exception_size = 10 } ∷ []) = sym is_a ∙ is_b in
+    let same : ◌≡◌ {A = EntryValue} (record { code = a; method_size = 10; exception_size = 10 })
+      (record { code = b; method_size = 10; exception_size = 10 }) = cc in
     ap (λ (e : EntryValue). e.code) same
 
 not_both : (blocks : List PlacedBlock) → HasSets true blocks → HasSets false blocks → ⊥
@@ -89,7 +91,8 @@ kept_or_not : {A : Type 0} → A ⊎ ¬ A → ¬ A ⊎ ¬ ¬ A
 kept_or_not (inl a) = inr (λ none. none a)
 kept_or_not (inr none) = inl none
 
-gap_or_not : (count : ℕ) (all : List Paged) → ((index : ℕ) × ((index < count) × (pages_at index all ≡ []))) ⊎ ¬ ((index : ℕ) × ((index < count) × (pages_at index all ≡ [])))
+gap_or_not : (count : ℕ) (all : List Paged) → ((index : ℕ) × ((index < count) × (pages_at index all ≡ []))) ⊎ ¬
+    ((index : ℕ) × ((index < count) × (pages_at index all ≡ [])))
 gap_or_not zero all = inr (λ gap. let below = gap.1.0 in absurd (omega arith))
 gap_or_not (suc n) all =
     elim (gap_or_not n all) [
@@ -109,7 +112,8 @@ with_page : (p : Paged) (all : List Paged) (index : ℕ) → p.index ≡ index �
 with_page p all index same = ap (λ b. cond b (p.bytes ∷ []) [] ++ pages_at index all) (eq-eqb p.index index same)
 
 without_page : (p : Paged) (all : List Paged) (index : ℕ) → ¬ (p.index ≡ index) → pages_at index (p ∷ all) ≡ pages_at index all
-without_page p all index apart = let other : nat_eq p.index index ≡ false = grind (arith, apart) in ap (λ b. cond b (p.bytes ∷ []) [] ++ pages_at index all) other
+without_page p all index apart = let other : nat_eq p.index index ≡ false = grind (arith, apart) in ap
+    (λ b. cond b (p.bytes ∷ []) [] ++ pages_at index all) other
 
 twice_or_not : (all : List Paged) → ((index : ℕ) × (2 ≤ length (pages_at index all))) ⊎ ¬ ((index : ℕ) × (2 ≤ length (pages_at index all)))
 twice_or_not [] = inr (λ two. let more = two.1 in absurd (omega arith))
@@ -173,7 +177,8 @@ sizes_fit blocks e address lists is =
 
 is_entry : (blocks : List PlacedBlock) (e : EntryValue) → entries blocks ≡ e ∷ [] → SizesFit e → IsEntry blocks e.code
 is_entry blocks e lists (method, exception) =
-    let same : ◌≡◌ {A = List EntryValue} (e ∷ []) (record { code = e.code; method_size = 10; exception_size = 10 } ∷ []) = λ i. record { code = e.code; method_size = method i; exception_size = exception i } ∷ [] in
+    let same : ◌≡◌ {A = List EntryValue} (e ∷ []) (record { code = e.code; method_size = 10; exception_size = 10 } ∷ []) = λ i. record
+      { code = e.code; method_size = method i; exception_size = exception i } ∷ [] in
     lists ∙ same
 
 entry_or_not : (blocks : List PlacedBlock) → ((address : ℕ) × IsEntry blocks address) ⊎ ((address : ℕ) → ¬ IsEntry blocks address)

@@ -37,14 +37,17 @@ find-bytes_from (byte ∷ bytes) at (suc place) =
 find_before : (bytes : List ℕ) (at address : ℕ) → address < at → find nat_cmp address (bytes_from at bytes) ≡ None
 find_before [] at address h = refl
 find_before (byte ∷ bytes) at address h =
-    ap (λ b. cond b (Some byte) (find nat_cmp address (bytes_from (at + 1) bytes))) (below address at h) ∙ find_before bytes (at + 1) address (omega arith)
+    ap (λ b. cond b (Some byte) (find nat_cmp address (bytes_from (at + 1) bytes))) (below address at h)
+      ∙ find_before bytes (at + 1) address (omega arith)
 
 find_after : (bytes : List ℕ) (at address : ℕ) → at + length bytes ≤ address → find nat_cmp address (bytes_from at bytes) ≡ None
 find_after [] at address h = refl
 find_after (byte ∷ bytes) at address h =
-    ap (λ b. cond b (Some byte) (find nat_cmp address (bytes_from (at + 1) bytes))) (above at address (omega arith)) ∙ find_after bytes (at + 1) address (omega arith)
+    ap (λ b. cond b (Some byte) (find nat_cmp address (bytes_from (at + 1) bytes))) (above at address (omega arith))
+      ∙ find_after bytes (at + 1) address (omega arith)
 
-find-append : (address : ℕ) (xs ys : List (ℕ × ℕ)) → find nat_cmp address (xs ++ ys) ≡ or_else (find nat_cmp address xs) (find nat_cmp address ys)
+find-append : (address : ℕ) (xs ys : List (ℕ × ℕ)) → find nat_cmp address (xs ++ ys) ≡ or_else (find nat_cmp address xs)
+    (find nat_cmp address ys)
 unfolding or_else
 find-append address [] ys = refl
 find-append address (x ∷ xs) ys =
@@ -72,7 +75,8 @@ first_at-append : (place : ℕ) (xs ys : List (List ℕ)) → first_at place (xs
 unfolding first_at or_else
 first_at-append place [] ys = refl
 first_at-append place (x ∷ xs) ys =
-    ap (λ o. or_else (slice_get x place) o) (first_at-append place xs ys) ∙ or_else-assoc (slice_get x place) (first_at place xs) (first_at place ys)
+    ap (λ o. or_else (slice_get x place) o) (first_at-append place xs ys)
+      ∙ or_else-assoc (slice_get x place) (first_at place xs) (first_at place ys)
 
 pub or_parts_left : (x y : Bool) → (x || y) ≡ false → x ≡ false
 or_parts_left true y h = absurd cc
@@ -88,13 +92,15 @@ same_index index p h = ap (λ b. cond b (p.bytes ∷ []) []) (eq-eqb p.index ind
 other_index : (index : ℕ) (p : Paged) → p.index ≢ index → at_index index p ≡ []
 other_index index p h = let t : nat_eq p.index index ≡ false = grind (arith, h) in ap (λ b. cond b (p.bytes ∷ []) []) t
 
-find_here : (size index place : ℕ) (p : Paged) → p.index ≡ index → find nat_cmp (index * size + place) (page_bytes size p) ≡ first_at place (at_index index p)
+find_here : (size index place : ℕ) (p : Paged) → p.index ≡ index
+    → find nat_cmp (index * size + place) (page_bytes size p) ≡ first_at place (at_index index p)
 unfolding first_at
 find_here size index place p h =
     ap (λ n. find nat_cmp (n * size + place) (page_bytes size p)) (sym h) ∙ find-bytes_from p.bytes (p.index * size) place
     ∙ sym (or_else-none (slice_get p.bytes place)) ∙ ap (λ o. first_at place o) (sym (same_index index p h))
 
-find_elsewhere : (size index place : ℕ) (p : Paged) → place < size → length p.bytes ≤ size → p.index ≢ index → (p.index < index) ⊎ (index ≤ p.index)
+find_elsewhere : (size index place : ℕ) (p : Paged) → place < size → length p.bytes ≤ size → p.index ≢ index
+    → (p.index < index) ⊎ (index ≤ p.index)
     → find nat_cmp (index * size + place) (page_bytes size p) ≡ None
 find_elsewhere size index place p inside short apart (inl less) =
     let most : (p.index + 1) * size ≤ index * size = mul-le-mul_right size (omega arith) in
@@ -110,7 +116,8 @@ find_page : (size index place : ℕ) (p : Paged) → place < size → length p.b
 unfolding first_at
 find_page size index place p inside short (inl same) = find_here size index place p same
 find_page size index place p inside short (inr apart) =
-    find_elsewhere size index place p inside short apart (cases_lt p.index index) ∙ ap (λ o. first_at place o) (sym (other_index index p apart))
+    find_elsewhere size index place p inside short apart (cases_lt p.index index)
+      ∙ ap (λ o. first_at place o) (sym (other_index index p apart))
 
 -- no page is longer than the page size
 abbrev pub is_any_long : ℕ → List Paged → Bool
@@ -142,5 +149,6 @@ find_none address (p ∷ all) short =
     let here : nat_lt 0 (length p.bytes) ≡ false = or_parts_left (nat_lt 0 (length p.bytes)) (is_any_long 0 all) short in
     let later : is_any_long 0 all ≡ false = or_parts_right (nat_lt 0 (length p.bytes)) (is_any_long 0 all) short in
     find-append address (page_bytes 0 p) (flat_map (page_bytes 0) all)
-    ∙ ap (λ o. or_else o (find nat_cmp address (flat_map (page_bytes 0) all))) (no_bytes p.bytes (p.index * 0) address (ltb-false 0 (length p.bytes) here))
+    ∙ ap (λ o. or_else o (find nat_cmp address (flat_map (page_bytes 0) all)))
+      (no_bytes p.bytes (p.index * 0) address (ltb-false 0 (length p.bytes) here))
     ∙ find_none address all later

@@ -40,7 +40,8 @@ at_paged (page ∷ pages) at (suc place) =
     ∙ at_paged pages (at + 1) place
 
 pub pages_at-paged_from : (pages : List (List ℕ)) (index : ℕ) → pages_at index (paged_from 0 pages) ≡ one (slice_get pages index)
-pages_at-paged_from pages index = let from : index ≡ 0 + index = omega arith in ap (λ n. pages_at n (paged_from 0 pages)) from ∙ at_paged pages 0 index
+pages_at-paged_from pages index = let from : index ≡ 0 + index = omega arith in ap (λ n. pages_at n (paged_from 0 pages)) from
+    ∙ at_paged pages 0 index
 
 long_paged : (size : ℕ) (pages : List (List ℕ)) (at : ℕ) → is_any_long size (paged_from at pages) ≡ is_long_in size pages
 long_paged size [] at = refl
@@ -59,7 +60,8 @@ unfolding kept_pool
 same_pool zero all pages short fits same =
     same_map nat_cmp_total nat_cmp-IsAntisymmetric _ _ (λ address.
     get-from_entries nat_cmp_total (flat_map (page_bytes 0) all) address ∙ find_none address all short
-    ∙ sym (find_none address (paged_from 0 pages) (long_paged 0 pages 0 ∙ fits)) ∙ sym (get-from_entries nat_cmp_total (flat_map (page_bytes 0) (paged_from 0 pages)) address))
+    ∙ sym (find_none address (paged_from 0 pages) (long_paged 0 pages 0 ∙ fits))
+      ∙ sym (get-from_entries nat_cmp_total (flat_map (page_bytes 0) (paged_from 0 pages)) address))
 same_pool (suc n) all pages short fits same =
     same_map nat_cmp_total nat_cmp-IsAntisymmetric _ _ (λ address.
     let size : ℕ = suc n in
@@ -86,14 +88,18 @@ kept_byte size index place pages inside fits =
 pub kept_none : (pages : List (List ℕ)) (address : ℕ) → is_long_in 0 pages ≡ false → get (kept_pool 0 pages) address ≡ None
 unfolding kept_pool
 kept_none pages address fits =
-    get-from_entries nat_cmp_total (flat_map (page_bytes 0) (paged_from 0 pages)) address ∙ find_none address (paged_from 0 pages) (long_paged 0 pages 0 ∙ fits)
+    get-from_entries nat_cmp_total (flat_map (page_bytes 0) (paged_from 0 pages)) address
+      ∙ find_none address (paged_from 0 pages) (long_paged 0 pages 0 ∙ fits)
 
 pub fitting : (size index : ℕ) (pages : List (List ℕ)) → is_long_in size pages ≡ false → length (bytes_of (slice_get pages index)) ≤ size
 fitting size index [] fits = omega arith
-fitting size zero (page ∷ pages) fits = ltb-false size (length page) (or_parts_left (nat_lt size (length page)) (is_long_in size pages) fits)
-fitting size (suc index) (page ∷ pages) fits = fitting size index pages (or_parts_right (nat_lt size (length page)) (is_long_in size pages) fits)
+fitting size zero (page ∷ pages) fits = ltb-false size (length page)
+    (or_parts_left (nat_lt size (length page)) (is_long_in size pages) fits)
+fitting size (suc index) (page ∷ pages) fits = fitting size index pages
+    (or_parts_right (nat_lt size (length page)) (is_long_in size pages) fits)
 
-pub has_bytes : (pool : Pool) (bytes : List ℕ) (at : ℕ) → ((j : ℕ) → j < length bytes → get pool (at + j) ≡ slice_get bytes j) → HasBytes pool at bytes
+pub has_bytes : (pool : Pool) (bytes : List ℕ) (at : ℕ) → ((j : ℕ) → j < length bytes → get pool (at + j) ≡ slice_get bytes j)
+    → HasBytes pool at bytes
 has_bytes pool [] at each = tt
 has_bytes pool (byte ∷ bytes) at each =
     let here : at ≡ at + 0 = omega arith in (
@@ -106,7 +112,8 @@ has_bytes pool (byte ∷ bytes) at each =
 slice_get-drop : (bytes : List ℕ) (place j : ℕ) → slice_get (drop place bytes) j ≡ slice_get bytes (place + j)
 slice_get-drop bytes zero j = let from : j ≡ 0 + j = omega arith in ap (λ n. slice_get bytes n) from
 slice_get-drop [] (suc place) j = refl
-slice_get-drop (byte ∷ bytes) (suc place) j = let later : suc (place + j) ≡ suc place + j = omega arith in slice_get-drop bytes place j ∙ ap (λ n. slice_get (byte ∷ bytes) n) later
+slice_get-drop (byte ∷ bytes) (suc place) j = let later : suc (place + j) ≡ suc place + j = omega arith in slice_get-drop bytes place j
+    ∙ ap (λ n. slice_get (byte ∷ bytes) n) later
 
 drop-empty : (bytes : List ℕ) (place : ℕ) → drop place bytes ≡ [] → length bytes ≤ place
 drop-empty [] place h = omega arith
@@ -129,7 +136,8 @@ runs_at size index place pages inside kept =
           let along : (index * size + place) + j ≡ index * size + (place + j) = omega arith in
           ap (λ n. get (kept_pool size pages) n) along ∙ kept_byte size index (place + j) pages (omega arith) kept.fits
           ∙ sym (slice_get-drop (bytes_of (slice_get pages index)) place j));
-      empty = λ none. kept_byte size index place pages inside kept.fits ∙ slice_get_past (bytes_of (slice_get pages index)) place (drop-empty (bytes_of (slice_get pages index)) place none);
+      empty = λ none. kept_byte size index place pages inside kept.fits
+        ∙ slice_get_past (bytes_of (slice_get pages index)) place (drop-empty (bytes_of (slice_get pages index)) place none);
       narrow = λ some.
           let below = there pages index (omega arith) in
           let most : (index + 1) * size ≤ length pages * size = mul-le-mul_right size (omega arith) in
@@ -138,7 +146,8 @@ runs_at size index place pages inside kept =
           omega arith;
     }
 
-run_in-drop : (size : ℕ) (pages : List (List ℕ)) (address : ℕ) → size ≢ 0 → run_in size pages address ≡ drop (address % size) (bytes_of (slice_get pages (address / size)))
+run_in-drop : (size : ℕ) (pages : List (List ℕ)) (address : ℕ) → size ≢ 0
+    → run_in size pages address ≡ drop (address % size) (bytes_of (slice_get pages (address / size)))
 unfolding run_in
 run_in-drop size pages address some =
     let test : nat_eq size 0 ≡ false = grind (arith, some) in
@@ -149,11 +158,13 @@ unfolding run_in
 run_in-zero size pages address none =
     sym (ap (λ b. cond b [] (drop (address % size) (bytes_of (slice_get pages (address / size))))) (eq-eqb size 0 none))
 
-pub run_in-page : (size : ℕ) (pages : List (List ℕ)) (address : ℕ) (page : List ℕ) → size ≢ 0 → bytes_of (slice_get pages (address / size)) ≡ page
+pub run_in-page : (size : ℕ) (pages : List (List ℕ)) (address : ℕ) (page : List ℕ) → size ≢ 0
+    → bytes_of (slice_get pages (address / size)) ≡ page
     → drop (address % size) page ≡ run_in size pages address
 run_in-page size pages address page some is = sym (run_in-drop size pages address some ∙ ap (λ p. drop (address % size) p) is)
 
-pub runs_in : (size : ℕ) (pages : List (List ℕ)) (address : ℕ) → IsKept size pages → Runs (kept_pool size pages) address (run_in size pages address)
+pub runs_in : (size : ℕ) (pages : List (List ℕ)) (address : ℕ) → IsKept size pages
+    → Runs (kept_pool size pages) address (run_in size pages address)
 runs_in size pages address kept = elim (cases_eq size 0) [
   | inl none ↦
       let zero_size : is_long_in 0 pages ≡ false = subst (λ (n : ℕ). is_long_in n pages ≡ false) none kept.fits in

@@ -19,11 +19,13 @@ use Rattle.t3_pools.proofs.Kept.{one, is_long_in}
 abbrev pub now : Bor (List ℕ) → List ℕ
 now page = page.now
 
-pub long_map : (size : ℕ) (pages : List (Bor (List ℕ))) → list_any (λ page. nat_lt size (length page.now)) pages ≡ is_long_in size (map now pages)
+pub long_map : (size : ℕ) (pages : List (Bor (List ℕ))) → list_any (λ page. nat_lt size (length page.now)) pages ≡ is_long_in size
+    (map now pages)
 long_map size [] = refl
 long_map size (page ∷ pages) = ap (λ b. nat_lt size (length page.now) || b) (long_map size pages)
 
-pub kept_pages : (size : ℕ) (pages : List (Bor (List ℕ))) → list_any (λ page. nat_lt size (length page.now)) pages ≡ false → length pages * size < 2 ^ 31
+pub kept_pages : (size : ℕ) (pages : List (Bor (List ℕ))) → list_any (λ page. nat_lt size (length page.now)) pages ≡ false
+    → length pages * size < 2 ^ 31
     → IsKept size (map now pages)
 kept_pages size pages fits narrow =
     record {
@@ -48,7 +50,8 @@ two_sheets sheets i d (Some page) inside there all =
     let sheet : Sheet = get_or sheets i d in
     let rest : drop i sheets ≡ get_or sheets i d ∷ drop (suc i) sheets = drop-cons sheets i d inside in
     let left : 1 ≤ length (sheets_at (get_or sheets i d).index (drop i sheets)) =
-    subst (λ (s : List Sheet). 1 ≤ length (sheets_at (get_or sheets i d).index s)) (sym rest) (at_least_one (get_or sheets i d) (drop (suc i) sheets)) in
+    subst (λ (s : List Sheet). 1 ≤ length (sheets_at (get_or sheets i d).index s)) (sym rest)
+      (at_least_one (get_or sheets i d) (drop (suc i) sheets)) in
     let counted = ap (λ (pages : List (List ℕ)). length pages) all in
     omega arith
 
@@ -56,13 +59,16 @@ two_sheets sheets i d (Some page) inside there all =
 
 pub at-paged : (number index : ℕ) (sheets : List Sheet) → pages_at index (map (paged number) sheets) ≡ sheets_at index sheets
 at-paged number index [] = refl
-at-paged number index (sheet ∷ sheets) = ap (λ rest. cond (nat_eq sheet.index index) (sheet.bytes.now ∷ []) [] ++ rest) (at-paged number index sheets)
+at-paged number index (sheet ∷ sheets) = ap (λ rest. cond (nat_eq sheet.index index) (sheet.bytes.now ∷ []) [] ++ rest)
+    (at-paged number index sheets)
 
-pub far-paged : (number count : ℕ) (sheets : List Sheet) → list_any (λ p. nat_le count p.index) (map (paged number) sheets) ≡ list_any (λ sheet. nat_le count sheet.index) sheets
+pub far-paged : (number count : ℕ) (sheets : List Sheet) → list_any (λ p. nat_le count p.index) (map (paged number) sheets) ≡ list_any
+    (λ sheet. nat_le count sheet.index) sheets
 far-paged number count [] = refl
 far-paged number count (sheet ∷ sheets) = ap (λ b. nat_le count sheet.index || b) (far-paged number count sheets)
 
-pub long-paged : (number size : ℕ) (sheets : List Sheet) → is_any_long size (map (paged number) sheets) ≡ list_any (λ sheet. nat_lt size (length sheet.bytes.now)) sheets
+pub long-paged : (number size : ℕ) (sheets : List Sheet) → is_any_long size (map (paged number) sheets) ≡ list_any
+    (λ sheet. nat_lt size (length sheet.bytes.now)) sheets
 long-paged number size [] = refl
 long-paged number size (sheet ∷ sheets) = ap (λ b. nat_lt size (length sheet.bytes.now) || b) (long-paged number size sheets)
 
@@ -70,7 +76,8 @@ long-paged number size (sheet ∷ sheets) = ap (λ b. nat_lt size (length sheet.
 none_far : (count index : ℕ) (all : List Paged) → list_any (λ p. nat_le count p.index) all ≡ false → count ≤ index → pages_at index all ≡ []
 none_far count index [] near past = refl
 none_far count index (p ∷ all) near past =
-    let here : nat_le count p.index ≡ false = or_parts_left (nat_le count p.index) (list_any (λ (p : Paged). nat_le count p.index) all) near in
+    let here : nat_le count p.index ≡ false = or_parts_left (nat_le count p.index)
+      (list_any (λ (p : Paged). nat_le count p.index) all) near in
     let later = or_parts_right (nat_le count p.index) (list_any (λ (p : Paged). nat_le count p.index) all) near in
     let below : p.index < count = grind (arith, here) in
     let other : nat_eq p.index index ≡ false = grind arith in
@@ -84,7 +91,8 @@ pub placed_pages : (count : ℕ) (all : List Paged) (sorted : ℕ → Option (Bo
     → ((index : ℕ) → index < count → sorted index ≡ slice_get ordered index)
     → (index : ℕ) → pages_at index all ≡ one (slice_get (map now ordered) index)
 placed_pages count all sorted ordered near each counted same index = elim (cases_lt index count) [
-  | inl below ↦ sym (each index) ∙ ap (λ o. listed now o) (same index below) ∙ listed_map (slice_get ordered index) ∙ ap one (sym (slice_get-map now ordered index))
+  | inl below ↦ sym (each index) ∙ ap (λ o. listed now o) (same index below) ∙ listed_map (slice_get ordered index)
+    ∙ ap one (sym (slice_get-map now ordered index))
   | inr past ↦ none_far count index all near past ∙ sym (ap one (slice_get_past (map now ordered) index (subst (λ n. n ≤ index) (sym (length-map ordered now ∙ counted)) past)))
 ]
   where
@@ -98,7 +106,8 @@ one_at_most : (found : Option (List ℕ)) → length (one found) ≤ 1
 one_at_most None = omega arith
 one_at_most (Some page) = omega arith
 
-pub no_twice : (all : List Paged) (pages : List (List ℕ)) → ((index : ℕ) → pages_at index all ≡ one (slice_get pages index)) → (index : ℕ) → ¬ 2 ≤ length (pages_at index all)
+pub no_twice : (all : List Paged) (pages : List (List ℕ)) → ((index : ℕ) → pages_at index all ≡ one (slice_get pages index))
+    → (index : ℕ) → ¬ 2 ≤ length (pages_at index all)
 no_twice all pages same index twice =
     let counted = ap (λ (p : List (List ℕ)). length p) (same index) in
     let most = one_at_most (slice_get pages index) in
@@ -109,17 +118,20 @@ is_there [] index below none = absurd (omega arith)
 is_there (page ∷ pages) zero below none = absurd cc
 is_there (page ∷ pages) (suc index) below none = is_there pages index (omega arith) none
 
-pub no_gap : (all : List Paged) (pages : List (List ℕ)) → ((index : ℕ) → pages_at index all ≡ one (slice_get pages index)) → (index : ℕ) → index < length pages → pages_at index all ≢ []
+pub no_gap : (all : List Paged) (pages : List (List ℕ)) → ((index : ℕ) → pages_at index all ≡ one (slice_get pages index)) → (index : ℕ)
+    → index < length pages → pages_at index all ≢ []
 no_gap all pages same index below none = is_there pages index below (sym (same index) ∙ none)
 
-short_at : (size index : ℕ) (all : List Paged) (page : List ℕ) (rest : List (List ℕ)) → is_any_long size all ≡ false → pages_at index all ≡ page ∷ rest → nat_lt size (length page) ≡ false
+short_at : (size index : ℕ) (all : List Paged) (page : List ℕ) (rest : List (List ℕ)) → is_any_long size all ≡ false
+    → pages_at index all ≡ page ∷ rest → nat_lt size (length page) ≡ false
 short_at size index [] page rest short is = absurd cc
 short_at size index (p ∷ all) page rest short is =
     let here : nat_lt size (length p.bytes) ≡ false = or_parts_left (nat_lt size (length p.bytes)) (is_any_long size all) short in
     let later = or_parts_right (nat_lt size (length p.bytes)) (is_any_long size all) short in
     elim (cases_eq p.index index) [
       | inl same ↦
-          let first : pages_at index (p ∷ all) ≡ p.bytes ∷ pages_at index all = ap (λ b. cond b (p.bytes ∷ []) [] ++ pages_at index all) (eq-eqb p.index index same) in
+          let first : pages_at index (p ∷ all) ≡ p.bytes ∷ pages_at index all = ap (λ b. cond b (p.bytes ∷ []) [] ++ pages_at index all)
+            (eq-eqb p.index index same) in
           let both : p.bytes ∷ pages_at index all ≡ page ∷ rest = sym first ∙ is in
           let bytes : p.bytes ≡ page = cc in
           subst (λ (b : List ℕ). nat_lt size (length b) ≡ false) bytes here
@@ -137,6 +149,8 @@ short_each size (page ∷ pages) each =
     or_from (nat_lt size (length page)) (is_long_in size pages) here later
 
 -- the pages that were placed are as short as all
-pub short_pages : (size : ℕ) (all : List Paged) (pages : List (List ℕ)) → ((index : ℕ) → pages_at index all ≡ one (slice_get pages index)) → is_any_long size all ≡ false
+pub short_pages : (size : ℕ) (all : List Paged) (pages : List (List ℕ))
+    → ((index : ℕ) → pages_at index all ≡ one (slice_get pages index)) → is_any_long size all ≡ false
     → is_long_in size pages ≡ false
-short_pages size all pages same short = short_each size pages (λ index page found. short_at size index all page [] short (same index ∙ ap one found))
+short_pages size all pages same short = short_each size pages
+    (λ index page found. short_at size index all page [] short (same index ∙ ap one found))

@@ -33,7 +33,8 @@ pub record Gathered (number : ℕ) (said : Said) (layout : Layout) (sheets : Lis
   pub lays_out : LaysOut said layout
   pub pages : map (paged number) sheets ≡ said.pages
 
-pub gather : (number : ℕ) (blocks a b : List PlacedBlock) (layout : Layout) (sheets : List Sheet) → a ≡ blocks → b ≡ blocks → LaysOut (said_of number a) layout
+pub gather : (number : ℕ) (blocks a b : List PlacedBlock) (layout : Layout) (sheets : List Sheet) → a ≡ blocks → b ≡ blocks
+    → LaysOut (said_of number a) layout
     → map (paged number) sheets ≡ (said_of number b).pages → Gathered number (said_of number blocks) layout sheets
 gather number blocks a b layout sheets a_is b_is lays pages = record {
   lays_out = subst (λ (x : List PlacedBlock). LaysOut (said_of number x) layout) a_is lays;
@@ -41,7 +42,8 @@ gather number blocks a b layout sheets a_is b_is lays pages = record {
 }
 
 -- what a test of sheets says
-pub tested : (test : List Sheet → Bool) (read items : List Sheet) (result answer : Bool) → read ≡ items → result ≡ test read → result ≡ answer → test items ≡ answer
+pub tested : (test : List Sheet → Bool) (read items : List Sheet) (result answer : Bool) → read ≡ items → result ≡ test read
+    → result ≡ answer → test items ≡ answer
 tested test read items result answer same is answers = ap test (sym same) ∙ sym is ∙ answers
 
 far_is : (number : ℕ) (said : Said) (layout : Layout) (sheets : List Sheet) → Gathered number said layout sheets
@@ -62,19 +64,26 @@ at_is : (number : ℕ) (said : Said) (layout : Layout) (sheets : List Sheet) (in
     → pages_at index said.pages ≡ sheets_at index sheets
 at_is number said layout sheets index g = ap (λ (all : List Paged). pages_at index all) (sym g.pages) ∙ at-paged number index sheets
 
-pub far : (number : ℕ) (said : Said) (layout : Layout) (sheets : List Sheet) → Gathered number said layout sheets → is_far_sheet layout.count sheets ≡ true → HasFarPage said
+pub far : (number : ℕ) (said : Said) (layout : Layout) (sheets : List Sheet) → Gathered number said layout sheets
+    → is_far_sheet layout.count sheets ≡ true → HasFarPage said
 far number said layout sheets g is = far_is number said layout sheets g ∙ is
 
-pub not_far : (number : ℕ) (said : Said) (layout : Layout) (sheets : List Sheet) → Gathered number said layout sheets → is_far_sheet layout.count sheets ≡ false → ¬ HasFarPage said
-not_far number said layout sheets g none is = let clash : false ≡ true = sym none ∙ sym (far_is number said layout sheets g) ∙ is in absurd cc
+pub not_far : (number : ℕ) (said : Said) (layout : Layout) (sheets : List Sheet) → Gathered number said layout sheets
+    → is_far_sheet layout.count sheets ≡ false → ¬ HasFarPage said
+not_far number said layout sheets g none is = let clash : false ≡ true = sym none ∙ sym (far_is number said layout sheets g)
+    ∙ is in absurd cc
 
-pub long : (number : ℕ) (said : Said) (layout : Layout) (sheets : List Sheet) → Gathered number said layout sheets → is_long_sheet layout.size sheets ≡ true → HasLongPage said
+pub long : (number : ℕ) (said : Said) (layout : Layout) (sheets : List Sheet) → Gathered number said layout sheets
+    → is_long_sheet layout.size sheets ≡ true → HasLongPage said
 long number said layout sheets g is = long_is number said layout sheets g ∙ is
 
-pub not_long : (number : ℕ) (said : Said) (layout : Layout) (sheets : List Sheet) → Gathered number said layout sheets → is_long_sheet layout.size sheets ≡ false → ¬ HasLongPage said
-not_long number said layout sheets g none is = let clash : false ≡ true = sym none ∙ sym (long_is number said layout sheets g) ∙ is in absurd cc
+pub not_long : (number : ℕ) (said : Said) (layout : Layout) (sheets : List Sheet) → Gathered number said layout sheets
+    → is_long_sheet layout.size sheets ≡ false → ¬ HasLongPage said
+not_long number said layout sheets g none is = let clash : false ≡ true = sym none ∙ sym (long_is number said layout sheets g)
+    ∙ is in absurd cc
 
-pub twice : (number : ℕ) (said : Said) (layout : Layout) (sheets : List Sheet) → Gathered number said layout sheets → Sorts sheets None → HasPageTwice said
+pub twice : (number : ℕ) (said : Said) (layout : Layout) (sheets : List Sheet) → Gathered number said layout sheets → Sorts sheets None
+    → HasPageTwice said
 twice number said layout sheets g has =
     (has.0, subst (λ (p : List (List ℕ)). 2 ≤ length p) (sym (at_is number said layout sheets has.0 g)) has.1)
 
@@ -82,7 +91,8 @@ listed_at_most : (found : Option (Bor (List ℕ))) → length (listed now found)
 listed_at_most None = omega arith
 listed_at_most (Some page) = omega arith
 
-pub not_twice : (number : ℕ) (said : Said) (layout : Layout) (sheets : List Sheet) (sorted : BTreeMap ℕ (Bor (List ℕ))) → Gathered number said layout sheets → Sorts sheets (Some sorted)
+pub not_twice : (number : ℕ) (said : Said) (layout : Layout) (sheets : List Sheet) (sorted : BTreeMap ℕ (Bor (List ℕ)))
+    → Gathered number said layout sheets → Sorts sheets (Some sorted)
     → ¬ HasPageTwice said
 not_twice number said layout sheets sorted g sorts has =
     let counted = ap (λ (p : List (List ℕ)). length p) (sorts has.0 ∙ sym (at_is number said layout sheets has.0 g)) in
@@ -90,7 +100,8 @@ not_twice number said layout sheets sorted g sorts has =
     let two = has.1 in
     absurd (omega arith)
 
-pub lacks : (number : ℕ) (said : Said) (layout : Layout) (sheets : List Sheet) (sorted : BTreeMap ℕ (Bor (List ℕ))) → Gathered number said layout sheets → Sorts sheets (Some sorted)
+pub lacks : (number : ℕ) (said : Said) (layout : Layout) (sheets : List Sheet) (sorted : BTreeMap ℕ (Bor (List ℕ)))
+    → Gathered number said layout sheets → Sorts sheets (Some sorted)
     → Orders layout.count sorted None → LacksPage said
 lacks number said layout sheets sorted g sorts gap = (
   gap.0,
@@ -101,8 +112,10 @@ lacks number said layout sheets sorted g sorts gap = (
 )
 
 -- each index has the page that was placed there
-pub placed : (number : ℕ) (said : Said) (layout : Layout) (sheets : List Sheet) (sorted : BTreeMap ℕ (Bor (List ℕ))) (ordered : List (Bor (List ℕ)))
-    → Gathered number said layout sheets → is_far_sheet layout.count sheets ≡ false → Sorts sheets (Some sorted) → Orders layout.count sorted (Some ordered)
+pub placed : (number : ℕ) (said : Said) (layout : Layout) (sheets : List Sheet) (sorted : BTreeMap ℕ (Bor (List ℕ)))
+    (ordered : List (Bor (List ℕ)))
+    → Gathered number said layout sheets → is_far_sheet layout.count sheets ≡ false → Sorts sheets (Some sorted)
+      → Orders layout.count sorted (Some ordered)
     → (index : ℕ) → pages_at index said.pages ≡ one (slice_get (map now ordered) index)
 placed number said layout sheets sorted ordered g near sorts orders =
     placed_pages layout.count said.pages (λ index. get_key nat_cmp sorted index) ordered
@@ -110,16 +123,20 @@ placed number said layout sheets sorted ordered g near sorts orders =
     (λ index. sorts index ∙ sym (at_is number said layout sheets index g))
     orders.0 orders.1
 
-pub not_lacking : (number : ℕ) (said : Said) (layout : Layout) (sheets : List Sheet) (sorted : BTreeMap ℕ (Bor (List ℕ))) (ordered : List (Bor (List ℕ)))
-    → Gathered number said layout sheets → is_far_sheet layout.count sheets ≡ false → Sorts sheets (Some sorted) → Orders layout.count sorted (Some ordered)
+pub not_lacking : (number : ℕ) (said : Said) (layout : Layout) (sheets : List Sheet) (sorted : BTreeMap ℕ (Bor (List ℕ)))
+    (ordered : List (Bor (List ℕ)))
+    → Gathered number said layout sheets → is_far_sheet layout.count sheets ≡ false → Sorts sheets (Some sorted)
+      → Orders layout.count sorted (Some ordered)
     → ¬ LacksPage said
 not_lacking number said layout sheets sorted ordered g near sorts orders gap =
     let count : length (map now ordered) ≡ count_by said.definitions = length-map ordered now ∙ orders.0 ∙ sym g.lays_out.count in
     no_gap said.pages (map now ordered) (placed number said layout sheets sorted ordered g near sorts orders) gap.0
     (subst (λ n. gap.0 < n) (sym count) gap.1.0) gap.1.1
 
-pub fits : (number : ℕ) (said : Said) (layout : Layout) (sheets : List Sheet) (sorted : BTreeMap ℕ (Bor (List ℕ))) (ordered : List (Bor (List ℕ)))
-    → Gathered number said layout sheets → is_far_sheet layout.count sheets ≡ false → Sorts sheets (Some sorted) → Orders layout.count sorted (Some ordered)
+pub fits : (number : ℕ) (said : Said) (layout : Layout) (sheets : List Sheet) (sorted : BTreeMap ℕ (Bor (List ℕ)))
+    (ordered : List (Bor (List ℕ)))
+    → Gathered number said layout sheets → is_far_sheet layout.count sheets ≡ false → Sorts sheets (Some sorted)
+      → Orders layout.count sorted (Some ordered)
     → is_long_sheet layout.size sheets ≡ false
     → list_any (λ page. nat_lt layout.size (length page.now)) ordered ≡ false
 fits number said layout sheets sorted ordered g near sorts orders short =
@@ -133,10 +150,12 @@ narrow said layout sorted ordered lays orders = subst (λ n. n * layout.size < 2
 
 no_pages : (pages : List (Bor (List ℕ))) (size : ℕ) → length pages ≡ 0 → empty ≡ kept_pool size (map now pages)
 unfolding kept_pool
-no_pages [] size none = same_map nat_cmp_total nat_cmp-IsAntisymmetric _ _ (λ address. get-empty nat_cmp address ∙ sym (get-from_entries nat_cmp_total [] address))
+no_pages [] size none = same_map nat_cmp_total nat_cmp-IsAntisymmetric _ _
+    (λ address. get-empty nat_cmp address ∙ sym (get-from_entries nat_cmp_total [] address))
 no_pages (page ∷ pages) size none = absurd (omega arith)
 
-defined_pool : (definitions : List Defined) (all : List Paged) (count size : ℕ) (ordered : List (Bor (List ℕ))) → count_by definitions ≡ count → size_by definitions ≡ size
+defined_pool : (definitions : List Defined) (all : List Paged) (count size : ℕ) (ordered : List (Bor (List ℕ)))
+    → count_by definitions ≡ count → size_by definitions ≡ size
     → length ordered ≡ count → is_any_long size all ≡ false → is_long_in size (map now ordered) ≡ false
     → ((index : ℕ) → pages_at index all ≡ one (slice_get (map now ordered) index))
     → pool_of definitions all ≡ kept_pool size (map now ordered)
@@ -144,8 +163,10 @@ defined_pool [] all count size ordered c s counted short fit same = no_pages ord
 defined_pool (d ∷ ds) all count size ordered c s counted short fit same =
     ap (λ n. from_entries (flat_map (page_bytes n) all)) s ∙ same_pool size all (map now ordered) short fit same
 
-pub gathered_pool : (number : ℕ) (said : Said) (layout : Layout) (sheets : List Sheet) (sorted : BTreeMap ℕ (Bor (List ℕ))) (ordered : List (Bor (List ℕ)))
-    → Gathered number said layout sheets → is_far_sheet layout.count sheets ≡ false → Sorts sheets (Some sorted) → Orders layout.count sorted (Some ordered)
+pub gathered_pool : (number : ℕ) (said : Said) (layout : Layout) (sheets : List Sheet) (sorted : BTreeMap ℕ (Bor (List ℕ)))
+    (ordered : List (Bor (List ℕ)))
+    → Gathered number said layout sheets → is_far_sheet layout.count sheets ≡ false → Sorts sheets (Some sorted)
+      → Orders layout.count sorted (Some ordered)
     → is_long_sheet layout.size sheets ≡ false
     → pool_of said.definitions said.pages ≡ kept_pool layout.size (map now ordered)
 gathered_pool number said layout sheets sorted ordered g near sorts orders short =
@@ -160,20 +181,25 @@ pub neither : {A B : Type 0} → ¬ A → ¬ B → ¬ (A ⊎ B)
 neither no_a no_b (inl a) = no_a a
 neither no_a no_b (inr b) = no_b b
 
-pub keeps_index : (blocks : List PlacedBlock) → Keeps (before PageIndex) blocks → ¬ HasFarPage (said_of 1 blocks) → ¬ HasFarPage (said_of 2 blocks) → Keeps (before PageTwice) blocks
+pub keeps_index : (blocks : List PlacedBlock) → Keeps (before PageIndex) blocks → ¬ HasFarPage (said_of 1 blocks)
+    → ¬ HasFarPage (said_of 2 blocks) → Keeps (before PageTwice) blocks
 keeps_index blocks k code constants = (k.0, (k.1.0, (k.1.1.0, (neither code constants, tt))))
 
-pub keeps_twice : (blocks : List PlacedBlock) → Keeps (before PageTwice) blocks → ¬ HasPageTwice (said_of 1 blocks) → ¬ HasPageTwice (said_of 2 blocks)
+pub keeps_twice : (blocks : List PlacedBlock) → Keeps (before PageTwice) blocks → ¬ HasPageTwice (said_of 1 blocks)
+    → ¬ HasPageTwice (said_of 2 blocks)
     → Keeps (before PageMissing) blocks
 keeps_twice blocks k code constants = (k.0, (k.1.0, (k.1.1.0, (k.1.1.1.0, (neither code constants, tt)))))
 
-pub keeps_missing : (blocks : List PlacedBlock) → Keeps (before PageMissing) blocks → ¬ LacksPage (said_of 1 blocks) → ¬ LacksPage (said_of 2 blocks) → Keeps (before PageLong) blocks
+pub keeps_missing : (blocks : List PlacedBlock) → Keeps (before PageMissing) blocks → ¬ LacksPage (said_of 1 blocks)
+    → ¬ LacksPage (said_of 2 blocks) → Keeps (before PageLong) blocks
 keeps_missing blocks k code constants = (k.0, (k.1.0, (k.1.1.0, (k.1.1.1.0, (k.1.1.1.1.0, (neither code constants, tt))))))
 
-pub keeps_long : (blocks : List PlacedBlock) → Keeps (before PageLong) blocks → ¬ HasLongPage (said_of 1 blocks) → ¬ HasLongPage (said_of 2 blocks) → KeepsRules blocks
+pub keeps_long : (blocks : List PlacedBlock) → Keeps (before PageLong) blocks → ¬ HasLongPage (said_of 1 blocks)
+    → ¬ HasLongPage (said_of 2 blocks) → KeepsRules blocks
 keeps_long blocks k code constants = (k.0, (k.1.0, (k.1.1.0, (k.1.1.1.0, (k.1.1.1.1.0, (k.1.1.1.1.1.0, (neither code constants, tt)))))))
 
-pub both_pools : (blocks : List PlacedBlock) (code constants : Pool) → pool_of (said_of 1 blocks).definitions (said_of 1 blocks).pages ≡ code
+pub both_pools : (blocks : List PlacedBlock) (code constants : Pool)
+    → pool_of (said_of 1 blocks).definitions (said_of 1 blocks).pages ≡ code
     → pool_of (said_of 2 blocks).definitions (said_of 2 blocks).pages ≡ constants
     → ◌≡◌ {A = PoolsValue} (record { code = code; constants = constants }) (pools_in blocks)
 unfolding pool_in

@@ -37,7 +37,8 @@ pub record LaysOut (said : Said) (layout : Layout) : Type 0 where
   pub narrow : layout.count * layout.size < 2 ^ 31
 
 abbrev pub FindsLayouts : List PlacedBlock → Result (Layout × Layout) PoolRefusal → Type 0
-FindsLayouts blocks (Ok layouts) = LaysOut (said_of 1 blocks) layouts.0 × (LaysOut (said_of 2 blocks) layouts.1 × Keeps (before PageIndex) blocks)
+FindsLayouts blocks (Ok layouts) = LaysOut (said_of 1 blocks) layouts.0 ×
+    (LaysOut (said_of 2 blocks) layouts.1 × Keeps (before PageIndex) blocks)
 FindsLayouts blocks (Err why) = Refuses why blocks
 
 -- the map has each index's one page; or an index has two
@@ -48,4 +49,5 @@ Sorts sheets (Some pages) = (index : ℕ) → listed (λ page. page.now) (get_ke
 -- these are the pages of the indices below the count; or one of them has none
 abbrev pub Orders : ℕ → BTreeMap ℕ (Bor (List ℕ)) → Option (List (Bor (List ℕ))) → Type 0
 Orders count pages None = (index : ℕ) × ((index < count) × (get_key nat_cmp pages index ≡ None))
-Orders count pages (Some ordered) = (length ordered ≡ count) × ((index : ℕ) → index < count → get_key nat_cmp pages index ≡ slice_get ordered index)
+Orders count pages (Some ordered) = (length ordered ≡ count) ×
+    ((index : ℕ) → index < count → get_key nat_cmp pages index ≡ slice_get ordered index)

@@ -8,4 +8,5 @@ use Rattle.t3_pools.proofs.sheets.sorted.Given as goal
 -- what an index has and what is left of it are all of it
 abbrev pub invariant-loop-sheet : goal.invariant-loop-sheet
 invariant-loop-sheet l =
-    (index : ℕ) → listed (λ page. page.now) (get_key nat_cmp l.pages index) ++ sheets_at index (drop l.sheet-index l.sheets) ≡ sheets_at index l.sheets
+    (index : ℕ) → listed (λ page. page.now) (get_key nat_cmp l.pages index) ++ sheets_at index
+      (drop l.sheet-index l.sheets) ≡ sheets_at index l.sheets
