@@ -1,13 +1,14 @@
 -- An image is run as at most one program, and whether it is run at all is decided.
-use Rattle.std.proofs.Common.{◌≡◌, ◌≢◌, ℕ, ◌≤◌, ◌⊎◌, inl, inr, Bool, true, false, List, [], ◌∷◌, ◌++◌, length, Result, Ok, Err, refl, sym, ap, ◌∙◌, subst, arith}
-use Rattle.std.specs.Prelude.{codes, IsErrOf}
+use Rattle.std.proofs.Common.{◌≡◌, ◌≢◌, ℕ, zero, suc, ◌<◌, ◌≤◌, nat_eq, cond, ◌⊎◌, inl, inr, Bool, true, false, List, [], ◌∷◌, ◌++◌, length, Result, Ok, Err, refl, sym, ap, ◌∙◌, subst, arith}
+use Rattle.std.specs.Prelude.{codes}
 use Rattle.std.specs.List.{list_any}
-use Rattle.std.proofs.lemmas.Bool.{cases_eq, cases_lt}
+use Rattle.std.proofs.lemmas.Bool.{cases_eq, cases_lt, eq-eqb}
 use Rattle.t3_image_read.specs.declared.image.PlacedBlock.{PlacedBlock}
 use Rattle.t3_image_read.specs.ImageText.{ImageValue}
-use Rattle.t3_pools.specs.Pool.{Pool, PoolsValue, Defined, Paged, definitions, pages, pool_in, pools_in}
-use Rattle.t3_pools.specs.declared.refusal.PoolRefusal.TheVariants.{Unbuilt}
-use Rattle.t3_pools.specs.Building.{HasOneCodePage}
+use Rattle.t3_pools.specs.Pool.{Pool, PoolsValue, Paged, Said, said_of, pool_in, pools_in}
+use Rattle.t3_pools.specs.declared.refusal.PoolRefusal.{PoolRefusal}
+use Rattle.t3_pools.specs.declared.refusal.PoolRefusal.TheVariants.{NoCode, TwoDefs, TooWide, PageIndex, PageTwice, PageMissing, PageLong, NoMemory}
+use Rattle.t3_pools.specs.Building.{KeepsRules, Refuses, count_by, pages_at}
 use Rattle.t3_methods.specs.declared.header.Header.{Header}
 use Rattle.t3_methods.specs.declared.refusal.CodeRefusal.{CodeRefusal}
 use Rattle.t3_methods.specs.MethodHeader.{HasHeader, parameters}
@@ -16,14 +17,16 @@ use Rattle.t3_methods.proofs.MethodHeaders.{one_header}
 use Rattle.t3_methods.proofs.Lookup.{some_header}
 use Rattle.t3_cli.specs.Machine.{ProgramValue}
 use Rattle.t3_cli.specs.Loading.{EntryValue, entries, name_lists, is_later, HasBase, HasSets, IsPlainMethod, LoadsAs, IsUnloaded}
-use Rattle.t3_cli.specs.Inner.Launching.{IsEntry, IsIoAlone}
+use Rattle.t3_cli.specs.Inner.Launching.{IsEntry, IsIoAlone, Loads, refusal_by_pools}
 
 -- ---- one program
 
 one_entry : (blocks : List PlacedBlock) (a b : ℕ) → IsEntry blocks a → IsEntry blocks b → a ≡ b
 one_entry blocks a b is_a is_b =
-    let both : ◌≡◌ {A = List EntryValue} (record { code = a; method_size = 10; exception_size = 10 } ∷ []) (record { code = b; method_size = 10; exception_size = 10 } ∷ []) = sym is_a ∙ is_b in
-    let same : ◌≡◌ {A = EntryValue} (record { code = a; method_size = 10; exception_size = 10 }) (record { code = b; method_size = 10; exception_size = 10 }) = cc in
+    let both : ◌≡◌ {A = List EntryValue} (record { code = a; method_size = 10; exception_size = 10 } ∷ [])
+      (record { code = b; method_size = 10; exception_size = 10 } ∷ []) = sym is_a ∙ is_b in
+    let same : ◌≡◌ {A = EntryValue} (record { code = a; method_size = 10; exception_size = 10 })
+      (record { code = b; method_size = 10; exception_size = 10 }) = cc in
     ap (λ (e : EntryValue). e.code) same
 
 not_both : (blocks : List PlacedBlock) → HasSets true blocks → HasSets false blocks → ⊥
@@ -57,11 +60,7 @@ only_or_not [] = inr (λ item e. absurd cc)
 only_or_not (x ∷ []) = inl (x, refl)
 only_or_not (x ∷ y ∷ items) = inr (λ item e. absurd cc)
 
--- ---- the page of code
-
--- one definition and one page are those of one page of code
-abbrev IsCode : Defined → Paged → Type 0
-IsCode d p = (d.pool ≡ 1) × ((d.count ≡ 1) × ((p.pool ≡ 1) × ((p.index ≡ 0) × (length p.bytes ≤ d.size))))
+-- ---- the rules on pools
 
 le_or_not : (m n : ℕ) → (m ≤ n) ⊎ ¬ (m ≤ n)
 le_or_not m n =
@@ -70,42 +69,99 @@ le_or_not m n =
       | inr h ↦ inl h
     ]
 
-code_or_not : (d : Defined) (p : Paged) → IsCode d p ⊎ ¬ IsCode d p
-code_or_not d p =
-    both (cases_eq d.pool 1) (both (cases_eq d.count 1) (both (cases_eq p.pool 1) (both (cases_eq p.index 0) (le_or_not (length p.bytes) d.size))))
+bool_or_not : (b : Bool) → (b ≡ true) ⊎ ¬ (b ≡ true)
+bool_or_not true = inl refl
+bool_or_not false = inr (λ e. absurd cc)
 
-has_page : (blocks : List PlacedBlock) (d : Defined) (p : Paged) → definitions blocks ≡ d ∷ [] → pages blocks ≡ p ∷ [] → IsCode d p
-    → HasOneCodePage blocks
-has_page blocks d p defines lists (pool, (count, (page_pool, (index, fits)))) =
-    let defined : ◌≡◌ {A = List Defined} (d ∷ []) (record { pool = 1; count = 1; size = d.size } ∷ []) = λ i. record { pool = pool i; count = count i; size = d.size } ∷ [] in
-    let paged : ◌≡◌ {A = List Paged} (p ∷ []) (record { pool = 1; index = 0; bytes = p.bytes } ∷ []) = λ i. record { pool = page_pool i; index = index i; bytes = p.bytes } ∷ [] in
-    record { size = d.size; bytes = p.bytes; definition = defines ∙ defined; page = lists ∙ paged; fits = fits }
+empty_or_not : {X : Type 0} (items : List X) → (items ≡ []) ⊎ ¬ (items ≡ [])
+empty_or_not [] = inl refl
+empty_or_not (x ∷ items) = inr (λ e. absurd cc)
 
-is_code : (blocks : List PlacedBlock) (d : Defined) (p : Paged) → definitions blocks ≡ d ∷ [] → pages blocks ≡ p ∷ []
-    → HasOneCodePage blocks → IsCode d p
-is_code blocks d p defines lists has =
-    let one : Defined = record { pool = 1; count = 1; size = has.size } in
-    let first : Paged = record { pool = 1; index = 0; bytes = has.bytes } in
-    let defined : d ∷ [] ≡ one ∷ [] = sym defines ∙ has.definition in
-    let paged : p ∷ [] ≡ first ∷ [] = sym lists ∙ has.page in
-    let d_is : d ≡ one = cc in
-    let p_is : p ≡ first = cc in
-    let size : d.size ≡ has.size = ap (λ (x : Defined). x.size) d_is in
-    let long : length p.bytes ≡ length has.bytes = ap (λ (x : Paged). length x.bytes) p_is in
-    (ap (λ (x : Defined). x.pool) d_is, (ap (λ (x : Defined). x.count) d_is, (ap (λ (x : Paged). x.pool) p_is, (ap (λ (x : Paged). x.index) p_is, omega (arith, has.fits, size, long)))))
+either : {A B : Type 0} → A ⊎ ¬ A → B ⊎ ¬ B → (A ⊎ B) ⊎ ¬ (A ⊎ B)
+either (inl a) b = inl (inl a)
+either (inr not_a) (inl b) = inl (inr b)
+either {A = A} {B = B} (inr not_a) (inr not_b) = inr neither
+  where
+    neither : ¬ (A ⊎ B)
+    neither (inl a) = not_a a
+    neither (inr b) = not_b b
 
-pub page_or_not : (blocks : List PlacedBlock) → HasOneCodePage blocks ⊎ ¬ HasOneCodePage blocks
-page_or_not blocks =
-    elim (only_or_not (definitions blocks)) [
-      | inr other ↦ inr (λ has. other _ has.definition)
-      | inl d ↦ elim (only_or_not (pages blocks)) [
-        | inr other ↦ inr (λ has. other _ has.page)
-        | inl p ↦ elim (code_or_not d.0 p.0) [
-          | inl code ↦ inl (has_page blocks d.0 p.0 d.1 p.1 code)
-          | inr other ↦ inr (λ has. other (is_code blocks d.0 p.0 d.1 p.1 has))
-        ]
+-- whether what isn't so is decided
+kept_or_not : {A : Type 0} → A ⊎ ¬ A → ¬ A ⊎ ¬ ¬ A
+kept_or_not (inl a) = inr (λ none. none a)
+kept_or_not (inr none) = inl none
+
+gap_or_not : (count : ℕ) (all : List Paged) → ((index : ℕ) × ((index < count) × (pages_at index all ≡ []))) ⊎ ¬
+    ((index : ℕ) × ((index < count) × (pages_at index all ≡ [])))
+gap_or_not zero all = inr (λ gap. let below = gap.1.0 in absurd (omega arith))
+gap_or_not (suc n) all =
+    elim (gap_or_not n all) [
+      | inl gap ↦ let below = gap.1.0 in inl (gap.0, (omega arith, gap.1.1))
+      | inr full ↦ elim (empty_or_not (pages_at n all)) [
+        | inl none ↦ inl (n, (omega arith, none))
+        | inr some ↦ inr (λ gap.
+            let below = gap.1.0 in
+            elim (cases_lt gap.0 n) [
+              | inl less ↦ full (gap.0, (less, gap.1.1))
+              | inr more ↦ let same : gap.0 ≡ n = omega arith in some (subst (λ (k : ℕ). pages_at k all ≡ []) same gap.1.1)
+            ])
       ]
     ]
+
+with_page : (p : Paged) (all : List Paged) (index : ℕ) → p.index ≡ index → pages_at index (p ∷ all) ≡ p.bytes ∷ pages_at index all
+with_page p all index same = ap (λ b. cond b (p.bytes ∷ []) [] ++ pages_at index all) (eq-eqb p.index index same)
+
+without_page : (p : Paged) (all : List Paged) (index : ℕ) → ¬ (p.index ≡ index) → pages_at index (p ∷ all) ≡ pages_at index all
+without_page p all index apart = let other : nat_eq p.index index ≡ false = grind (arith, apart) in ap
+    (λ b. cond b (p.bytes ∷ []) [] ++ pages_at index all) other
+
+twice_or_not : (all : List Paged) → ((index : ℕ) × (2 ≤ length (pages_at index all))) ⊎ ¬ ((index : ℕ) × (2 ≤ length (pages_at index all)))
+twice_or_not [] = inr (λ two. let more = two.1 in absurd (omega arith))
+twice_or_not (p ∷ all) =
+    elim (le_or_not 1 (length (pages_at p.index all))) [
+      | inl more ↦ let counted = ap (λ (x : List (List ℕ)). length x) (with_page p all p.index refl) in inl (p.index, omega arith)
+      | inr alone ↦ elim (twice_or_not all) [
+        | inl two ↦ inl (two.0, later_too p all two.0 two.1)
+        | inr once ↦ inr (λ two.
+            elim (cases_eq p.index two.0) [
+              | inl same ↦
+                  let counted = ap (λ (x : List (List ℕ)). length x) (with_page p all two.0 same) in
+                  let more = two.1 in
+                  alone (subst (λ (k : ℕ). 1 ≤ length (pages_at k all)) (sym same) (omega arith))
+              | inr apart ↦ once (two.0, subst (λ (x : List (List ℕ)). 2 ≤ length x) (without_page p all two.0 apart) two.1)
+            ])
+      ]
+    ]
+  where
+    later_too : (p : Paged) (all : List Paged) (index : ℕ) → 2 ≤ length (pages_at index all) → 2 ≤ length (pages_at index (p ∷ all))
+    later_too p all index two =
+        elim (cases_eq p.index index) [
+          | inl same ↦ let counted = ap (λ (x : List (List ℕ)). length x) (with_page p all index same) in omega arith
+          | inr apart ↦ subst (λ (x : List (List ℕ)). 2 ≤ length x) (sym (without_page p all index apart)) two
+        ]
+
+pub rules_or_not : (blocks : List PlacedBlock) → KeepsRules blocks ⊎ ¬ KeepsRules blocks
+rules_or_not blocks =
+    let code : Said = said_of 1 blocks in
+    let constants : Said = said_of 2 blocks in
+    both (kept_or_not (empty_or_not code.definitions))
+    (both (kept_or_not (either (le_or_not 2 (length code.definitions)) (le_or_not 2 (length constants.definitions))))
+    (both (kept_or_not (either (bool_or_not _) (bool_or_not _)))
+    (both (kept_or_not (either (bool_or_not _) (bool_or_not _)))
+    (both (kept_or_not (either (twice_or_not code.pages) (twice_or_not constants.pages)))
+    (both (kept_or_not (either (gap_or_not (count_by code.definitions) code.pages) (gap_or_not (count_by constants.definitions) constants.pages)))
+    (both (kept_or_not (either (bool_or_not _) (bool_or_not _))) (inl tt)))))))
+
+-- an image whose pools are refused is no program
+pub unloads : (blocks : List PlacedBlock) (why : PoolRefusal) → Refuses why blocks → Loads blocks (Err (refusal_by_pools why))
+unloads blocks NoCode refuses = λ program loads. loads.rules.0 refuses.0
+unloads blocks TwoDefs refuses = λ program loads. loads.rules.1.0 refuses.0
+unloads blocks TooWide refuses = λ program loads. loads.rules.1.1.0 refuses.0
+unloads blocks PageIndex refuses = λ program loads. loads.rules.1.1.1.0 refuses.0
+unloads blocks PageTwice refuses = λ program loads. loads.rules.1.1.1.1.0 refuses.0
+unloads blocks PageMissing refuses = λ program loads. loads.rules.1.1.1.1.1.0 refuses.0
+unloads blocks PageLong refuses = λ program loads. loads.rules.1.1.1.1.1.1.0 refuses.0
+unloads blocks NoMemory refuses = tt
 
 -- ---- the entry
 
@@ -121,7 +177,8 @@ sizes_fit blocks e address lists is =
 
 is_entry : (blocks : List PlacedBlock) (e : EntryValue) → entries blocks ≡ e ∷ [] → SizesFit e → IsEntry blocks e.code
 is_entry blocks e lists (method, exception) =
-    let same : ◌≡◌ {A = List EntryValue} (e ∷ []) (record { code = e.code; method_size = 10; exception_size = 10 } ∷ []) = λ i. record { code = e.code; method_size = method i; exception_size = exception i } ∷ [] in
+    let same : ◌≡◌ {A = List EntryValue} (e ∷ []) (record { code = e.code; method_size = 10; exception_size = 10 } ∷ []) = λ i. record
+      { code = e.code; method_size = method i; exception_size = exception i } ∷ [] in
     lists ∙ same
 
 entry_or_not : (blocks : List PlacedBlock) → ((address : ℕ) × IsEntry blocks address) ⊎ ((address : ℕ) → ¬ IsEntry blocks address)
@@ -252,11 +309,11 @@ some_program blocks =
       | inr none ↦ inr (λ program loads. none program.entry loads.entry)
       | inl entry ↦ elim (sets_or_not blocks) [
         | inr none ↦ inr (λ program loads. none program.has_io loads.sets)
-        | inl sets ↦ elim (both (page_or_not blocks) (both (later_or_not (list_any (λ placed. is_later placed.block) blocks)) (plain_or_not (pool_in 1 blocks) entry.0))) [
-          | inl rest ↦ inl (record { code = pool_in 1 blocks; entry = entry.0; has_io = sets.0 }, record { page = rest.0; code = refl; entry = entry.1; none_later = rest.1.0; sets = sets.1; plain = rest.1.1 })
+        | inl sets ↦ elim (both (rules_or_not blocks) (both (later_or_not (list_any (λ placed. is_later placed.block) blocks)) (plain_or_not (pool_in 1 blocks) entry.0))) [
+          | inl rest ↦ inl (record { code = pool_in 1 blocks; entry = entry.0; has_io = sets.0 }, record { rules = rest.0; code = refl; entry = entry.1; none_later = rest.1.0; sets = sets.1; plain = rest.1.1 })
           | inr lacks ↦ inr (λ program loads.
               let P : ℕ → Type 0 = λ n. IsPlainMethod (pool_in 1 blocks) n in
-              lacks (loads.page, (loads.none_later, subst P (one_entry blocks program.entry entry.0 loads.entry entry.1) loads.plain)))
+              lacks (loads.rules, (loads.none_later, subst P (one_entry blocks program.entry entry.0 loads.entry entry.1) loads.plain)))
         ]
       ]
     ]
@@ -266,27 +323,20 @@ some_program blocks =
 pub same_blocks : (a b : ImageValue) → a ≡ b → a.blocks ≡ b.blocks
 same_blocks a b same = ap (λ (image : ImageValue). image.blocks) same
 
--- what is built isn't refused
-is_built : (pools : PoolsValue) → ¬ IsErrOf {T = PoolsValue} (Ok pools) Unbuilt
-is_built pools refused = absurd cc
-
-page_there : (blocks : List PlacedBlock) → ¬ ¬ HasOneCodePage blocks → HasOneCodePage blocks
-page_there blocks there = elim (page_or_not blocks) [ inl page ↦ page | inr none ↦ absurd (there none) ]
-
 -- the blocks of an image, read three times, and the pools built of it make the program
 pub loads_as : (image : ImageValue) (a b c : List PlacedBlock) (pools : PoolsValue) (entry : ℕ) (has_io : Bool) → a ≡ image.blocks
     → b ≡ image.blocks → c ≡ image.blocks
     → pools ≡ pools_in image.blocks
-    → (¬ HasOneCodePage image.blocks → IsErrOf {T = PoolsValue} (Ok pools) Unbuilt)
+    → KeepsRules image.blocks
     → IsEntry a entry
     → false ≡ list_any (λ placed. is_later placed.block) c
     → HasSets has_io b
     → IsPlainMethod pools.code entry
     → LoadsAs image.blocks (record { code = pools.code; entry = entry; has_io = has_io })
-loads_as image a b c pools entry has_io a_is b_is c_is built unbuilt is_entry none_later sets plain =
+loads_as image a b c pools entry has_io a_is b_is c_is built rules is_entry none_later sets plain =
     let code : pools.code ≡ pool_in 1 image.blocks = ap (λ (p : PoolsValue). p.code) built in
     record {
-      page = page_there image.blocks (λ none. is_built pools (unbuilt none));
+      rules = rules;
       code = code;
       entry = subst (λ blocks. IsEntry blocks entry) a_is is_entry;
       none_later = ap (λ blocks. list_any (λ placed. is_later placed.block) blocks) (sym c_is) ∙ sym none_later;

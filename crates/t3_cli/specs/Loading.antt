@@ -5,7 +5,7 @@ use Rattle.t3_blocks.specs.declared.block.Block.{Block}
 use Rattle.t3_blocks.specs.declared.block.Block.TheVariants.{Entry, Functions, Metas, Objects, Symbols}
 use Rattle.t3_image_read.specs.declared.image.PlacedBlock.{PlacedBlock}
 use Rattle.t3_pools.specs.Pool.{Pool, pool_in}
-use Rattle.t3_pools.specs.Building.{HasOneCodePage}
+use Rattle.t3_pools.specs.Building.{KeepsRules}
 use Rattle.t3_methods.specs.declared.header.Header.{Header}
 use Rattle.t3_methods.specs.MethodHeader.{HasHeader, parameters}
 use Rattle.t3_cli.specs.Machine.{ProgramValue}
@@ -54,11 +54,11 @@ abbrev pub IsPlainMethod : Pool → ℕ → Type 0
 IsPlainMethod code method =
     (header : Header) → HasHeader code method header → (parameters header.least header.varying ≡ 0) × (header.exceptions ≡ 0)
 
--- the image is run as this program: it has one page of code and no other pool, one entry with headers and exception entries of ten bytes,
+-- the image is run as this program: its pools can be built, it has one entry with headers and exception entries of ten bytes,
 -- no metaclasses, objects or symbols, no list of function sets or one of the set for input and output alone, and where a header stands at the entry,
 -- it takes no arguments and has no exception table
 pub record LoadsAs (blocks : List PlacedBlock) (program : ProgramValue) : Type 0 where
-  pub page : HasOneCodePage blocks
+  pub rules : KeepsRules blocks
   pub code : program.code ≡ pool_in 1 blocks
   pub entry : entries blocks ≡ record { code = program.entry; method_size = 10; exception_size = 10 } ∷ []
   pub none_later : list_any (λ placed. is_later placed.block) blocks ≡ false

@@ -1,18 +1,27 @@
--- The map that a page's bytes give, by the place in the page.
-use Rattle.std.proofs.Common.{◌≡◌, ◌≢◌, ℕ, zero, suc, ◌+◌, ◌<◌, ◌≤◌, ◌⊎◌, inl, inr, subst, Bool, true, false, cond, nat_eq, IfSome, List, [], ◌∷◌, length, get_or, Option, Some, None, refl, sym, ap, ◌∙◌, arith}
+-- Which byte the pages of a pool give at an address.
+use Rattle.std.proofs.Common.{◌≡◌, ◌≢◌, ℕ, zero, suc, ◌+◌, ◌*◌, ◌<◌, ◌≤◌, ◌⊎◌, inl, inr, Bool, true, false, cond, nat_eq, nat_lt, ◌||◌, List, [], ◌∷◌, ◌++◌, length, Option, Some, None, refl, sym, ap, ◌∙◌, arith}
 use Rattle.std.specs.Ordering.{nat_cmp, eq_by_cmp}
-use Rattle.std.specs.Cmp.{nat_cmp_total}
-use Rattle.std.specs.FinMap.{get, find, from_entries, get-from_entries, empty, get-empty}
-use Rattle.t3_pools.specs.Pool.{PoolsValue, bytes_from, numbered}
-use Rattle.t3_pools.specs.Keeping.{one_page, nth}
+use Rattle.std.specs.FinMap.{find}
+use Rattle.std.specs.List.{flat_map, list_any, slice_get}
+use Rattle.std.proofs.lemmas.Bool.{ltb-false, cases_lt, cases_eq, eq-eqb}
+use Rattle.std.proofs.Math.Nat.{mul-le-mul_right}
+use Rattle.t3_pools.specs.Pool.{Paged, bytes_from, page_bytes}
+use Rattle.t3_pools.specs.Building.{at_index, pages_at}
 
-pub same_number : (n : ℕ) → eq_by_cmp nat_cmp n n ≡ true
+unfoldable pub or_else : Option ℕ → Option ℕ → Option ℕ
+or_else None other = other
+or_else (Some byte) other = Some byte
+
+same_number : (n : ℕ) → eq_by_cmp nat_cmp n n ≡ true
 same_number n = grind arith
 
-pub other_number : (m n : ℕ) → m < n → eq_by_cmp nat_cmp n m ≡ false
-other_number m n h = grind arith
+above : (m n : ℕ) → m < n → eq_by_cmp nat_cmp n m ≡ false
+above m n h = grind arith
 
-pub find-bytes_from : (bytes : List ℕ) (at place : ℕ) → find nat_cmp (at + place) (bytes_from at bytes) ≡ nth bytes place
+below : (m n : ℕ) → m < n → eq_by_cmp nat_cmp m n ≡ false
+below m n h = grind arith
+
+pub find-bytes_from : (bytes : List ℕ) (at place : ℕ) → find nat_cmp (at + place) (bytes_from at bytes) ≡ slice_get bytes place
 find-bytes_from [] at place = refl
 find-bytes_from (byte ∷ bytes) at zero =
     let here : at + 0 ≡ at = omega arith in
@@ -20,58 +29,126 @@ find-bytes_from (byte ∷ bytes) at zero =
     ap (λ b. cond b (Some byte) (find nat_cmp (at + 0) (bytes_from (at + 1) bytes))) same
 find-bytes_from (byte ∷ bytes) at (suc place) =
     let later : at + suc place ≡ (at + 1) + place = omega arith in
-    let other : eq_by_cmp nat_cmp (at + suc place) at ≡ false = other_number at (at + suc place) (omega arith) in
+    let other : eq_by_cmp nat_cmp (at + suc place) at ≡ false = above at (at + suc place) (omega arith) in
     ap (λ b. cond b (Some byte) (find nat_cmp (at + suc place) (bytes_from (at + 1) bytes))) other
     ∙ ap (λ n. find nat_cmp n (bytes_from (at + 1) bytes)) later
     ∙ find-bytes_from bytes (at + 1) place
 
-pub nth-get_or : (bytes : List ℕ) (place : ℕ) → place < length bytes → nth bytes place ≡ Some (get_or bytes place 0)
-nth-get_or [] place h = absurd (omega arith)
-nth-get_or (byte ∷ bytes) zero h = refl
-nth-get_or (byte ∷ bytes) (suc place) h = nth-get_or bytes place (omega arith)
+find_before : (bytes : List ℕ) (at address : ℕ) → address < at → find nat_cmp address (bytes_from at bytes) ≡ None
+find_before [] at address h = refl
+find_before (byte ∷ bytes) at address h =
+    ap (λ b. cond b (Some byte) (find nat_cmp address (bytes_from (at + 1) bytes))) (below address at h)
+      ∙ find_before bytes (at + 1) address (omega arith)
 
-pub nth-past : (bytes : List ℕ) (place : ℕ) → length bytes ≤ place → nth bytes place ≡ None
-nth-past [] place h = refl
-nth-past (byte ∷ bytes) zero h = absurd (omega arith)
-nth-past (byte ∷ bytes) (suc place) h = nth-past bytes place (omega arith)
+find_after : (bytes : List ℕ) (at address : ℕ) → at + length bytes ≤ address → find nat_cmp address (bytes_from at bytes) ≡ None
+find_after [] at address h = refl
+find_after (byte ∷ bytes) at address h =
+    ap (λ b. cond b (Some byte) (find nat_cmp address (bytes_from (at + 1) bytes))) (above at address (omega arith))
+      ∙ find_after bytes (at + 1) address (omega arith)
 
--- the code of one page has at each address the byte at that place of the page
-pub get-one_page : (bytes : List ℕ) (address : ℕ) → get (one_page bytes).code address ≡ nth bytes address
-unfolding one_page
-get-one_page bytes address =
-    let from : 0 + address ≡ address = omega arith in
-    get-from_entries nat_cmp_total (bytes_from 0 bytes) address ∙ ap (λ n. find nat_cmp n (bytes_from 0 bytes)) (sym from) ∙ find-bytes_from bytes 0 address
+find-append : (address : ℕ) (xs ys : List (ℕ × ℕ)) → find nat_cmp address (xs ++ ys) ≡ or_else (find nat_cmp address xs)
+    (find nat_cmp address ys)
+unfolding or_else
+find-append address [] ys = refl
+find-append address (x ∷ xs) ys =
+    elim (eq_by_cmp nat_cmp address x.0) as (λ b. cond b (Some x.1) (find nat_cmp address (xs ++ ys)) ≡ or_else (cond b (Some x.1) (find nat_cmp address xs)) (find nat_cmp address ys)) [
+      | true ↦ refl
+      | false ↦ find-append address xs ys
+    ]
 
-not_one : (number : ℕ) → number ≢ 1 → nat_eq number 1 ≡ false
-not_one number other = grind (arith, other)
+-- the byte at a place of the first of these pages that has one there
+unfoldable pub first_at : ℕ → List (List ℕ) → Option ℕ
+first_at place [] = None
+first_at place (page ∷ pages) = or_else (slice_get page place) (first_at place pages)
 
-pub get-empty_pool : (b : Bool) (address : ℕ) → get (cond b (empty {X = ℕ} {R = nat_cmp}) empty) address ≡ None
-get-empty_pool true address = get-empty nat_cmp address
-get-empty_pool false address = get-empty nat_cmp address
+or_else-assoc : (a b c : Option ℕ) → or_else a (or_else b c) ≡ or_else (or_else a b) c
+unfolding or_else
+or_else-assoc None b c = refl
+or_else-assoc (Some x) b c = refl
 
--- no other pool has a byte
-pub get-no_code : (bytes : List ℕ) (number address : ℕ) → number ≢ 1 → get (numbered (one_page bytes) number) address ≡ None
-unfolding one_page
-get-no_code bytes number address other =
-    ap (λ b. get (cond b (from_entries (bytes_from 0 bytes)) (cond (nat_eq number 2) (empty {X = ℕ} {R = nat_cmp}) empty)) address) (not_one number other)
-    ∙ get-empty_pool (nat_eq number 2) address
+pub or_else-none : (a : Option ℕ) → or_else a None ≡ a
+unfolding or_else
+or_else-none None = refl
+or_else-none (Some x) = refl
 
-pub code_byte : (bytes page : List ℕ) (pools : PoolsValue) (number address : ℕ) (found : Option ℕ) → one_page bytes ≡ pools → number ≡ 1 → page ≡ bytes → found ≡ nth page address → found ≡ get (numbered pools number) address
-code_byte bytes page pools number address found is first same here =
-    here ∙ ap (λ p. nth p address) same ∙ sym (get-one_page bytes address) ∙ ap (λ p. get (numbered p 1) address) is ∙ ap (λ n. get (numbered pools n) address) (sym first)
+first_at-append : (place : ℕ) (xs ys : List (List ℕ)) → first_at place (xs ++ ys) ≡ or_else (first_at place xs) (first_at place ys)
+unfolding first_at or_else
+first_at-append place [] ys = refl
+first_at-append place (x ∷ xs) ys =
+    ap (λ o. or_else (slice_get x place) o) (first_at-append place xs ys)
+      ∙ or_else-assoc (slice_get x place) (first_at place xs) (first_at place ys)
 
-pub no_byte : (bytes : List ℕ) (pools : PoolsValue) (number address : ℕ) → one_page bytes ≡ pools → number ≢ 1 → None ≡ get (numbered pools number) address
-no_byte bytes pools number address is other = sym (get-no_code bytes number address other) ∙ ap (λ p. get (numbered p number) address) is
+pub or_parts_left : (x y : Bool) → (x || y) ≡ false → x ≡ false
+or_parts_left true y h = absurd cc
+or_parts_left false y h = refl
 
-below_or_past : (m n : ℕ) → (m < n) ⊎ (n ≤ m)
-below_or_past m n = grind arith
+pub or_parts_right : (x y : Bool) → (x || y) ≡ false → y ≡ false
+or_parts_right true y h = absurd cc
+or_parts_right false y h = h
 
-within : (bytes : List ℕ) (address : ℕ) → length bytes < 4294967296 → (address < length bytes) ⊎ (length bytes ≤ address) → IfSome (nth bytes address) (λ _. address < 4294967295)
-within bytes address bound (inl inside) = let P : Option ℕ → Type 0 = λ o. IfSome o (λ _. address < 4294967295) in subst P (sym (nth-get_or bytes address inside)) (omega arith)
-within bytes address bound (inr past) = let P : Option ℕ → Type 0 = λ o. IfSome o (λ _. address < 4294967295) in subst P (sym (nth-past bytes address past)) tt
+same_index : (index : ℕ) (p : Paged) → p.index ≡ index → at_index index p ≡ p.bytes ∷ []
+same_index index p h = ap (λ b. cond b (p.bytes ∷ []) []) (eq-eqb p.index index h)
 
--- an address at which a byte stands is less than the greatest
-pub is_bounded : (bytes page : List ℕ) (address : ℕ) (found : Option ℕ) → length bytes < 4294967296 → page ≡ bytes → found ≡ nth page address → IfSome found (λ _. address < 4294967295)
-is_bounded bytes page address found bound same here =
-    let P : Option ℕ → Type 0 = λ o. IfSome o (λ _. address < 4294967295) in
-    subst P (sym (here ∙ ap (λ p. nth p address) same)) (within bytes address bound (below_or_past address (length bytes)))
+other_index : (index : ℕ) (p : Paged) → p.index ≢ index → at_index index p ≡ []
+other_index index p h = let t : nat_eq p.index index ≡ false = grind (arith, h) in ap (λ b. cond b (p.bytes ∷ []) []) t
+
+find_here : (size index place : ℕ) (p : Paged) → p.index ≡ index
+    → find nat_cmp (index * size + place) (page_bytes size p) ≡ first_at place (at_index index p)
+unfolding first_at
+find_here size index place p h =
+    ap (λ n. find nat_cmp (n * size + place) (page_bytes size p)) (sym h) ∙ find-bytes_from p.bytes (p.index * size) place
+    ∙ sym (or_else-none (slice_get p.bytes place)) ∙ ap (λ o. first_at place o) (sym (same_index index p h))
+
+find_elsewhere : (size index place : ℕ) (p : Paged) → place < size → length p.bytes ≤ size → p.index ≢ index
+    → (p.index < index) ⊎ (index ≤ p.index)
+    → find nat_cmp (index * size + place) (page_bytes size p) ≡ None
+find_elsewhere size index place p inside short apart (inl less) =
+    let most : (p.index + 1) * size ≤ index * size = mul-le-mul_right size (omega arith) in
+    let one : (p.index + 1) * size ≡ p.index * size + size = omega arith in
+    find_after p.bytes (p.index * size) (index * size + place) (omega arith)
+find_elsewhere size index place p inside short apart (inr more) =
+    let least : (index + 1) * size ≤ p.index * size = mul-le-mul_right size (omega arith) in
+    let one : (index + 1) * size ≡ index * size + size = omega arith in
+    find_before p.bytes (p.index * size) (index * size + place) (omega arith)
+
+find_page : (size index place : ℕ) (p : Paged) → place < size → length p.bytes ≤ size → (p.index ≡ index) ⊎ (p.index ≢ index)
+    → find nat_cmp (index * size + place) (page_bytes size p) ≡ first_at place (at_index index p)
+unfolding first_at
+find_page size index place p inside short (inl same) = find_here size index place p same
+find_page size index place p inside short (inr apart) =
+    find_elsewhere size index place p inside short apart (cases_lt p.index index)
+      ∙ ap (λ o. first_at place o) (sym (other_index index p apart))
+
+-- no page is longer than the page size
+abbrev pub is_any_long : ℕ → List Paged → Bool
+is_any_long size all = list_any (λ p. nat_lt size (length p.bytes)) all
+
+pub find_pages : (size index place : ℕ) (all : List Paged) → place < size → is_any_long size all ≡ false
+    → find nat_cmp (index * size + place) (flat_map (page_bytes size) all) ≡ first_at place (pages_at index all)
+unfolding first_at
+find_pages size index place [] inside short = refl
+find_pages size index place (p ∷ all) inside short =
+    let here : nat_lt size (length p.bytes) ≡ false = or_parts_left (nat_lt size (length p.bytes)) (is_any_long size all) short in
+    let later : is_any_long size all ≡ false = or_parts_right (nat_lt size (length p.bytes)) (is_any_long size all) short in
+    let first = find_page size index place p inside (ltb-false size (length p.bytes) here) (cases_eq p.index index) in
+    let rest = find_pages size index place all inside later in
+    find-append (index * size + place) (page_bytes size p) (flat_map (page_bytes size) all)
+    ∙ ap (λ o. or_else o (find nat_cmp (index * size + place) (flat_map (page_bytes size) all))) first
+    ∙ ap (λ o. or_else (first_at place (at_index index p)) o) rest
+    ∙ sym (first_at-append place (at_index index p) (pages_at index all))
+
+no_bytes : (bytes : List ℕ) (at address : ℕ) → length bytes ≤ 0 → find nat_cmp address (bytes_from at bytes) ≡ None
+no_bytes [] at address h = refl
+no_bytes (byte ∷ bytes) at address h = absurd (omega arith)
+
+-- pages of no bytes give none
+pub find_none : (address : ℕ) (all : List Paged) → is_any_long 0 all ≡ false → find nat_cmp address (flat_map (page_bytes 0) all) ≡ None
+unfolding or_else
+find_none address [] short = refl
+find_none address (p ∷ all) short =
+    let here : nat_lt 0 (length p.bytes) ≡ false = or_parts_left (nat_lt 0 (length p.bytes)) (is_any_long 0 all) short in
+    let later : is_any_long 0 all ≡ false = or_parts_right (nat_lt 0 (length p.bytes)) (is_any_long 0 all) short in
+    find-append address (page_bytes 0 p) (flat_map (page_bytes 0) all)
+    ∙ ap (λ o. or_else o (find nat_cmp address (flat_map (page_bytes 0) all)))
+      (no_bytes p.bytes (p.index * 0) address (ltb-false 0 (length p.bytes) here))
+    ∙ find_none address all later

@@ -1,2 +1,4 @@
 pub mod Bytes
-pub mod Pages
+pub mod Kept
+pub mod Placing
+pub mod Rules

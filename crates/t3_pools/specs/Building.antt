@@ -1,12 +1,91 @@
--- Which images have pools that can be built: so far those with one pool definition and one page, which are of a code pool of one page.
-use Rattle.std.specs.Prelude.{◌≡◌, ℕ, ◌≤◌, List, [], ◌∷◌, length}
+-- The rules that the pools of an image keep, in their order, and what building the pools answers (the chapter on the image format).
+use Rattle.std.specs.Prelude.{◌≡◌, ℕ, ◌*◌, ◌^◌, ◌<◌, ◌≤◌, ◌==◌, ◌⊎◌, nat_lt, nat_le, IsTrue, List, [], ◌∷◌, length, Result, Ok, Err, if◌then◌else◌}
+use Rattle.std.specs.List.{flat_map, list_any}
 use Rattle.t3_image_read.specs.declared.image.PlacedBlock.{PlacedBlock}
-use Rattle.t3_pools.specs.Pool.{definitions, pages}
+use Rattle.t3_pools.specs.declared.refusal.PoolRefusal.{PoolRefusal}
+use Rattle.t3_pools.specs.declared.refusal.PoolRefusal.TheVariants.{NoCode, TwoDefs, TooWide, PageIndex, PageTwice, PageMissing, PageLong, NoMemory}
+use Rattle.t3_pools.specs.Pool.{Defined, Paged, PoolsValue, Said, said_of, pools_in}
 
--- there is one definition, of a code pool of one page, and one page, which is that one and no longer than the definition says
-pub record HasOneCodePage (blocks : List PlacedBlock) : Type 0 where
-  pub size : ℕ
-  pub bytes : List ℕ
-  pub definition : definitions blocks ≡ record { pool = 1; count = 1; size = size } ∷ []
-  pub page : pages blocks ≡ record { pool = 1; index = 0; bytes = bytes } ∷ []
-  pub fits : length bytes ≤ size
+-- the page count and the page size by the first definition, 0 where there is none
+abbrev pub count_by : List Defined → ℕ
+count_by [] = 0
+count_by (d ∷ _) = d.count
+
+abbrev pub size_by : List Defined → ℕ
+size_by [] = 0
+size_by (d ∷ _) = d.size
+
+-- what the pages of an index hold
+abbrev pub at_index : ℕ → Paged → List (List ℕ)
+at_index index page = if page.index == index then page.bytes ∷ [] else []
+
+abbrev pub pages_at : ℕ → List Paged → List (List ℕ)
+pages_at index all = flat_map (at_index index) all
+
+-- the pool is defined more than once
+abbrev pub HasTwoDefinitions : Said → Type 0
+HasTwoDefinitions said = 2 ≤ length said.definitions
+
+-- a definition's count times its size isn't below 2^31
+abbrev pub IsTooWide : Said → Type 0
+IsTooWide said = IsTrue (list_any (λ d. nat_le (2 ^ 31) (d.count * d.size)) said.definitions)
+
+-- a page's index isn't below the count
+abbrev pub HasFarPage : Said → Type 0
+HasFarPage said = IsTrue (list_any (λ p. nat_le (count_by said.definitions) p.index) said.pages)
+
+-- two pages have one index
+abbrev pub HasPageTwice : Said → Type 0
+HasPageTwice said = (index : ℕ) × (2 ≤ length (pages_at index said.pages))
+
+-- no page has an index below the count
+abbrev pub LacksPage : Said → Type 0
+LacksPage said = (index : ℕ) × ((index < count_by said.definitions) × (pages_at index said.pages ≡ []))
+
+-- a page has more bytes than the page size
+abbrev pub HasLongPage : Said → Type 0
+HasLongPage said = IsTrue (list_any (λ p. nat_lt (size_by said.definitions) (length p.bytes)) said.pages)
+
+abbrev pub InEither : (Said → Type 0) → List PlacedBlock → Type 0
+InEither Holds blocks = Holds (said_of 1 blocks) ⊎ Holds (said_of 2 blocks)
+
+-- the rule that a refusal names is broken, in the pool of code or in that of constants
+abbrev pub Breaks : PoolRefusal → List PlacedBlock → Type 0
+Breaks NoCode blocks = (said_of 1 blocks).definitions ≡ []
+Breaks TwoDefs blocks = InEither HasTwoDefinitions blocks
+Breaks TooWide blocks = InEither IsTooWide blocks
+Breaks PageIndex blocks = InEither HasFarPage blocks
+Breaks PageTwice blocks = InEither HasPageTwice blocks
+Breaks PageMissing blocks = InEither LacksPage blocks
+Breaks PageLong blocks = InEither HasLongPage blocks
+Breaks NoMemory blocks = ⊥
+
+-- the rules that come before that of a refusal, and all of them before want of memory
+abbrev pub before : PoolRefusal → List PoolRefusal
+before NoCode = []
+before TwoDefs = NoCode ∷ []
+before TooWide = NoCode ∷ TwoDefs ∷ []
+before PageIndex = NoCode ∷ TwoDefs ∷ TooWide ∷ []
+before PageTwice = NoCode ∷ TwoDefs ∷ TooWide ∷ PageIndex ∷ []
+before PageMissing = NoCode ∷ TwoDefs ∷ TooWide ∷ PageIndex ∷ PageTwice ∷ []
+before PageLong = NoCode ∷ TwoDefs ∷ TooWide ∷ PageIndex ∷ PageTwice ∷ PageMissing ∷ []
+before NoMemory = NoCode ∷ TwoDefs ∷ TooWide ∷ PageIndex ∷ PageTwice ∷ PageMissing ∷ PageLong ∷ []
+
+-- none of these rules is broken
+abbrev pub Keeps : List PoolRefusal → List PlacedBlock → Type 0
+Keeps [] blocks = Unit {0}
+Keeps (rule ∷ rules) blocks = (¬ Breaks rule blocks) × Keeps rules blocks
+
+-- an image from which pools can be built breaks no rule
+abbrev pub KeepsRules : List PlacedBlock → Type 0
+KeepsRules blocks = Keeps (before NoMemory) blocks
+
+-- the first rule that an image breaks; memory is wanted for pages, when no definition breaks a rule
+abbrev pub Refuses : PoolRefusal → List PlacedBlock → Type 0
+Refuses NoMemory blocks = Keeps (before PageIndex) blocks
+Refuses why blocks = Breaks why blocks × Keeps (before why) blocks
+
+-- the pools of an image that breaks no rule, or why it has none
+abbrev pub Builds : List PlacedBlock → Result PoolsValue PoolRefusal → Type 0
+Builds blocks (Ok pools) = KeepsRules blocks × (pools ≡ pools_in blocks)
+Builds blocks (Err why) = Refuses why blocks

@@ -1,4 +1,4 @@
 pub mod Pool
 pub mod Building
 pub mod Finding
-pub mod Keeping
+pub mod Inner

@@ -1,8 +1,8 @@
 -- The pools of an image as finite maps from addresses to bytes (the chapter on the image format).
-use Rattle.std.specs.Prelude.{◌≡◌, ℕ, ◌+◌, ◌*◌, ◌==◌, refl, Option, Some, None, List, [], ◌∷◌, if◌then◌else◌}
+use Rattle.std.specs.Prelude.{◌≡◌, ℕ, ◌+◌, ◌*◌, ◌==◌, refl, Some, List, [], ◌∷◌, if◌then◌else◌}
 use Rattle.std.specs.Ordering.{nat_cmp}
 use Rattle.std.specs.FinMap.{FinMap, get, from_entries, empty, code as coded_map}
-use Rattle.std.specs.List.{flat_map}
+use Rattle.std.specs.List.{flat_map, filter}
 use Rattle.std.specs.Coded.{Coded, code_by, coded×, coded_ℕ}
 use Rattle.t3_blocks.specs.declared.block.Block.{Block}
 use Rattle.t3_blocks.specs.declared.block.Block.TheVariants.{PoolDef, Page}
@@ -52,28 +52,34 @@ definitions blocks = flat_map (λ placed. defined_by placed.block) blocks
 abbrev pub pages : List PlacedBlock → List Paged
 pages blocks = flat_map (λ placed. paged_by placed.block) blocks
 
--- the size of a pool's pages, by the first that defines the pool, if any does
-abbrev pub page_size : ℕ → List Defined → Option ℕ
-page_size number [] = None
-page_size number (d ∷ rest) = if d.pool == number then Some d.size else page_size number rest
-
 -- bytes from an address on
 abbrev pub bytes_from : ℕ → List ℕ → List (ℕ × ℕ)
 bytes_from at [] = []
 bytes_from at (byte ∷ bytes) = (at, byte) ∷ bytes_from (at + 1) bytes
 
--- a page of the pool gives its bytes from its index times the page size on
-abbrev pub page_bytes : ℕ → ℕ → Paged → List (ℕ × ℕ)
-page_bytes number size page = if page.pool == number then bytes_from (page.index * size) page.bytes else []
+-- a page gives its bytes from its index times the page size on
+abbrev pub page_bytes : ℕ → Paged → List (ℕ × ℕ)
+page_bytes size page = bytes_from (page.index * size) page.bytes
 
--- what the pages give to the pool of a number, which is empty where nothing defines it
-abbrev pub pool_of : ℕ → Option ℕ → List Paged → Pool
-pool_of number None all = empty
-pool_of number (Some size) all = from_entries (flat_map (page_bytes number size) all)
+-- what an image says of one pool: the definitions and the pages of its number, in order
+pub record Said : Type 0 where
+  pub definitions : List Defined
+  pub pages : List Paged
+
+abbrev pub said_of : ℕ → List PlacedBlock → Said
+said_of number blocks = record {
+  definitions = filter (λ d. d.pool == number) (definitions blocks);
+  pages = filter (λ p. p.pool == number) (pages blocks);
+}
+
+-- the pool of such definitions and pages: the first definition gives the page size, and without one the pool is empty
+abbrev pub pool_of : List Defined → List Paged → Pool
+pool_of [] all = empty
+pool_of (d ∷ _) all = from_entries (flat_map (page_bytes d.size) all)
 
 -- the pool of a number that the blocks of an image give
 unfoldable pub pool_in : ℕ → List PlacedBlock → Pool
-pool_in number blocks = pool_of number (page_size number (definitions blocks)) (pages blocks)
+pool_in number blocks = pool_of (said_of number blocks).definitions (said_of number blocks).pages
 
 -- both pools of an image
 abbrev pub pools_in : List PlacedBlock → PoolsValue

@@ -1,12 +1,20 @@
 //! The pools of an image: the code and the constants, by their addresses.
 //!
-//! So far the pools of an image are built where it has one pool definition and one page, which are of a
-//! code pool of one page.
+//! ```text
+//! let pools = Pools::build(alloc, &image)?;
+//! assert_eq!(pools.byte(1, 0), Some(84));
+//! assert_eq!(pools.run(1, 1), [242, 255].as_slice());
+//! assert_eq!(pools.byte(2, 0), None);
+//! ```
+//!
+//! The test `the_example_of_the_first_page` runs this on an image of one page of code.
 #![tactic(auto)]
 
+mod definitions;
+mod paged;
 mod pools;
 mod refusal;
-mod single;
+mod sheets;
 #[cfg(test)]
 mod tests;
 

@@ -1,52 +1,90 @@
-ghost use Rattle.std.specs.Prelude.{◌≡◌, ◌<◌, ◌-◌, ◌^◌, ◌↔◌, IfOk, IfSome, IsErrOf};
+ghost use Rattle.std.specs.Prelude.{◌≡◌, ◌≢◌, ◌<◌, ◌≤◌, ◌+◌, ◌^◌, [], length, IfOk, IfSome};
 ghost use Rattle.std.specs.FinMap.{get};
-ghost use Rattle.t3_pools.specs.Pool.{numbered, pools_in};
-ghost use Rattle.t3_pools.specs.Keeping.{nth};
-ghost use Rattle.t3_pools.specs.Building.{HasOneCodePage};
+ghost use Rattle.t3_pools.specs.Pool.{numbered, pools_in, HasBytes};
+ghost use Rattle.t3_pools.specs.Building.{Builds};
 
+use crate::definitions::{CODE, CONSTANTS, layouts};
+use crate::paged::PagedPool;
 use crate::refusal::PoolRefusal;
-use crate::single::code_page;
+use crate::sheets::{has_far, has_long, in_order, sheets_of, sorted};
 use std::alloc::Global;
 use std::marker::Model;
 use t3_image_read::Image;
 
-/// The number of the pool of code.
-const CODE: u8 = 1;
-
 /// The code and the constants of an image. Contracts see each pool as a map from addresses to bytes.
 #[derive(Debug, Drop)]
 pub struct Pools {
-    /// The one page of code.
-    code: Vec<u8>,
+    code: PagedPool,
+    constants: PagedPool,
 }
 
 impl Model for Pools {
     ghost use Rattle.t3_pools.specs.Pool.{PoolsValue, coded_pools};
-    ghost use Rattle.t3_pools.specs.Keeping.{one_page, IsKept};
 
     ghost Value = { PoolsValue };
 
     ghost coded = { coded_pools };
 
-    ghost view = { λ p. one_page p.code.items };
-
-    ghost invariant = { λ p. IsKept p.code.items };
+    ghost view = { λ p. record { code = p.code; constants = p.constants } };
 }
 
 impl Pools {
-    /// The pools of an image. What they keep of it is copied.
+    /// The pools of an image. What they keep of it is copied, one page at a time.
     ///
-    /// `Unbuilt` exactly where the image hasn't one pool definition, of a code pool of one page, and one
-    /// page, which is that pool's first and no longer than the definition says.
+    /// Pages may stand in any order and be shorter than the page size, and a definition may stand behind
+    /// its pages. Blocks of other pool numbers aren't looked at. A refusal names the first rule that the
+    /// image breaks, in the order of `PoolRefusal`; want of memory may come first, but not before the
+    /// rules on definitions. Work and memory grow with the pages that are there, never with the count
+    /// or the size that a definition says.
     pub fn build(alloc: Global, image: &Image) -> Result<Pools, PoolRefusal>
         ensures built { IfOk result (λ pools. pools ≡ pools_in image.now.blocks) }
-        ensures unbuilt { IsErrOf result PoolRefusal.Unbuilt ↔ ¬ HasOneCodePage image.now.blocks }
+        ensures decides { Builds image.now.blocks result }
     {
-        match code_page(&image.blocks.0) {
-            Some(page) => Ok(Pools {
-                code: Vec::from_slice(alloc, page)?,
-            }),
-            None => Err(PoolRefusal::Unbuilt),
+        let blocks = &image.blocks.0;
+        let (code, constants) = layouts(blocks)?;
+        let code_sheets = sheets_of(alloc, blocks, CODE)?;
+        let constant_sheets = sheets_of(alloc, blocks, CONSTANTS)?;
+        if has_far(&code_sheets, code.count) || has_far(&constant_sheets, constants.count) {
+            return Err(PoolRefusal::PageIndex);
+        }
+        let code_sorted = match sorted(alloc, &code_sheets)? {
+            Some(code_sorted) => code_sorted,
+            None => return Err(PoolRefusal::PageTwice),
+        };
+        let constant_sorted = match sorted(alloc, &constant_sheets)? {
+            Some(constant_sorted) => constant_sorted,
+            None => return Err(PoolRefusal::PageTwice),
+        };
+        let code_pages = match in_order(alloc, &code_sorted, code.count)? {
+            Some(code_pages) => code_pages,
+            None => return Err(PoolRefusal::PageMissing),
+        };
+        let constant_pages = match in_order(alloc, &constant_sorted, constants.count)? {
+            Some(constant_pages) => constant_pages,
+            None => return Err(PoolRefusal::PageMissing),
+        };
+        if has_long(&code_sheets, code.size) || has_long(&constant_sheets, constants.size) {
+            return Err(PoolRefusal::PageLong);
+        }
+        Ok(Pools {
+            code: PagedPool::new(alloc, code.size, &code_pages)?,
+            constants: PagedPool::new(alloc, constants.size, &constant_pages)?,
+        })
+    }
+
+    /// The bytes from an address of a pool to the end of its page: pool 1 is the code, 2 the constants.
+    /// Empty exactly where no byte stands there. It takes one division and no memory.
+    pub fn run(&self, pool: u8, address: u32) -> &[u8]
+        ensures stand { HasBytes (numbered self.now pool) address result.now }
+        ensures empty { result.now ≡ [] → get (numbered self.now pool) address ≡ None }
+        ensures bounded { result.now ≢ [] → address + length result.now ≤ 2 ^ 31 }
+    {
+        if pool == 1 {
+            self.code.run(address)
+        } else if pool == 2 {
+            self.constants.run(address)
+        } else {
+            &[]
         }
     }
 
@@ -54,23 +92,8 @@ impl Pools {
     /// stands there.
     pub fn byte(&self, pool: u8, address: u32) -> Option<u8>
         ensures byte { result ≡ get (numbered self.now pool) address }
-        ensures bounded { IfSome result (λ _. address < 2 ^ 32 - 1) }
+        ensures bounded { IfSome result (λ _. address < 2 ^ 31) }
     {
-        if pool == CODE {
-            byte_at(&self.code, address as usize)
-        } else {
-            None
-        }
-    }
-}
-
-/// The byte at a place of a page.
-fn byte_at(page: &[u8], place: usize) -> Option<u8>
-    ensures { result ≡ nth page.now place }
-{
-    if place < page.len() {
-        Some(page[place])
-    } else {
-        None
+        self.run(pool, address).first().copied()
     }
 }

@@ -4,14 +4,31 @@ ghost use Rattle.t3_pools.specs.declared.refusal.PoolRefusal.TheVariants.{NoMemo
 use std::alloc::{AllocError, AllocFailed};
 use thiserror::Error;
 
-/// Why an image gives no pools.
+/// Why an image gives no pools: the first of these, over the code and the constants together. A page
+/// count is 0 where nothing defines the pool.
 #[derive(Clone, Copy, Debug, PartialEq, Eq, Hash, Error)]
 pub enum PoolRefusal {
-    /// The image hasn't exactly one pool definition and one page, or the definition isn't that of a code
-    /// pool of one page, or the page isn't that pool's first or is longer than the definition says. Such
-    /// pools can't be built yet.
-    #[error("the pools can't be built yet")]
-    Unbuilt,
+    /// Nothing defines the pool of code.
+    #[error("no definition of a code pool")]
+    NoCode,
+    /// A pool is defined more than once.
+    #[error("two definitions of one pool")]
+    TwoDefs,
+    /// A page count times the page size is 2^31 or more.
+    #[error("a pool of 2 GiB or more")]
+    TooWide,
+    /// A page's index isn't below the page count.
+    #[error("a page's index isn't below the page count")]
+    PageIndex,
+    /// Two pages of a pool have one index.
+    #[error("two pages of one index")]
+    PageTwice,
+    /// There is no page of an index below the page count.
+    #[error("a page is missing")]
+    PageMissing,
+    /// A page has more bytes than the page size.
+    #[error("a page is longer than the page size")]
+    PageLong,
     /// An allocation was refused.
     #[error("out of memory")]
     NoMemory,

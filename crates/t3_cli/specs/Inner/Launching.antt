@@ -7,6 +7,8 @@ use Rattle.t3_cli.specs.declared.run.load.Program.{Program}
 use Rattle.t3_cli.specs.declared.run.load.Entry.{Entry}
 use Rattle.t3_cli.specs.declared.run.load.LoadRefusal.{LoadRefusal}
 use Rattle.t3_cli.specs.declared.run.load.LoadRefusal.TheVariants.{Unbuilt, NoMemory}
+use Rattle.t3_pools.specs.declared.refusal.PoolRefusal.{PoolRefusal}
+use Rattle.t3_pools.specs.declared.refusal.PoolRefusal.TheVariants.{NoMemory as Wanting}
 use Rattle.t3_cli.specs.Loading.{EntryValue, entries, name_lists, HasBase, HasSets, LoadsAs, IsUnloaded}
 use Rattle.t3_cli.specs.Step.{program_of}
 
@@ -14,6 +16,11 @@ abbrev pub Loads : List PlacedBlock → Result Program LoadRefusal → Type 0
 Loads blocks (Ok program) = LoadsAs blocks (program_of program)
 Loads blocks (Err Unbuilt) = IsUnloaded blocks
 Loads blocks (Err NoMemory) = Unit {0}
+
+-- pools that are refused for another cause than memory can't be run
+abbrev pub refusal_by_pools : PoolRefusal → LoadRefusal
+refusal_by_pools Wanting = NoMemory
+refusal_by_pools _ = Unbuilt
 
 abbrev pub entry_value : Entry → EntryValue
 entry_value entry = record { code = entry.code; method_size = entry.method_size; exception_size = entry.exception_size }

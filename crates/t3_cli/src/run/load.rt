@@ -3,7 +3,7 @@ ghost use Rattle.std.specs.Prelude.{◌≡◌, ◌↔◌, IsTrue, MatchOption};
 ghost use Rattle.std.specs.List.{list_any};
 ghost use Rattle.t3_pools.specs.Finding.{OnlyOf};
 ghost use Rattle.t3_cli.specs.Loading.{entries, is_later as is_later_block, HasBase, IsPlainMethod};
-ghost use Rattle.t3_cli.specs.Inner.Launching.{Loads, FindsEntry, FindsSets, FindsList, IsIoAlone, entry_value};
+ghost use Rattle.t3_cli.specs.Inner.Launching.{Loads, FindsEntry, FindsSets, FindsList, IsIoAlone, entry_value, refusal_by_pools};
 
 use std::alloc::Global;
 use t3_blocks::{Block, Names};
@@ -64,8 +64,18 @@ pub(crate) fn load(alloc: Global, image: &Image) -> Result<Program, LoadRefusal>
             entry,
             has_io,
         }),
-        Ok(_) | Err(PoolRefusal::Unbuilt) => Err(LoadRefusal::Unbuilt),
-        Err(PoolRefusal::NoMemory) => Err(LoadRefusal::NoMemory),
+        Ok(_) => Err(LoadRefusal::Unbuilt),
+        Err(why) => Err(refusal_by(why)),
+    }
+}
+
+/// Why an image isn't run whose pools are refused.
+fn refusal_by(why: PoolRefusal) -> LoadRefusal
+    ensures { result ≡ refusal_by_pools why }
+{
+    match why {
+        PoolRefusal::NoMemory => LoadRefusal::NoMemory,
+        _ => LoadRefusal::Unbuilt,
     }
 }
 

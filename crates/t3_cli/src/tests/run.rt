@@ -1,4 +1,4 @@
-//! Images of one code page that are run.
+//! Images that are run.
 use crate::Status;
 use crate::tests::builder::{ENTRY, FUNCTIONS, METHOD, POOL, SAYS_42, code_image, outcome};
 use std::alloc::{AllocError, Global};
@@ -35,6 +35,27 @@ fn says_a_number(rt: HostRuntime) -> Result<(), Fail> {
         let (got, shown) = story(rt.alloc(), SAYS_42, options)?;
         assert_eq!(rt; shown.as_slice(), want.as_bytes());
         assert_eq!(rt; got, *status);
+    }
+    Ok(())
+}
+
+#[test]
+fn code_goes_on_in_the_next_page(rt: HostRuntime) -> Result<(), Fail> {
+    let alloc = rt.alloc();
+    let two_pages = b"CPDF\x0A\x00\x00\x00\x01\x00\x01\x00\x02\x00\x00\x00\x0D\x00\x00\x00";
+    let second = b"CPPG\x0A\x00\x00\x00\x01\x00\x01\x00\x01\x00\x00\x00\x00\x01\x00\x51";
+    let rows: [(&[&[u8]], &str); 2] = [
+        (&[ENTRY, second, FUNCTIONS, two_pages], "42\n"),
+        // The second page is missing.
+        (&[ENTRY, FUNCTIONS, two_pages], "load refused Unbuilt\n"),
+    ];
+    for (blocks, want) in rows {
+        let (_, shown) = ran(
+            alloc,
+            &code_image(alloc, blocks, METHOD, b"\x03\x2A\xB1")?,
+            &[],
+        )?;
+        assert_eq!(rt; shown.as_slice(), want.as_bytes());
     }
     Ok(())
 }

@@ -1,0 +1,217 @@
+-- Which rules a pool keeps or breaks, and which pool it is, by what was gathered of it.
+use Rattle.std.proofs.Common.{◌≡◌, ◌≢◌, ℕ, ◌*◌, ◌^◌, ◌<◌, ◌≤◌, ◌⊎◌, inl, inr, subst, Bool, true, false, cond, nat_eq, nat_lt, nat_le, List, [], ◌∷◌, map, length, Option, Some, None, sym, ap, ◌∙◌, arith}
+use Rattle.std.specs.List.{flat_map, list_any, slice_get}
+use Rattle.std.specs.Ordering.{nat_cmp}
+use Rattle.std.specs.Cmp.{nat_cmp_total}
+use Rattle.std.specs.FinMap.{get, from_entries, empty, get-empty, get-from_entries, same_map, nat_cmp-IsAntisymmetric}
+use Rattle.std.proofs.lemmas.List.{length-map}
+use Rattle.std.specs.BTreeMap.{BTreeMap, get as get_key}
+use denote.Ref.{Bor}
+use Rattle.t3_image_read.specs.declared.image.PlacedBlock.{PlacedBlock}
+use Rattle.t3_pools.specs.declared.definitions.Layout.{Layout}
+use Rattle.t3_pools.specs.declared.sheets.Sheet.{Sheet}
+use Rattle.t3_pools.specs.declared.refusal.PoolRefusal.TheVariants.{PageIndex, PageTwice, PageMissing, PageLong}
+use Rattle.t3_pools.specs.Pool.{Pool, PoolsValue, Defined, Paged, Said, said_of, page_bytes, pool_of, pool_in, pools_in, numbered}
+use Rattle.t3_pools.specs.Building.{count_by, size_by, pages_at, HasFarPage, HasPageTwice, LacksPage, HasLongPage, Keeps, KeepsRules, before}
+use Rattle.t3_pools.specs.Finding.{listed}
+use Rattle.t3_pools.specs.Inner.Gathering.{paged, sheets_at, Sorts, Orders, LaysOut}
+use Rattle.t3_pools.specs.Inner.Keeping.{kept_pool}
+use Rattle.t3_pools.proofs.Bytes.{is_any_long}
+use Rattle.t3_pools.proofs.Kept.{one, is_long_in, same_pool}
+use Rattle.t3_pools.proofs.Placing.{now, long_map, at-paged, far-paged, long-paged, placed_pages, no_gap, short_pages}
+
+-- ---- one pool
+
+abbrev pub is_far_sheet : ℕ → List Sheet → Bool
+is_far_sheet count sheets = list_any (λ sheet. nat_le count sheet.index) sheets
+
+abbrev pub is_long_sheet : ℕ → List Sheet → Bool
+is_long_sheet size sheets = list_any (λ sheet. nat_lt size (length sheet.bytes.now)) sheets
+
+-- the definitions and the sheets of a pool
+pub record Gathered (number : ℕ) (said : Said) (layout : Layout) (sheets : List Sheet) : Type 0 where
+  pub lays_out : LaysOut said layout
+  pub pages : map (paged number) sheets ≡ said.pages
+
+pub gather : (number : ℕ) (blocks a b : List PlacedBlock) (layout : Layout) (sheets : List Sheet) → a ≡ blocks → b ≡ blocks
+    → LaysOut (said_of number a) layout
+    → map (paged number) sheets ≡ (said_of number b).pages → Gathered number (said_of number blocks) layout sheets
+gather number blocks a b layout sheets a_is b_is lays pages = record {
+  lays_out = subst (λ (x : List PlacedBlock). LaysOut (said_of number x) layout) a_is lays;
+  pages = pages ∙ ap (λ (x : List PlacedBlock). (said_of number x).pages) b_is;
+}
+
+-- what a test of sheets says
+pub tested : (test : List Sheet → Bool) (read items : List Sheet) (result answer : Bool) → read ≡ items → result ≡ test read
+    → result ≡ answer → test items ≡ answer
+tested test read items result answer same is answers = ap test (sym same) ∙ sym is ∙ answers
+
+far_is : (number : ℕ) (said : Said) (layout : Layout) (sheets : List Sheet) → Gathered number said layout sheets
+    → list_any (λ p. nat_le (count_by said.definitions) p.index) said.pages ≡ is_far_sheet layout.count sheets
+far_is number said layout sheets g =
+    ap (λ (all : List Paged). list_any (λ p. nat_le (count_by said.definitions) p.index) all) (sym g.pages)
+    ∙ ap (λ n. list_any (λ (p : Paged). nat_le n p.index) (map (paged number) sheets)) g.lays_out.count
+    ∙ far-paged number layout.count sheets
+
+long_is : (number : ℕ) (said : Said) (layout : Layout) (sheets : List Sheet) → Gathered number said layout sheets
+    → is_any_long (size_by said.definitions) said.pages ≡ is_long_sheet layout.size sheets
+long_is number said layout sheets g =
+    ap (λ (all : List Paged). is_any_long (size_by said.definitions) all) (sym g.pages)
+    ∙ ap (λ n. is_any_long n (map (paged number) sheets)) g.lays_out.size
+    ∙ long-paged number layout.size sheets
+
+at_is : (number : ℕ) (said : Said) (layout : Layout) (sheets : List Sheet) (index : ℕ) → Gathered number said layout sheets
+    → pages_at index said.pages ≡ sheets_at index sheets
+at_is number said layout sheets index g = ap (λ (all : List Paged). pages_at index all) (sym g.pages) ∙ at-paged number index sheets
+
+pub far : (number : ℕ) (said : Said) (layout : Layout) (sheets : List Sheet) → Gathered number said layout sheets
+    → is_far_sheet layout.count sheets ≡ true → HasFarPage said
+far number said layout sheets g is = far_is number said layout sheets g ∙ is
+
+pub not_far : (number : ℕ) (said : Said) (layout : Layout) (sheets : List Sheet) → Gathered number said layout sheets
+    → is_far_sheet layout.count sheets ≡ false → ¬ HasFarPage said
+not_far number said layout sheets g none is = let clash : false ≡ true = sym none ∙ sym (far_is number said layout sheets g)
+    ∙ is in absurd cc
+
+pub long : (number : ℕ) (said : Said) (layout : Layout) (sheets : List Sheet) → Gathered number said layout sheets
+    → is_long_sheet layout.size sheets ≡ true → HasLongPage said
+long number said layout sheets g is = long_is number said layout sheets g ∙ is
+
+pub not_long : (number : ℕ) (said : Said) (layout : Layout) (sheets : List Sheet) → Gathered number said layout sheets
+    → is_long_sheet layout.size sheets ≡ false → ¬ HasLongPage said
+not_long number said layout sheets g none is = let clash : false ≡ true = sym none ∙ sym (long_is number said layout sheets g)
+    ∙ is in absurd cc
+
+pub twice : (number : ℕ) (said : Said) (layout : Layout) (sheets : List Sheet) → Gathered number said layout sheets → Sorts sheets None
+    → HasPageTwice said
+twice number said layout sheets g has =
+    (has.0, subst (λ (p : List (List ℕ)). 2 ≤ length p) (sym (at_is number said layout sheets has.0 g)) has.1)
+
+listed_at_most : (found : Option (Bor (List ℕ))) → length (listed now found) ≤ 1
+listed_at_most None = omega arith
+listed_at_most (Some page) = omega arith
+
+pub not_twice : (number : ℕ) (said : Said) (layout : Layout) (sheets : List Sheet) (sorted : BTreeMap ℕ (Bor (List ℕ)))
+    → Gathered number said layout sheets → Sorts sheets (Some sorted)
+    → ¬ HasPageTwice said
+not_twice number said layout sheets sorted g sorts has =
+    let counted = ap (λ (p : List (List ℕ)). length p) (sorts has.0 ∙ sym (at_is number said layout sheets has.0 g)) in
+    let most = listed_at_most (get_key nat_cmp sorted has.0) in
+    let two = has.1 in
+    absurd (omega arith)
+
+pub lacks : (number : ℕ) (said : Said) (layout : Layout) (sheets : List Sheet) (sorted : BTreeMap ℕ (Bor (List ℕ)))
+    → Gathered number said layout sheets → Sorts sheets (Some sorted)
+    → Orders layout.count sorted None → LacksPage said
+lacks number said layout sheets sorted g sorts gap = (
+  gap.0,
+  (
+    subst (λ n. gap.0 < n) (sym g.lays_out.count) gap.1.0,
+    at_is number said layout sheets gap.0 g ∙ sym (sorts gap.0) ∙ ap (λ o. listed now o) gap.1.1,
+  ),
+)
+
+-- each index has the page that was placed there
+pub placed : (number : ℕ) (said : Said) (layout : Layout) (sheets : List Sheet) (sorted : BTreeMap ℕ (Bor (List ℕ)))
+    (ordered : List (Bor (List ℕ)))
+    → Gathered number said layout sheets → is_far_sheet layout.count sheets ≡ false → Sorts sheets (Some sorted)
+      → Orders layout.count sorted (Some ordered)
+    → (index : ℕ) → pages_at index said.pages ≡ one (slice_get (map now ordered) index)
+placed number said layout sheets sorted ordered g near sorts orders =
+    placed_pages layout.count said.pages (λ index. get_key nat_cmp sorted index) ordered
+    (ap (λ n. list_any (λ (p : Paged). nat_le n p.index) said.pages) (sym g.lays_out.count) ∙ far_is number said layout sheets g ∙ near)
+    (λ index. sorts index ∙ sym (at_is number said layout sheets index g))
+    orders.0 orders.1
+
+pub not_lacking : (number : ℕ) (said : Said) (layout : Layout) (sheets : List Sheet) (sorted : BTreeMap ℕ (Bor (List ℕ)))
+    (ordered : List (Bor (List ℕ)))
+    → Gathered number said layout sheets → is_far_sheet layout.count sheets ≡ false → Sorts sheets (Some sorted)
+      → Orders layout.count sorted (Some ordered)
+    → ¬ LacksPage said
+not_lacking number said layout sheets sorted ordered g near sorts orders gap =
+    let count : length (map now ordered) ≡ count_by said.definitions = length-map ordered now ∙ orders.0 ∙ sym g.lays_out.count in
+    no_gap said.pages (map now ordered) (placed number said layout sheets sorted ordered g near sorts orders) gap.0
+    (subst (λ n. gap.0 < n) (sym count) gap.1.0) gap.1.1
+
+pub fits : (number : ℕ) (said : Said) (layout : Layout) (sheets : List Sheet) (sorted : BTreeMap ℕ (Bor (List ℕ)))
+    (ordered : List (Bor (List ℕ)))
+    → Gathered number said layout sheets → is_far_sheet layout.count sheets ≡ false → Sorts sheets (Some sorted)
+      → Orders layout.count sorted (Some ordered)
+    → is_long_sheet layout.size sheets ≡ false
+    → list_any (λ page. nat_lt layout.size (length page.now)) ordered ≡ false
+fits number said layout sheets sorted ordered g near sorts orders short =
+    long_map layout.size ordered
+    ∙ short_pages layout.size said.pages (map now ordered) (placed number said layout sheets sorted ordered g near sorts orders)
+    (ap (λ n. is_any_long n said.pages) (sym g.lays_out.size) ∙ long_is number said layout sheets g ∙ short)
+
+pub narrow : (said : Said) (layout : Layout) (sorted : BTreeMap ℕ (Bor (List ℕ))) (ordered : List (Bor (List ℕ))) → LaysOut said layout
+    → Orders layout.count sorted (Some ordered) → length ordered * layout.size < 2 ^ 31
+narrow said layout sorted ordered lays orders = subst (λ n. n * layout.size < 2 ^ 31) (sym orders.0) lays.narrow
+
+no_pages : (pages : List (Bor (List ℕ))) (size : ℕ) → length pages ≡ 0 → empty ≡ kept_pool size (map now pages)
+unfolding kept_pool
+no_pages [] size none = same_map nat_cmp_total nat_cmp-IsAntisymmetric _ _
+    (λ address. get-empty nat_cmp address ∙ sym (get-from_entries nat_cmp_total [] address))
+no_pages (page ∷ pages) size none = absurd (omega arith)
+
+defined_pool : (definitions : List Defined) (all : List Paged) (count size : ℕ) (ordered : List (Bor (List ℕ)))
+    → count_by definitions ≡ count → size_by definitions ≡ size
+    → length ordered ≡ count → is_any_long size all ≡ false → is_long_in size (map now ordered) ≡ false
+    → ((index : ℕ) → pages_at index all ≡ one (slice_get (map now ordered) index))
+    → pool_of definitions all ≡ kept_pool size (map now ordered)
+defined_pool [] all count size ordered c s counted short fit same = no_pages ordered size (counted ∙ sym c)
+defined_pool (d ∷ ds) all count size ordered c s counted short fit same =
+    ap (λ n. from_entries (flat_map (page_bytes n) all)) s ∙ same_pool size all (map now ordered) short fit same
+
+pub gathered_pool : (number : ℕ) (said : Said) (layout : Layout) (sheets : List Sheet) (sorted : BTreeMap ℕ (Bor (List ℕ)))
+    (ordered : List (Bor (List ℕ)))
+    → Gathered number said layout sheets → is_far_sheet layout.count sheets ≡ false → Sorts sheets (Some sorted)
+      → Orders layout.count sorted (Some ordered)
+    → is_long_sheet layout.size sheets ≡ false
+    → pool_of said.definitions said.pages ≡ kept_pool layout.size (map now ordered)
+gathered_pool number said layout sheets sorted ordered g near sorts orders short =
+    defined_pool said.definitions said.pages layout.count layout.size ordered g.lays_out.count g.lays_out.size orders.0
+    (ap (λ n. is_any_long n said.pages) (sym g.lays_out.size) ∙ long_is number said layout sheets g ∙ short)
+    (sym (long_map layout.size ordered) ∙ fits number said layout sheets sorted ordered g near sorts orders short)
+    (placed number said layout sheets sorted ordered g near sorts orders)
+
+-- ---- both pools
+
+pub neither : {A B : Type 0} → ¬ A → ¬ B → ¬ (A ⊎ B)
+neither no_a no_b (inl a) = no_a a
+neither no_a no_b (inr b) = no_b b
+
+pub keeps_index : (blocks : List PlacedBlock) → Keeps (before PageIndex) blocks → ¬ HasFarPage (said_of 1 blocks)
+    → ¬ HasFarPage (said_of 2 blocks) → Keeps (before PageTwice) blocks
+keeps_index blocks k code constants = (k.0, (k.1.0, (k.1.1.0, (neither code constants, tt))))
+
+pub keeps_twice : (blocks : List PlacedBlock) → Keeps (before PageTwice) blocks → ¬ HasPageTwice (said_of 1 blocks)
+    → ¬ HasPageTwice (said_of 2 blocks)
+    → Keeps (before PageMissing) blocks
+keeps_twice blocks k code constants = (k.0, (k.1.0, (k.1.1.0, (k.1.1.1.0, (neither code constants, tt)))))
+
+pub keeps_missing : (blocks : List PlacedBlock) → Keeps (before PageMissing) blocks → ¬ LacksPage (said_of 1 blocks)
+    → ¬ LacksPage (said_of 2 blocks) → Keeps (before PageLong) blocks
+keeps_missing blocks k code constants = (k.0, (k.1.0, (k.1.1.0, (k.1.1.1.0, (k.1.1.1.1.0, (neither code constants, tt))))))
+
+pub keeps_long : (blocks : List PlacedBlock) → Keeps (before PageLong) blocks → ¬ HasLongPage (said_of 1 blocks)
+    → ¬ HasLongPage (said_of 2 blocks) → KeepsRules blocks
+keeps_long blocks k code constants = (k.0, (k.1.0, (k.1.1.0, (k.1.1.1.0, (k.1.1.1.1.0, (k.1.1.1.1.1.0, (neither code constants, tt)))))))
+
+pub both_pools : (blocks : List PlacedBlock) (code constants : Pool)
+    → pool_of (said_of 1 blocks).definitions (said_of 1 blocks).pages ≡ code
+    → pool_of (said_of 2 blocks).definitions (said_of 2 blocks).pages ≡ constants
+    → ◌≡◌ {A = PoolsValue} (record { code = code; constants = constants }) (pools_in blocks)
+unfolding pool_in
+both_pools blocks code constants code_is constants_is =
+    λ i. record { code = sym code_is i; constants = sym constants_is i }
+
+-- ---- what stands at an address
+
+pub no_pool : (pools : PoolsValue) (number address : ℕ) → number ≢ 1 → number ≢ 2 → get (numbered pools number) address ≡ None
+no_pool pools number address not_code not_constants =
+    let first : nat_eq number 1 ≡ false = grind (arith, not_code) in
+    let second : nat_eq number 2 ≡ false = grind (arith, not_constants) in
+    ap (λ b. get (cond b pools.code (cond (nat_eq number 2) pools.constants (empty {X = ℕ} {R = nat_cmp}))) address) first
+    ∙ ap (λ b. get (cond b pools.constants (empty {X = ℕ} {R = nat_cmp})) address) second
+    ∙ get-empty nat_cmp address

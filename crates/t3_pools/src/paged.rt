@@ -1,0 +1,84 @@
+//! A pool as it is kept: its pages by their indices, each with its own bytes.
+ghost use Rattle.std.specs.Prelude.{◌≡◌, ◌<◌, ◌*◌, ◌^◌, nat_lt, false, length, map, drop, IfOk};
+ghost use Rattle.std.specs.List.{list_any};
+ghost use Rattle.t3_pools.specs.Inner.Keeping.{run_in, kept_pool, Runs};
+
+use std::alloc::{AllocError, Global};
+use std::marker::Model;
+use t3_holder::Bytes;
+
+/// A pool. Contracts see the map from addresses to bytes.
+#[derive(Debug, Drop)]
+pub(crate) struct PagedPool {
+    size: u32,
+    pages: Vec<Bytes>,
+}
+
+impl Model for PagedPool {
+    ghost use Rattle.std.specs.FinMap.{code as coded_map};
+    ghost use Rattle.std.specs.Coded.{coded_ℕ};
+    ghost use Rattle.t3_pools.specs.Pool.{Pool};
+    ghost use Rattle.t3_pools.specs.Inner.Keeping.{kept_pool, IsKept};
+
+    ghost Value = { Pool };
+
+    ghost coded = { coded_map coded_ℕ coded_ℕ };
+
+    ghost view = { λ p. kept_pool p.size p.pages.items };
+
+    ghost invariant = { λ p. IsKept p.size p.pages.items };
+}
+
+impl PagedPool {
+    /// The pool of these pages, whose bytes it copies.
+    pub(crate) fn new(alloc: Global, size: u32, pages: &[&[u8]]) -> Result<PagedPool, AllocError>
+        requires fits { list_any (λ page. nat_lt size (length page.now)) pages.now ≡ false }
+        requires narrow { length pages.now * size < 2 ^ 31 }
+        ensures { IfOk result (λ pool. pool ≡ kept_pool size (map (λ page. page.now) pages.now)) }
+    {
+        Ok(PagedPool {
+            size,
+            pages: copied(alloc, pages)?,
+        })
+    }
+
+    /// The bytes from an address to the end of its page. It is empty exactly where no byte stands there.
+    pub(crate) fn run(&self, address: u32) -> &[u8]
+        ensures { Runs self.now address result.now }
+    {
+        run_at(self.size, &self.pages, address)
+    }
+}
+
+fn copied(alloc: Global, pages: &[&[u8]]) -> Result<Vec<Bytes>, AllocError>
+    ensures { IfOk result (λ copies. copies.items ≡ map (λ page. page.now) pages.now) }
+{
+    let mut copies = Vec::with_capacity(alloc, pages.len())?;
+    for page in pages {
+        copies.push(Bytes(Vec::from_slice(alloc, page)?))?;
+    }
+    Ok(copies)
+}
+
+/// The bytes from an address to the end of its page, by one division.
+fn run_at(size: u32, pages: &[Bytes], address: u32) -> &[u8]
+    ensures { result.now ≡ run_in size pages.now address }
+{
+    if size == 0 {
+        return &[];
+    }
+    match pages.get((address / size) as usize) {
+        Some(page) => from_place(&page.0, (address % size) as usize),
+        None => &[],
+    }
+}
+
+fn from_place(page: &[u8], place: usize) -> &[u8]
+    ensures { result.now ≡ drop place page.now }
+{
+    if place < page.len() {
+        &page[place..]
+    } else {
+        &[]
+    }
+}
