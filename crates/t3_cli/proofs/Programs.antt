@@ -24,9 +24,9 @@ use Rattle.t3_cli.specs.Inner.Launching.{IsEntry, IsIoAlone, Loads, refusal_by_p
 one_entry : (blocks : List PlacedBlock) (a b : ℕ) → IsEntry blocks a → IsEntry blocks b → a ≡ b
 one_entry blocks a b is_a is_b =
     let both : ◌≡◌ {A = List EntryValue} (record { code = a; method_size = 10; exception_size = 10 } ∷ [])
-      (record { code = b; method_size = 10; exception_size = 10 } ∷ []) = sym is_a ∙ is_b in
+    (record { code = b; method_size = 10; exception_size = 10 } ∷ []) = sym is_a ∙ is_b in
     let same : ◌≡◌ {A = EntryValue} (record { code = a; method_size = 10; exception_size = 10 })
-      (record { code = b; method_size = 10; exception_size = 10 }) = cc in
+    (record { code = b; method_size = 10; exception_size = 10 }) = cc in
     ap (λ (e : EntryValue). e.code) same
 
 not_both : (blocks : List PlacedBlock) → HasSets true blocks → HasSets false blocks → ⊥
@@ -178,7 +178,7 @@ sizes_fit blocks e address lists is =
 is_entry : (blocks : List PlacedBlock) (e : EntryValue) → entries blocks ≡ e ∷ [] → SizesFit e → IsEntry blocks e.code
 is_entry blocks e lists (method, exception) =
     let same : ◌≡◌ {A = List EntryValue} (e ∷ []) (record { code = e.code; method_size = 10; exception_size = 10 } ∷ []) = λ i. record
-      { code = e.code; method_size = method i; exception_size = exception i } ∷ [] in
+    { code = e.code; method_size = method i; exception_size = exception i } ∷ [] in
     lists ∙ same
 
 entry_or_not : (blocks : List PlacedBlock) → ((address : ℕ) × IsEntry blocks address) ⊎ ((address : ℕ) → ¬ IsEntry blocks address)

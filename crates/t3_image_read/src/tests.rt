@@ -168,7 +168,7 @@ fn counts_the_end_among_the_blocks(rt: HostRuntime) -> Result<(), Fail> {
     Ok(())
 }
 
-/// The text of every error that these crates answer.
+/// This test and the next have the text of every error that these crates answer.
 #[test]
 fn shows_what_is_refused_and_where(rt: HostRuntime) -> Result<(), Fail> {
     let rules = [
@@ -192,9 +192,16 @@ fn shows_what_is_refused_and_where(rt: HostRuntime) -> Result<(), Fail> {
         assert_eq!(rt; text.as_str(), wanted);
         let refusal = ReadRefusal::At { place: 82, why };
         let text = format!(in rt.alloc(); "{refusal}")?;
-        let wanted = format!(in rt.alloc(); "an image is refused at 82: {wanted}")?;
-        assert_eq!(rt; text.as_str(), wanted.as_str());
+        assert_eq!(rt;
+            text.strip_prefix("an image is refused at 82: "),
+            Some(wanted)
+        );
     }
+    Ok(())
+}
+
+#[test]
+fn shows_what_is_refused_of_a_block(rt: HostRuntime) -> Result<(), Fail> {
     let blocks = [
         (
             BlockRefusal::UnknownMandatory,

@@ -38,13 +38,13 @@ find_before : (bytes : List ℕ) (at address : ℕ) → address < at → find na
 find_before [] at address h = refl
 find_before (byte ∷ bytes) at address h =
     ap (λ b. cond b (Some byte) (find nat_cmp address (bytes_from (at + 1) bytes))) (below address at h)
-      ∙ find_before bytes (at + 1) address (omega arith)
+    ∙ find_before bytes (at + 1) address (omega arith)
 
 find_after : (bytes : List ℕ) (at address : ℕ) → at + length bytes ≤ address → find nat_cmp address (bytes_from at bytes) ≡ None
 find_after [] at address h = refl
 find_after (byte ∷ bytes) at address h =
     ap (λ b. cond b (Some byte) (find nat_cmp address (bytes_from (at + 1) bytes))) (above at address (omega arith))
-      ∙ find_after bytes (at + 1) address (omega arith)
+    ∙ find_after bytes (at + 1) address (omega arith)
 
 find-append : (address : ℕ) (xs ys : List (ℕ × ℕ)) → find nat_cmp address (xs ++ ys) ≡ or_else (find nat_cmp address xs)
     (find nat_cmp address ys)
@@ -76,7 +76,7 @@ unfolding first_at or_else
 first_at-append place [] ys = refl
 first_at-append place (x ∷ xs) ys =
     ap (λ o. or_else (slice_get x place) o) (first_at-append place xs ys)
-      ∙ or_else-assoc (slice_get x place) (first_at place xs) (first_at place ys)
+    ∙ or_else-assoc (slice_get x place) (first_at place xs) (first_at place ys)
 
 pub or_parts_left : (x y : Bool) → (x || y) ≡ false → x ≡ false
 or_parts_left true y h = absurd cc
@@ -117,7 +117,7 @@ unfolding first_at
 find_page size index place p inside short (inl same) = find_here size index place p same
 find_page size index place p inside short (inr apart) =
     find_elsewhere size index place p inside short apart (cases_lt p.index index)
-      ∙ ap (λ o. first_at place o) (sym (other_index index p apart))
+    ∙ ap (λ o. first_at place o) (sym (other_index index p apart))
 
 -- no page is longer than the page size
 abbrev pub is_any_long : ℕ → List Paged → Bool
@@ -150,5 +150,5 @@ find_none address (p ∷ all) short =
     let later : is_any_long 0 all ≡ false = or_parts_right (nat_lt 0 (length p.bytes)) (is_any_long 0 all) short in
     find-append address (page_bytes 0 p) (flat_map (page_bytes 0) all)
     ∙ ap (λ o. or_else o (find nat_cmp address (flat_map (page_bytes 0) all)))
-      (no_bytes p.bytes (p.index * 0) address (ltb-false 0 (length p.bytes) here))
+    (no_bytes p.bytes (p.index * 0) address (ltb-false 0 (length p.bytes) here))
     ∙ find_none address all later

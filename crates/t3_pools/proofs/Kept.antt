@@ -61,7 +61,7 @@ same_pool zero all pages short fits same =
     same_map nat_cmp_total nat_cmp-IsAntisymmetric _ _ (λ address.
     get-from_entries nat_cmp_total (flat_map (page_bytes 0) all) address ∙ find_none address all short
     ∙ sym (find_none address (paged_from 0 pages) (long_paged 0 pages 0 ∙ fits))
-      ∙ sym (get-from_entries nat_cmp_total (flat_map (page_bytes 0) (paged_from 0 pages)) address))
+    ∙ sym (get-from_entries nat_cmp_total (flat_map (page_bytes 0) (paged_from 0 pages)) address))
 same_pool (suc n) all pages short fits same =
     same_map nat_cmp_total nat_cmp-IsAntisymmetric _ _ (λ address.
     let size : ℕ = suc n in
@@ -89,7 +89,7 @@ pub kept_none : (pages : List (List ℕ)) (address : ℕ) → is_long_in 0 pages
 unfolding kept_pool
 kept_none pages address fits =
     get-from_entries nat_cmp_total (flat_map (page_bytes 0) (paged_from 0 pages)) address
-      ∙ find_none address (paged_from 0 pages) (long_paged 0 pages 0 ∙ fits)
+    ∙ find_none address (paged_from 0 pages) (long_paged 0 pages 0 ∙ fits)
 
 pub fitting : (size index : ℕ) (pages : List (List ℕ)) → is_long_in size pages ≡ false → length (bytes_of (slice_get pages index)) ≤ size
 fitting size index [] fits = omega arith
@@ -137,7 +137,7 @@ runs_at size index place pages inside kept =
           ap (λ n. get (kept_pool size pages) n) along ∙ kept_byte size index (place + j) pages (omega arith) kept.fits
           ∙ sym (slice_get-drop (bytes_of (slice_get pages index)) place j));
       empty = λ none. kept_byte size index place pages inside kept.fits
-        ∙ slice_get_past (bytes_of (slice_get pages index)) place (drop-empty (bytes_of (slice_get pages index)) place none);
+          ∙ slice_get_past (bytes_of (slice_get pages index)) place (drop-empty (bytes_of (slice_get pages index)) place none);
       narrow = λ some.
           let below = there pages index (omega arith) in
           let most : (index + 1) * size ≤ length pages * size = mul-le-mul_right size (omega arith) in

@@ -51,7 +51,7 @@ two_sheets sheets i d (Some page) inside there all =
     let rest : drop i sheets ≡ get_or sheets i d ∷ drop (suc i) sheets = drop-cons sheets i d inside in
     let left : 1 ≤ length (sheets_at (get_or sheets i d).index (drop i sheets)) =
     subst (λ (s : List Sheet). 1 ≤ length (sheets_at (get_or sheets i d).index s)) (sym rest)
-      (at_least_one (get_or sheets i d) (drop (suc i) sheets)) in
+    (at_least_one (get_or sheets i d) (drop (suc i) sheets)) in
     let counted = ap (λ (pages : List (List ℕ)). length pages) all in
     omega arith
 
@@ -77,7 +77,7 @@ none_far : (count index : ℕ) (all : List Paged) → list_any (λ p. nat_le cou
 none_far count index [] near past = refl
 none_far count index (p ∷ all) near past =
     let here : nat_le count p.index ≡ false = or_parts_left (nat_le count p.index)
-      (list_any (λ (p : Paged). nat_le count p.index) all) near in
+    (list_any (λ (p : Paged). nat_le count p.index) all) near in
     let later = or_parts_right (nat_le count p.index) (list_any (λ (p : Paged). nat_le count p.index) all) near in
     let below : p.index < count = grind (arith, here) in
     let other : nat_eq p.index index ≡ false = grind arith in
@@ -92,7 +92,7 @@ pub placed_pages : (count : ℕ) (all : List Paged) (sorted : ℕ → Option (Bo
     → (index : ℕ) → pages_at index all ≡ one (slice_get (map now ordered) index)
 placed_pages count all sorted ordered near each counted same index = elim (cases_lt index count) [
   | inl below ↦ sym (each index) ∙ ap (λ o. listed now o) (same index below) ∙ listed_map (slice_get ordered index)
-    ∙ ap one (sym (slice_get-map now ordered index))
+      ∙ ap one (sym (slice_get-map now ordered index))
   | inr past ↦ none_far count index all near past ∙ sym (ap one (slice_get_past (map now ordered) index (subst (λ n. n ≤ index) (sym (length-map ordered now ∙ counted)) past)))
 ]
   where
@@ -131,7 +131,7 @@ short_at size index (p ∷ all) page rest short is =
     elim (cases_eq p.index index) [
       | inl same ↦
           let first : pages_at index (p ∷ all) ≡ p.bytes ∷ pages_at index all = ap (λ b. cond b (p.bytes ∷ []) [] ++ pages_at index all)
-            (eq-eqb p.index index same) in
+          (eq-eqb p.index index same) in
           let both : p.bytes ∷ pages_at index all ≡ page ∷ rest = sym first ∙ is in
           let bytes : p.bytes ≡ page = cc in
           subst (λ (b : List ℕ). nat_lt size (length b) ≡ false) bytes here

@@ -115,7 +115,7 @@ lacks number said layout sheets sorted g sorts gap = (
 pub placed : (number : ℕ) (said : Said) (layout : Layout) (sheets : List Sheet) (sorted : BTreeMap ℕ (Bor (List ℕ)))
     (ordered : List (Bor (List ℕ)))
     → Gathered number said layout sheets → is_far_sheet layout.count sheets ≡ false → Sorts sheets (Some sorted)
-      → Orders layout.count sorted (Some ordered)
+    → Orders layout.count sorted (Some ordered)
     → (index : ℕ) → pages_at index said.pages ≡ one (slice_get (map now ordered) index)
 placed number said layout sheets sorted ordered g near sorts orders =
     placed_pages layout.count said.pages (λ index. get_key nat_cmp sorted index) ordered
@@ -126,7 +126,7 @@ placed number said layout sheets sorted ordered g near sorts orders =
 pub not_lacking : (number : ℕ) (said : Said) (layout : Layout) (sheets : List Sheet) (sorted : BTreeMap ℕ (Bor (List ℕ)))
     (ordered : List (Bor (List ℕ)))
     → Gathered number said layout sheets → is_far_sheet layout.count sheets ≡ false → Sorts sheets (Some sorted)
-      → Orders layout.count sorted (Some ordered)
+    → Orders layout.count sorted (Some ordered)
     → ¬ LacksPage said
 not_lacking number said layout sheets sorted ordered g near sorts orders gap =
     let count : length (map now ordered) ≡ count_by said.definitions = length-map ordered now ∙ orders.0 ∙ sym g.lays_out.count in
@@ -136,7 +136,7 @@ not_lacking number said layout sheets sorted ordered g near sorts orders gap =
 pub fits : (number : ℕ) (said : Said) (layout : Layout) (sheets : List Sheet) (sorted : BTreeMap ℕ (Bor (List ℕ)))
     (ordered : List (Bor (List ℕ)))
     → Gathered number said layout sheets → is_far_sheet layout.count sheets ≡ false → Sorts sheets (Some sorted)
-      → Orders layout.count sorted (Some ordered)
+    → Orders layout.count sorted (Some ordered)
     → is_long_sheet layout.size sheets ≡ false
     → list_any (λ page. nat_lt layout.size (length page.now)) ordered ≡ false
 fits number said layout sheets sorted ordered g near sorts orders short =
@@ -166,7 +166,7 @@ defined_pool (d ∷ ds) all count size ordered c s counted short fit same =
 pub gathered_pool : (number : ℕ) (said : Said) (layout : Layout) (sheets : List Sheet) (sorted : BTreeMap ℕ (Bor (List ℕ)))
     (ordered : List (Bor (List ℕ)))
     → Gathered number said layout sheets → is_far_sheet layout.count sheets ≡ false → Sorts sheets (Some sorted)
-      → Orders layout.count sorted (Some ordered)
+    → Orders layout.count sorted (Some ordered)
     → is_long_sheet layout.size sheets ≡ false
     → pool_of said.definitions said.pages ≡ kept_pool layout.size (map now ordered)
 gathered_pool number said layout sheets sorted ordered g near sorts orders short =

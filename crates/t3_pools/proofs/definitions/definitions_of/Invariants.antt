@@ -8,4 +8,4 @@ use Rattle.t3_pools.proofs.definitions.definitions_of.Given as goal
 abbrev pub invariant-loop-placed : goal.invariant-loop-placed
 invariant-loop-placed l =
     listed (defined l.number) l.found ++ (said_of l.number (drop l.placed-index l.blocks)).definitions ≡
-      (said_of l.number l.blocks).definitions
+    (said_of l.number l.blocks).definitions

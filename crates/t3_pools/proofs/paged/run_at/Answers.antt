@@ -22,4 +22,4 @@ returns-in-None c =
     let past = ltb-false (c.args.address / c.args.size) (length c.args.pages.now) (sym c.in-None.ensures.lookup.0) in
     sym (drop-nil (c.args.address % c.args.size))
     ∙ run_in-page c.args.size c.args.pages.now c.args.address [] c.if-size-eq0.false
-      (ap bytes_of (slice_get_past c.args.pages.now (c.args.address / c.args.size) past))
+    (ap bytes_of (slice_get_past c.args.pages.now (c.args.address / c.args.size) past))

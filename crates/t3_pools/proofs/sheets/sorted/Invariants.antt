@@ -9,4 +9,4 @@ use Rattle.t3_pools.proofs.sheets.sorted.Given as goal
 abbrev pub invariant-loop-sheet : goal.invariant-loop-sheet
 invariant-loop-sheet l =
     (index : ℕ) → listed (λ page. page.now) (get_key nat_cmp l.pages index) ++ sheets_at index
-      (drop l.sheet-index l.sheets) ≡ sheets_at index l.sheets
+    (drop l.sheet-index l.sheets) ≡ sheets_at index l.sheets

@@ -8,7 +8,7 @@ pub returns-in-Ok : goal.returns-in-Ok
 returns-in-Ok c =
     let image = same_blocks _ _ c.image.view_is in
     loads_as c.args.image.now c.deref.result.now c.deref-2.result.now c.deref-3.result.now c.in-Ok.pools c.in-Some.entry
-      c.in-Some-has_io_set.has_io
+    c.in-Some-has_io_set.has_io
     (cc (c.deref.ensures.value, c.image-inside.view_is))
     (cc (c.deref-2.ensures.value, c.image-inside.view_is))
     (cc (c.deref-3.ensures.value, c.image-inside.view_is))
@@ -22,4 +22,4 @@ returns-in-Ok c =
 pub returns-in-Err : goal.returns-in-Err
 returns-in-Err c =
     subst (λ (refusal : LoadRefusal). Loads c.args.image.now.blocks (Err refusal)) (sym c.refusal_by.ensures)
-      (unloads c.args.image.now.blocks c.in-Err.why c.in-Err.ensures.decides)
+    (unloads c.args.image.now.blocks c.in-Err.why c.in-Err.ensures.decides)
