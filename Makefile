@@ -27,6 +27,7 @@ test:
 
 bench: build/t3
 	bench/check
+	bench/pools
 	bench/rewrite
 	bench/run
 
