@@ -3,7 +3,7 @@ use Rattle.std.proofs.Common.{◌≡◌, ℕ, suc, ◌+◌, ◌-◌, length, Som
 use Rattle.std.specs.List.{flat_map}
 use Rattle.std.specs.Result.{IsErr, IsErrAnd}
 use Rattle.std.specs.FinMap.{get}
-use Rattle.t3_pools.specs.Pool.{Pool, HasBytes}
+use Rattle.t3_pools.specs.Pool.{Pool, PoolsValue, HasBytes}
 use Rattle.t3_methods.specs.declared.cursor.Cursor.{Cursor}
 use Rattle.t3_methods.specs.declared.instr.Instr.{Instr}
 use Rattle.t3_methods.specs.declared.refusal.CodeRefusal.{CodeRefusal}
@@ -53,3 +53,11 @@ refused_at old mid new opcode e (Ok x) same is goes decodes = absurd same.1
 refused_at old mid new opcode e (Err x) same is goes decodes =
     let P : CodeRefusal → Type 0 = λ r. FindsInstr (code_of old) old.at (Err r) in
     subst P (sym same.1) (found old mid new opcode e is goes decodes)
+
+-- what holds of a cursor's code and address holds of those that it was made of
+pub made_of : (P : Pool → ℕ → Type 0) (cursor : Cursor) (pools : PoolsValue) (address : ℕ) → cursor.pools.now ≡ pools → cursor.at ≡ address
+    → P (code_of cursor) cursor.at → P pools.code address
+made_of P cursor pools address code_is at_is has =
+    let Q : PoolsValue → Type 0 = λ p. P p.code cursor.at in
+    let R : ℕ → Type 0 = λ n. P pools.code n in
+    subst R at_is (subst Q code_is has)

@@ -1,7 +1,7 @@
 //! Readers of code, one for each kind of operand.
-ghost use Rattle.std.specs.Prelude.{◌≡◌};
-ghost use Rattle.t3_methods.specs.Operands.{Ubyte, Sbyte, Jump, Int4};
-ghost use Rattle.t3_methods.specs.Inner.Cursor.{TakesByte, TakesNumber, ReadsOperand, OfUbyte, OfSbyte, OfJump, OfInt4};
+ghost use Rattle.std.specs.Prelude.{◌+◌, ◌^◌, ◌<◌, length};
+ghost use Rattle.t3_pools.specs.Pool.{HasBytes};
+ghost use Rattle.t3_methods.specs.Inner.Code.{HasBytes-prop};
 
 use crate::refusal::CodeRefusal;
 use t3_holder::{u16_at, u32_at};
@@ -10,14 +10,35 @@ use t3_pools::Pools;
 /// The number of the pool of code.
 const CODE: u8 = 1;
 
-/// A place in code, which goes behind what is read.
+/// A place in code, which goes past what is read.
 #[derive(Debug, Drop)]
 pub(crate) struct Cursor<'p> {
-    pub(crate) pools: &'p Pools,
-    pub(crate) at: u32,
+    pools: &'p Pools,
+    at: u32,
+    /// Bytes that stand at the place, up to the end of its page: the pool is asked again only where
+    /// there are none left.
+    rest: &'p [u8],
+    ghost stand: { HasBytes pools.now.code at rest.now } by { HasBytes-prop pools.now.code at rest.now },
+    ghost bounded: { at + length rest.now < 2 ^ 32 },
 }
 
 impl Cursor<'_> {
+    ghost use Rattle.std.specs.Prelude.{◌≡◌};
+    ghost use Rattle.t3_methods.specs.Operands.{Ubyte, Sbyte, Jump, Int4};
+    ghost use Rattle.t3_methods.specs.Inner.Cursor.{TakesByte, TakesNumber, ReadsOperand, OfUbyte, OfSbyte, OfJump, OfInt4};
+
+    /// A cursor at an address.
+    pub(crate) fn new(pools: &Pools, address: u32) -> Cursor
+        ensures pools { result.pools.now ≡ pools.now }
+        ensures at { result.at ≡ address }
+    {
+        Cursor {
+            pools,
+            at: address,
+            rest: &[],
+        }
+    }
+
     /// The address that it has come to.
     pub(crate) fn place(&self) -> u32
         ensures { result ≡ self.now.at }
@@ -29,9 +50,13 @@ impl Cursor<'_> {
     pub(crate) fn byte(&mut self) -> Option<u8>
         ensures { TakesByte self.old self.new result }
     {
-        let byte = self.pools.byte(CODE, self.at)?;
+        if self.rest.is_empty() {
+            self.rest = self.pools.run(CODE, self.at);
+        }
+        let (byte, rest) = self.rest.split_first()?;
         self.at += 1;
-        Some(byte)
+        self.rest = rest;
+        Some(*byte)
     }
 
     /// The next two bytes as a number, lowest first.

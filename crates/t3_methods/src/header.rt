@@ -33,7 +33,7 @@ pub fn header_at(pools: &Pools, method: u32) -> Result<Header, CodeRefusal>
     ensures finds { FindsHeader pools.now.code method result }
     ensures within { IfOk result (λ _. method + 10 < 2 ^ 32) }
 {
-    let mut cursor = Cursor { pools, at: method };
+    let mut cursor = Cursor::new(pools, method);
     read_header(&mut cursor).ok_or(CodeRefusal::Header)
 }
 
@@ -48,8 +48,8 @@ fn read_header(cursor: &mut Cursor) -> Option<Header>
     let depth = cursor.two_bytes()?;
     let exceptions = cursor.two_bytes()?;
     let debug = cursor.two_bytes()?;
-    // The place behind the header is an address too.
-    let _behind = cursor.at;
+    // The place after the header is an address too.
+    let _after = cursor.place();
     if zero != 0 {
         return None;
     }

@@ -18,7 +18,7 @@ pub fn instr_at(pools: &Pools, address: u32) -> Result<(Instr, u32), CodeRefusal
     ensures finds { FindsInstr pools.now.code address result }
     ensures within { IfOk result (λ found. address + found.1 < 2 ^ 32) }
 {
-    let mut cursor = Cursor { pools, at: address };
+    let mut cursor = Cursor::new(pools, address);
     let Some(opcode) = cursor.byte() else {
         return Err(CodeRefusal::NoByte);
     };

@@ -1,4 +1,4 @@
-use Rattle.std.proofs.Common.{◌≡◌, ◌+◌, Some, ap, ◌∙◌, arith}
+use Rattle.std.proofs.Common.{Some, ap, ◌∙◌, arith}
 use Rattle.t3_methods.specs.Inner.Cursor.{code_of}
 use Rattle.t3_methods.proofs.Cursors.{goes_nowhere, goes_further, no_byte}
 use Rattle.t3_methods.proofs.MethodHeaders.{header_short, second_byte, has_header, number_behind, byte_behind}
