@@ -11,6 +11,7 @@
 #![tactic(auto)]
 
 mod definitions;
+mod page_size;
 mod paged;
 mod pools;
 mod refusal;

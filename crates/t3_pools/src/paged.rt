@@ -3,6 +3,7 @@ ghost use Rattle.std.specs.Prelude.{◌≡◌, ◌<◌, ◌*◌, ◌^◌, nat_lt
 ghost use Rattle.std.specs.List.{list_any};
 ghost use Rattle.t3_pools.specs.Inner.Keeping.{run_in, kept_pool, Runs};
 
+use crate::page_size::PageSize;
 use std::alloc::{AllocError, Global};
 use std::marker::Model;
 use t3_holder::Bytes;
@@ -10,7 +11,7 @@ use t3_holder::Bytes;
 /// A pool. Contracts see the map from addresses to bytes.
 #[derive(Debug, Drop)]
 pub(crate) struct PagedPool {
-    size: u32,
+    size: PageSize,
     pages: Vec<Bytes>,
 }
 
@@ -24,9 +25,9 @@ impl Model for PagedPool {
 
     ghost coded = { coded_map coded_ℕ coded_ℕ };
 
-    ghost view = { λ p. kept_pool p.size p.pages.items };
+    ghost view = { λ p. kept_pool p.size.size p.pages.items };
 
-    ghost invariant = { λ p. IsKept p.size p.pages.items };
+    ghost invariant = { λ p. IsKept p.size.size p.pages.items };
 }
 
 impl PagedPool {
@@ -37,7 +38,7 @@ impl PagedPool {
         ensures { IfOk result (λ pool. pool ≡ kept_pool size (map (λ page. page.now) pages.now)) }
     {
         Ok(PagedPool {
-            size,
+            size: PageSize::new(size),
             pages: copied(alloc, pages)?,
         })
     }
@@ -60,15 +61,15 @@ fn copied(alloc: Global, pages: &[&[u8]]) -> Result<Vec<Bytes>, AllocError>
     Ok(copies)
 }
 
-/// The bytes from an address to the end of its page, by one division.
-fn run_at(size: u32, pages: &[Bytes], address: u32) -> &[u8]
-    ensures { result.now ≡ run_in size pages.now address }
+/// The bytes from an address to the end of its page.
+fn run_at(size: PageSize, pages: &[Bytes], address: u32) -> &[u8]
+    ensures { result.now ≡ run_in size.size pages.now address }
 {
-    if size == 0 {
+    let Some((index, place)) = size.index_and_place(address) else {
         return &[];
-    }
-    match pages.get((address / size) as usize) {
-        Some(page) => from_place(&page.0, (address % size) as usize),
+    };
+    match pages.get(index as usize) {
+        Some(page) => from_place(&page.0, place as usize),
         None => &[],
     }
 }

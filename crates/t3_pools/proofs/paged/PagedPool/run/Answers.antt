@@ -6,7 +6,7 @@ use Rattle.t3_pools.proofs.paged.PagedPool.run.Goals as goal
 
 pub returns : goal.returns
 returns c =
-    let run = c.run_at.ensures ∙ ap (λ pages. run_in c.self.inside.size pages c.args.address) c.deref.ensures.value in
+    let run = c.run_at.ensures ∙ ap (λ pages. run_in c.self.inside.size.size pages c.args.address) c.deref.ensures.value in
     subst (λ (pool : Pool). Runs pool c.args.address c.run_at.result.now) c.self.view_is
-    (subst (λ (bytes : List ℕ). Runs (kept_pool c.self.inside.size c.self.inside.pages.items) c.args.address bytes) (sym run)
-    (runs_in c.self.inside.size c.self.inside.pages.items c.args.address c.self.invariant))
+    (subst (λ (bytes : List ℕ). Runs (kept_pool c.self.inside.size.size c.self.inside.pages.items) c.args.address bytes) (sym run)
+    (runs_in c.self.inside.size.size c.self.inside.pages.items c.args.address c.self.invariant))
