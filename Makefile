@@ -11,13 +11,13 @@ all: build/t3
 # the run itself, with no words, ends in the usage line and its status.
 build/t3: $(SOURCES)
 	mkdir -p build
-	cd crates/t3_cli && rm -f out/t3_cli && { rt run || true; } && test -x out/t3_cli
-	cp crates/t3_cli/out/t3_cli $@
+	cd crates/t3 && rm -f out/t3 && { rt run || true; } && test -x out/t3
+	cp crates/t3/out/t3 $@
 
 # A first look, within a minute: built without its proofs, and run once.
 demo: examples/answer.t3
 	@echo 'This build is not proved: make proves the program and builds it.'
-	@cd crates/t3_cli && rt try --data answer.t3=../../examples/answer.t3 -- run answer.t3 2>/dev/null
+	@cd crates/t3 && rt try --data answer.t3=../../examples/answer.t3 -- run answer.t3 2>/dev/null
 
 examples/answer.t3: examples/make.sh
 	sh examples/make.sh

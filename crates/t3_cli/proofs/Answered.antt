@@ -6,8 +6,8 @@ use Rattle.t3_cli.specs.declared.images.read.ReadImage.{ReadImage}
 use Rattle.t3_cli.specs.declared.images.read.ReadImage.TheVariants as read
 use Rattle.t3_cli.specs.declared.status.Status.{Status}
 use Rattle.t3_cli.specs.declared.status.Status.TheVariants.{Done, Usage, Absent, ImageRefused, LoadRefused, DepotFault, ConsoleFault, NoMemory}
-use Rattle.t3_cli.specs.declared.run.turn.End.{End}
-use Rattle.t3_cli.specs.declared.run.turn.End.TheVariants as ends
+use Rattle.t3_interp.specs.declared.turn.End.{End}
+use Rattle.t3_interp.specs.declared.turn.End.TheVariants as ends
 use Rattle.t3_cli.specs.Cause.{Cause}
 use Rattle.t3_cli.specs.Command.{CommandValue, Check, Show, Run, Rewrite}
 use Rattle.t3_cli.specs.Lines.{usage_line}

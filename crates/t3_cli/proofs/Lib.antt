@@ -5,12 +5,7 @@ pub mod Results
 pub mod Followed
 pub mod Answered
 pub mod CommandNames
-pub mod Runs
 pub mod Spelled
-pub mod Stacks
-pub mod Saying
-pub mod Taking
-pub mod Programs
 pub mod Stories
 pub mod Causes
 pub mod OptionValues

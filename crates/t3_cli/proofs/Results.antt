@@ -17,14 +17,14 @@ use Rattle.t3_cli.specs.declared.status.Status.TheVariants.{Done, Usage, Absent,
 use Rattle.t3_cli.specs.Command.{CommandValue, Check, Show, Run, Rewrite, RunOptions}
 use Rattle.t3_cli.specs.Lines.{usage_line, absent_line, refused_line, unloaded_line}
 use Rattle.t3_cli.specs.BlockLines.{check_text, show_text}
-use Rattle.t3_cli.specs.Machine.{ProgramValue, initial}
-use Rattle.t3_cli.specs.Run.{Ran, Runs}
+use Rattle.t3_interp.specs.Machine.{ProgramValue, initial}
+use Rattle.t3_interp.specs.Run.{Ran, Runs}
 use Rattle.t3_cli.specs.Outcome.{Outcome, showing, putting, IsResult, IsInputOutcome, IsFileOutcome, IsImageOutcome, IsRunOutcome, IsRefusalOutcome, BeginsWith, InputFile, ImageFile, input_of, written_text, HoldBytes, read_bytes, read_limit, shown_of, status_of}
 use Rattle.t3_cli.specs.Inner.Parsing.{file_of}
 use Rattle.t3_cli.specs.Inner.Reading.{ReadsBytes, ReadsImage}
 use Rattle.t3_cli.specs.Inner.Following.{IsReadOutcome}
-use Rattle.t3_cli.proofs.Runs.{one_run, some_run}
-use Rattle.t3_cli.proofs.Programs.{one_program, some_program}
+use Rattle.t3_interp.proofs.Runs.{one_run, some_run}
+use Rattle.t3_interp.proofs.Programs.{one_program, some_program}
 
 -- ---- one outcome
 

@@ -3,17 +3,17 @@ use Rattle.std.proofs.Common.{◌≡◌, ℕ, suc, Bool, true, false, not, ◌||
 use Rattle.std.proofs.lemmas.List.{append-nil}
 use Rattle.t3_io.specs.Session.{Session}
 use Rattle.t3_io.specs.declared.refusal.DeviceRefusal.{DeviceRefusal}
-use Rattle.t3_cli.specs.declared.run.turn.Event.{Event}
-use Rattle.t3_cli.specs.declared.run.turn.Event.TheVariants.{Went, Said, Ended}
-use Rattle.t3_cli.specs.declared.run.turn.End.{End}
+use Rattle.t3_interp.specs.declared.turn.Event.{Event}
+use Rattle.t3_interp.specs.declared.turn.Event.TheVariants.{Went, Said, Ended}
+use Rattle.t3_interp.specs.declared.turn.End.{End}
 use Rattle.t3_cli.specs.Lines.{is_nonempty}
-use Rattle.t3_cli.specs.Machine.{ProgramValue, State, initial}
-use Rattle.t3_cli.specs.Step.{After, GoesOn, Ends, Steps, Moves, TakesStep}
-use Rattle.t3_cli.specs.Run.{Ran, Runs, preceded_by}
+use Rattle.t3_interp.specs.Machine.{ProgramValue, State, initial}
+use Rattle.t3_interp.specs.Step.{After, GoesOn, Ends, Steps, Moves, TakesStep}
+use Rattle.t3_interp.specs.Run.{Ran, Runs, preceded_by}
 use Rattle.t3_cli.specs.Top.{ShowsMore}
 use Rattle.t3_cli.specs.Inner.Showing.{ShowsPrefixOf}
 use Rattle.t3_cli.specs.Inner.Playing.{HasCome, HasPlayed, HasBegun, PlaysOn}
-use Rattle.t3_cli.proofs.Runs.{no_step_left, step_goes, step_ends, some_run, preceded_by-preceded_by}
+use Rattle.t3_interp.proofs.Runs.{no_step_left, step_goes, step_ends, some_run, preceded_by-preceded_by}
 use Rattle.t3_cli.proofs.Shown.{shows_after}
 
 -- ---- what a step was

@@ -7,8 +7,8 @@ use Rattle.t3_image_read.specs.Refusal.{IsRefused}
 use Rattle.t3_cli.specs.declared.status.Status.{Status}
 use Rattle.t3_cli.specs.declared.status.Status.TheVariants.{Done, Usage, Absent, ImageRefused, LoadRefused, Unhandled, BadCode, StepLimit, DepotFault, ConsoleFault, NoMemory}
 use Rattle.t3_cli.specs.Command.{CommandValue, Run, RunOptions}
-use Rattle.t3_cli.specs.Loading.{IsUnloaded}
-use Rattle.t3_cli.specs.Run.{Ran}
+use Rattle.t3_interp.specs.Loading.{IsUnloaded}
+use Rattle.t3_interp.specs.Run.{Ran}
 use Rattle.t3_cli.specs.Outcome.{InputFile, ImageFile, input_of, BeginsWith, RunsImage, read_bytes, status_of}
 
 -- the file isn't there

@@ -3,6 +3,4 @@ pub mod Parsing
 pub mod Reading
 pub mod Showing
 pub mod Following
-pub mod Acting
-pub mod Launching
 pub mod Playing

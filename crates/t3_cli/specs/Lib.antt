@@ -4,11 +4,6 @@ pub mod Options
 pub mod Command
 pub mod Lines
 pub mod BlockLines
-pub mod Machine
-pub mod Instructions
-pub mod Step
-pub mod Run
-pub mod Loading
 pub mod Act
 pub mod Outcome
 pub mod Cause

@@ -2,12 +2,11 @@
 use Rattle.std.specs.Prelude.{ℕ, Bool, true, false, List, [], ◌∷◌, ◌++◌, codes, Option, Some, None}
 use Rattle.std.specs.Fmt.{decimal}
 use Rattle.t3_image_read.specs.declared.refusal.ReadWhy.{ReadWhy}
-use Rattle.t3_cli.specs.declared.run.turn.End.{End}
-use Rattle.t3_cli.specs.declared.run.turn.End.TheVariants.{Returned, Unhandled, BadCode}
-use Rattle.t3_cli.specs.declared.run.turn.Fault.{Fault}
-use Rattle.t3_cli.specs.declared.run.turn.Fault.TheVariants.{ArgCount, Kind, Overflow, NoBuiltin, StackFull}
-use Rattle.t3_cli.specs.declared.run.turn.CodeWhy.{CodeWhy}
-use Rattle.t3_cli.specs.declared.run.turn.CodeWhy.TheVariants as why
+use Rattle.t3_interp.specs.declared.turn.End.{End}
+use Rattle.t3_interp.specs.declared.turn.End.TheVariants.{Returned, Unhandled, BadCode}
+use Rattle.t3_interp.specs.Faults.{fault_number}
+use Rattle.t3_interp.specs.declared.turn.CodeWhy.{CodeWhy}
+use Rattle.t3_interp.specs.declared.turn.CodeWhy.TheVariants as why
 use Rattle.t3_image_read.specs.declared.refusal.ReadWhy.TheVariants.{Signature, Version, TooLong, TooMany, UnknownMandatory, Malformed, EofSize, Truncated}
 
 -- a line ends in a newline
@@ -56,14 +55,6 @@ put_line bytes = codes "ok bytes=" ++ (decimal bytes ++ newline)
 -- an image that can't be run yet
 abbrev pub unloaded_line : List ℕ
 unloaded_line = codes "load refused Unbuilt" ++ newline
-
--- the number of a fault
-abbrev pub fault_number : Fault → ℕ
-fault_number ArgCount = 2
-fault_number Kind = 3
-fault_number Overflow = 5
-fault_number NoBuiltin = 8
-fault_number StackFull = 9
 
 -- the name of a cause
 abbrev pub cause_name : CodeWhy → List ℕ

@@ -11,15 +11,15 @@ use Rattle.t3_image_read.specs.Refusal.{Refused}
 use Rattle.t3_image_write.specs.Masks.{remask_of}
 use Rattle.t3_cli.specs.declared.status.Status.{Status}
 use Rattle.t3_cli.specs.declared.status.Status.TheVariants.{Done, Usage, Absent, ImageRefused, LoadRefused, Unhandled, BadCode, StepLimit}
-use Rattle.t3_cli.specs.declared.run.turn.End.{End}
-use Rattle.t3_cli.specs.declared.run.turn.End.TheVariants as ends
+use Rattle.t3_interp.specs.declared.turn.End.{End}
+use Rattle.t3_interp.specs.declared.turn.End.TheVariants as ends
 use Rattle.t3_cli.specs.Act.{Act, Shows, Puts}
 use Rattle.t3_cli.specs.Command.{CommandValue, Check, Show, Run, Rewrite, RunOptions}
 use Rattle.t3_cli.specs.Lines.{usage_line, absent_line, refused_line, put_line, unloaded_line, closing_text, is_nonempty}
 use Rattle.t3_cli.specs.BlockLines.{check_text, show_text}
-use Rattle.t3_cli.specs.Machine.{ProgramValue, initial}
-use Rattle.t3_cli.specs.Loading.{LoadsAs, IsUnloaded}
-use Rattle.t3_cli.specs.Run.{Ran, Runs}
+use Rattle.t3_interp.specs.Machine.{ProgramValue, initial}
+use Rattle.t3_interp.specs.Loading.{LoadsAs, IsUnloaded}
+use Rattle.t3_interp.specs.Run.{Ran, Runs}
 
 pub record Outcome : Type 0 where
   pub status : Status

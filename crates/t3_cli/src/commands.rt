@@ -3,7 +3,5 @@
 pub(crate) mod carry;
 pub(crate) mod command;
 mod file_name;
-mod number;
-#[cfg(test)]
-mod number_tests;
+pub(crate) mod number;
 mod options;

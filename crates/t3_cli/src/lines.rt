@@ -2,9 +2,9 @@
 ghost use Rattle.std.specs.Prelude.{◌≡◌, ◌++◌, Some, IfOk, string_bytes};
 ghost use Rattle.t3_cli.specs.Lines.{absent_line, refused_line, ok_line, put_line, why_name as name_of, items_of, closing_text, end_line, unhandled_line, bad_code_line, newline_if as newline_by, cause_name as name_of_cause};
 
-use crate::run::turn::{CodeWhy, End};
 use std::alloc::{AllocError, Global};
 use t3_image_read::ReadWhy;
+use t3_interp::{CodeWhy, End};
 
 /// Shown where the words are no command.
 pub(crate) const USAGE: &str =

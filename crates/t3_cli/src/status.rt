@@ -34,7 +34,7 @@ impl Status {
     /// The status of words that the system couldn't hand over, where memory was wanting for them. Any
     /// other error means a word that isn't text. That is no word of any command, so the words are then
     /// carried out as none.
-    pub(crate) fn of_words_error(kind: ErrorKind) -> Option<Status>
+    pub fn of_words_error(kind: ErrorKind) -> Option<Status>
         ensures { result ≡ words_status kind }
     {
         match kind {

@@ -2,11 +2,11 @@
 use Rattle.std.specs.Prelude.{◌≡◌, ℕ, Bool, List, ◌++◌, Option, Result, Ok, Err}
 use Rattle.t3_io.specs.Session.{Session}
 use Rattle.t3_io.specs.declared.refusal.DeviceRefusal.{DeviceRefusal}
-use Rattle.t3_cli.specs.declared.run.turn.End.{End}
+use Rattle.t3_interp.specs.declared.turn.End.{End}
 use Rattle.t3_cli.specs.Lines.{is_nonempty}
-use Rattle.t3_cli.specs.Machine.{ProgramValue, State, initial}
+use Rattle.t3_interp.specs.Machine.{ProgramValue, State, initial}
 use Rattle.t3_cli.specs.Outcome.{Outcome, showing, shown_of, status_of}
-use Rattle.t3_cli.specs.Run.{Ran, Runs, preceded_by}
+use Rattle.t3_interp.specs.Run.{Ran, Runs, preceded_by}
 use Rattle.t3_cli.specs.Top.{ShowsMore}
 
 -- the outcome of a program's run

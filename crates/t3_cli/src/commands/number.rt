@@ -4,7 +4,7 @@ ghost use Rattle.t3_cli.specs.Number.{positive_of, byte_of};
 
 /// The number that a text spells in decimal, without a sign or a leading zero, from 1 to 4294967295.
 #[tactic(auto, using(crate::proofs::Spelled::none_below, crate::proofs::Spelled::none_above, crate::proofs::Spelled::parsed))]
-pub(crate) fn positive_number(text: &str) -> Option<u32>
+pub fn positive_number(text: &str) -> Option<u32>
     ensures { result ≡ positive_of text.now }
 {
     match text.as_bytes() {
@@ -15,7 +15,7 @@ pub(crate) fn positive_number(text: &str) -> Option<u32>
 
 /// The number that a text spells in decimal, without a sign or a leading zero, from 0 to 255.
 #[tactic(auto, using(crate::proofs::Spelled::zero_byte, crate::proofs::Spelled::none_byte, crate::proofs::Spelled::small_byte, crate::proofs::Spelled::large_byte))]
-pub(crate) fn byte_number(text: &str) -> Option<u8>
+pub fn byte_number(text: &str) -> Option<u8>
     ensures { result ≡ byte_of text.now }
 {
     if text == "0" {

@@ -1,0 +1,9 @@
+//! The program over the devices in memory.
+mod builder;
+mod check;
+mod devices;
+mod numbers;
+mod rewrite;
+mod run;
+mod show;
+mod words;

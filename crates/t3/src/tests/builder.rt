@@ -1,0 +1,90 @@
+//! Images as bytes, and a call of the program with one.
+use std::alloc::{AllocError, Global};
+use std::test::Fail;
+use t3_cli::{Status, t3_main};
+use t3_io::{SureConsole, SureDepot};
+
+/// The block that ends an image.
+pub(crate) const END: &[u8] = b"EOF \x00\x00\x00\x00\x00\x00";
+
+/// The entry at address 0, with headers and exception entries of ten bytes.
+pub(crate) const ENTRY: &[u8] =
+    b"ENTP\x10\x00\x00\x00\x01\x00\x00\x00\x00\x00\x0A\x00\x0A\x00\x00\x00\x00\x00\x00\x00\x00\x00";
+
+/// One page of code, of at most 64 bytes.
+pub(crate) const POOL: &[u8] =
+    b"CPDF\x0A\x00\x00\x00\x01\x00\x01\x00\x01\x00\x00\x00\x40\x00\x00\x00";
+
+/// The function set for input and output.
+pub(crate) const FUNCTIONS: &[u8] = b"FNSD\x11\x00\x00\x00\x01\x00\x01\x00\x0Etads-io/030007";
+
+/// A method header without arguments, locals and exceptions.
+pub(crate) const METHOD: &[u8] = b"\x00\x00\x00\x00\x02\x00\x00\x00\x00\x00";
+
+/// A method's body that says 42 and returns.
+pub(crate) const SAYS_42: &[u8] = b"\x03\x2A\xB1\x01\x00\x51";
+
+/// The header of an image, with 32 reserved bytes 0 and a time of 24 spaces, and these parts after it.
+pub(crate) fn image(alloc: Global, parts: &[&[u8]]) -> Result<Vec<u8>, AllocError> {
+    let mut bytes = Vec::new(alloc);
+    bytes.extend_from_slice(b"T3-image\r\n\x1a\x01\x00")?;
+    bytes.extend_from_slice(&[0; 32])?;
+    bytes.extend_from_slice(&[32; 24])?;
+    for part in parts {
+        bytes.extend_from_slice(part)?;
+    }
+    Ok(bytes)
+}
+
+/// The first page of code, which has a method of this header and body.
+pub(crate) fn code_page(
+    alloc: Global,
+    method_header: &[u8],
+    body: &[u8],
+) -> Result<Vec<u8>, AllocError> {
+    let mut bytes = Vec::new(alloc);
+    bytes.extend_from_slice(b"CPPG")?;
+    let size = u32::try_from(body.len()).unwrap_or(0).wrapping_add(17);
+    bytes.extend_from_slice(&size.to_le_bytes())?;
+    bytes.extend_from_slice(b"\x01\x00\x01\x00\x00\x00\x00\x00\x00")?;
+    bytes.extend_from_slice(method_header)?;
+    bytes.extend_from_slice(body)?;
+    Ok(bytes)
+}
+
+/// An image of these blocks, and of a page with a method of this body.
+pub(crate) fn code_image(
+    alloc: Global,
+    blocks: &[&[u8]],
+    method_header: &[u8],
+    body: &[u8],
+) -> Result<Vec<u8>, AllocError> {
+    let mut bytes = image(alloc, blocks)?;
+    bytes.extend_from_slice(&code_page(alloc, method_header, body)?)?;
+    bytes.extend_from_slice(END)?;
+    Ok(bytes)
+}
+
+/// The words as the program gets them.
+pub(crate) fn owned(alloc: Global, words: &[&str]) -> Result<Vec<String>, AllocError> {
+    let mut all = Vec::new(alloc);
+    for word in words {
+        all.push(String::from_str(alloc, word)?)?;
+    }
+    Ok(all)
+}
+
+/// The status and what is shown with the file `a.t3`, if there is one.
+pub(crate) fn outcome(
+    alloc: Global,
+    words: &[&str],
+    file: Option<&[u8]>,
+) -> Result<(Status, Vec<u8>), Fail> {
+    let mut depot = SureDepot::new(alloc);
+    if let Some(bytes) = file {
+        depot.keep(b"a.t3", bytes)?;
+    }
+    let mut console = SureConsole::new(alloc, b"")?;
+    let status = t3_main(alloc, &owned(alloc, words)?, &mut depot, &mut console);
+    Ok((status, Vec::from_slice(alloc, console.shown())?))
+}

@@ -1,0 +1,81 @@
+use Rattle.std.proofs.Common.{◌≡◌, ◌-◌, ◌∙◌, List, ℕ, not, length, Err, Ok, ap, arith, subst}
+use Rattle.std.proofs.lemmas.Result.{err_from_is_err_and}
+use Rattle.t3_interp.specs.declared.turn.Event.TheVariants.{Went, Said, Ended}
+use Rattle.t3_cli.specs.Lines.{is_nonempty}
+use Rattle.t3_cli.specs.Inner.Showing.{ShowsAll}
+use Rattle.t3_interp.specs.Step.{program_of, state_of}
+use Rattle.t3_cli.proofs.Stories.{come_went, come_said, come_cut, come_wanting, come_ended, come_last, takes_event, nonempty_by_length, or_said, plays_cut}
+use Rattle.t3_cli.proofs.story.play_on.Goals as goal
+
+pub loop-left-preserved-in-Went : goal.loop-left-preserved-in-Went
+loop-left-preserved-in-Went g c =
+    let program = program_of c.args.program.now in
+    let left = c.loop-left.left in
+    let old = state_of c.loop-left.machine in
+    let new = state_of c.step.new.self in
+    let before = g.C.Console.session c.args.console.now in
+    let mid = g.C.Console.session c.loop-left.console in
+    let takes = takes_event program old new c.in_ok-step.field-0 Went c.in-Went.is c.in_ok-step.ensures in
+    record {
+      come =
+          come_went program c.args.steps left (left - 1) old new before mid c.loop-left.has_said (omega (arith, c.loop-left-test.true)) c.loop-left.invariant.come takes;
+      faults = c.loop-left.invariant.faults;
+    }
+
+pub returns-in_err-show-in-Said-clause-plays : goal.returns-in_err-show-in-Said-clause-plays
+returns-in_err-show-in-Said-clause-plays g c =
+    let program = program_of c.args.program.now in
+    let left = c.loop-left.left in
+    let old = state_of c.loop-left.machine in
+    let new = state_of c.step.new.self in
+    let before = g.C.Console.session c.args.console.now in
+    let mid = g.C.Console.session c.loop-left.console in
+    let after = g.C.Console.session c.show.new.console in
+    let e = c.in_err-show-in-Said.field-0.0 in
+    let takes = takes_event program old new c.in_ok-step.field-0 (Said c.in-Said.text) c.in-Said.is c.in_ok-step.ensures in
+    let text : c.deref.result.now ≡ c.in-Said.text = c.deref.ensures.value ∙ c.text.view_is in
+    let shows = subst (λ (t : List ℕ). ShowsAll mid after t (Err e)) text c.in_err-show-in-Said.ensures.shown in
+    let begun = come_cut program c.args.steps left (left - 1) old new before mid after c.loop-left.has_said c.in-Said.text (omega (arith, c.loop-left-test.true)) c.loop-left.invariant.come takes shows in
+    let p = err_from_is_err_and c.from_residual-in_err-show-in-Said.result c.from_residual-in_err-show-in-Said.ensures.1 in
+    plays_cut program c.args.steps before after _ c.from_residual-in_err-show-in-Said.result p.1 begun
+
+pub loop-left-preserved : goal.loop-left-preserved
+loop-left-preserved g c =
+    let program = program_of c.args.program.now in
+    let left = c.loop-left.left in
+    let old = state_of c.loop-left.machine in
+    let new = state_of c.step.new.self in
+    let before = g.C.Console.session c.args.console.now in
+    let mid = g.C.Console.session c.loop-left.console in
+    let after = g.C.Console.session c.show.new.console in
+    let takes = takes_event program old new c.in_ok-step.field-0 (Said c.in-Said.text) c.in-Said.is c.in_ok-step.ensures in
+    let text : c.deref.result.now ≡ c.in-Said.text = c.deref.ensures.value ∙ c.text.view_is in
+    let shows = subst (λ (t : List ℕ). ShowsAll mid after t (Ok tt)) text c.in_ok-show-in-Said.ensures.shown in
+    let has = ap not c.is_empty.ensures ∙ nonempty_by_length c.in-Said.text _ (c.text.inside.0.ok.0 ∙ ap (λ (t : List ℕ). length t) c.text.view_is) in
+    record {
+      come =
+          come_said program c.args.steps left (left - 1) old new before mid after c.loop-left.has_said _ c.in-Said.text (omega (arith, c.loop-left-test.true)) c.loop-left.invariant.come takes shows (or_said c.loop-left.has_said c.is_empty.result (is_nonempty c.in-Said.text) has);
+      faults = c.in_ok-show-in-Said.ensures.cause ∙ c.loop-left.invariant.faults;
+    }
+
+pub returns-in-Ended-clause-plays : goal.returns-in-Ended-clause-plays
+returns-in-Ended-clause-plays g c =
+    let program = program_of c.args.program.now in
+    let left = c.loop-left.left in
+    let old = state_of c.loop-left.machine in
+    let new = state_of c.step.new.self in
+    let takes = takes_event program old new c.in_ok-step.field-0 (Ended c.in-Ended.end) c.in-Ended.is c.in_ok-step.ensures in
+    come_ended program c.args.steps left (left - 1) old new (g.C.Console.session c.args.console.now) (g.C.Console.session c.loop-left.console) c.loop-left.has_said c.in-Ended.end (omega (arith, c.loop-left-test.true)) c.loop-left.invariant.come takes
+
+pub returns-clause-plays : goal.returns-clause-plays
+returns-clause-plays g c =
+    come_last (program_of c.args.program.now) c.args.steps c.loop-left.left (state_of c.loop-left.machine) (g.C.Console.session c.args.console.now) (g.C.Console.session c.loop-left.console) c.loop-left.has_said (omega (arith, c.loop-left-test.false)) c.loop-left.invariant.come
+
+pub returns-in_err-step-clause-plays : goal.returns-in_err-step-clause-plays
+returns-in_err-step-clause-plays g c =
+    let program = program_of c.args.program.now in
+    let before = g.C.Console.session c.args.console.now in
+    let mid = g.C.Console.session c.loop-left.console in
+    let begun = come_wanting program c.args.steps c.loop-left.left (state_of c.loop-left.machine) before mid c.loop-left.has_said c.loop-left.invariant.come in
+    let p = err_from_is_err_and c.from_residual.result c.from_residual.ensures.1 in
+    plays_cut program c.args.steps before mid _ c.from_residual.result p.1 begun

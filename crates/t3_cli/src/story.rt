@@ -1,0 +1,117 @@
+//! `run IMAGE`: carries out the story that an image is.
+ghost use Rattle.std.specs.Prelude.{◌≡◌, ◌≢◌, ◌⊎◌, ◌<◌, ◌-◌, ◌^◌, Option};
+ghost use Rattle.t3_io.specs.Files.{Files};
+ghost use Rattle.t3_io.specs.Cause.{MovesFaults};
+ghost use Rattle.t3_interp.specs.Step.{program_of};
+ghost use Rattle.t3_cli.specs.Outcome.{IsRunOutcome, status_of as status_by};
+ghost use Rattle.t3_cli.specs.Lines.{closing_text};
+ghost use Rattle.t3_cli.specs.Command.{options_value};
+ghost use Rattle.t3_cli.specs.Inner.Showing.{ShowsOrWants};
+ghost use Rattle.t3_cli.specs.Inner.Following.{FollowsSome};
+ghost use Rattle.t3_cli.specs.Inner.Playing.{IsProgramOutcome, PlaysOn};
+
+use crate::commands::command::RunOptions;
+use crate::console::{answer, end_with, show};
+use crate::lines;
+use crate::status::Status;
+use std::alloc::Global;
+use t3_image_read::Image;
+use t3_interp::{End, Event, LoadRefusal, Machine, Program, load};
+use t3_io::{Console, DeviceRefusal};
+
+/// Runs an image, and shows what it says and how it ends.
+pub(crate) fn launch<C: Console>(
+    alloc: Global,
+    image: &Image,
+    options: RunOptions,
+    console: &mut C,
+) -> Status
+    requires { C.faults console.old < 2 ^ 64 - 1 }
+    ensures follows { (files : Option Files) → FollowsSome
+        (IsRunOutcome image.now.blocks (options_value options)) files files (C.session console.old)
+        (C.session console.new) result }
+    ensures fault { result ≡ Status.ConsoleFault → C.faults console.old < C.faults console.new }
+    ensures rise { (result ≡ Status.ConsoleFault) ⊎ (C.faults console.new ≡ C.faults console.old) }
+    ensures no_depot { result ≢ Status.DepotFault }
+{
+    match load(alloc, image) {
+        Ok(program) => play(alloc, &program, options.steps, console),
+        Err(LoadRefusal::Unbuilt) => end_with(console, lines::UNLOADED, Status::LoadRefused),
+        Err(LoadRefusal::NoMemory) => Status::NoMemory,
+    }
+}
+
+/// Runs a program by at most so many steps, and shows what it says and how it ends.
+fn play<C: Console>(alloc: Global, program: &Program, steps: u32, console: &mut C) -> Status
+    requires { C.faults console.old < 2 ^ 64 - 1 }
+    ensures follows { (files : Option Files) → FollowsSome
+        (IsProgramOutcome (program_of program.now) steps) files files (C.session console.old)
+        (C.session console.new) result }
+    ensures fault { result ≡ Status.ConsoleFault → C.faults console.old < C.faults console.new }
+    ensures rise { (result ≡ Status.ConsoleFault) ⊎ (C.faults console.new ≡ C.faults console.old) }
+    ensures no_depot { result ≢ Status.DepotFault }
+{
+    match play_on(alloc, program, steps, console) {
+        Ok((has_said, end)) => close(alloc, has_said, end, console),
+        Err(DeviceRefusal::Fault) => Status::ConsoleFault,
+        Err(DeviceRefusal::NoMemory) => Status::NoMemory,
+    }
+}
+
+/// Makes the steps, and shows what each says. Gives whether anything was said, and how the run ended,
+/// if it did.
+fn play_on<C: Console>(
+    alloc: Global,
+    program: &Program,
+    steps: u32,
+    console: &mut C,
+) -> Result<(bool, Option<End>), DeviceRefusal>
+    requires { C.faults console.old < 2 ^ 64 - 1 }
+    ensures plays { PlaysOn (program_of program.now) steps (C.session console.old)
+        (C.session console.new) result }
+    ensures cause { MovesFaults (C.faults console.old) (C.faults console.new) result }
+{
+    let mut machine = Machine::new();
+    let mut has_said = false;
+    let mut left = steps;
+    while left > 0 {
+        left -= 1;
+        match machine.step(alloc, program)? {
+            Event::Went => {}
+            Event::Said(text) => {
+                show(console, &text.0)?;
+                has_said |= !text.0.is_empty();
+            }
+            Event::Ended(end) => return Ok((has_said, Some(end))),
+        }
+    }
+    Ok((has_said, None))
+}
+
+/// Shows the end of a run: a newline after what was said, and how it ended.
+fn close<C: Console>(alloc: Global, has_said: bool, end: Option<End>, console: &mut C) -> Status
+    requires { C.faults console.old < 2 ^ 64 - 1 }
+    ensures shown { ShowsOrWants (C.session console.old) (C.session console.new)
+        (closing_text has_said end) (status_by end) result }
+    ensures fault { result ≡ Status.ConsoleFault → C.faults console.old < C.faults console.new }
+    ensures rise { (result ≡ Status.ConsoleFault) ⊎ (C.faults console.new ≡ C.faults console.old) }
+    ensures no_depot { result ≢ Status.DepotFault }
+{
+    answer(
+        console,
+        lines::closing(alloc, has_said, end),
+        status_of(end),
+    )
+}
+
+/// The status of a run that ended so, or had no step left.
+fn status_of(end: Option<End>) -> Status
+    ensures { result ≡ status_by end }
+{
+    match end {
+        Some(End::Returned) => Status::Done,
+        Some(End::Unhandled { .. }) => Status::Unhandled,
+        Some(End::BadCode { .. }) => Status::BadCode,
+        None => Status::StepLimit,
+    }
+}

@@ -1,8 +1,0 @@
-//! The program over the devices in memory.
-mod builder;
-mod check;
-mod devices;
-mod rewrite;
-mod run;
-mod show;
-mod words;

@@ -1,0 +1,5 @@
+mod Stacks
+mod Saying
+mod Taking
+pub mod Runs
+pub mod Programs

@@ -1,0 +1,7 @@
+pub mod Faults
+pub mod Machine
+pub mod Instructions
+pub mod Step
+pub mod Run
+pub mod Loading
+pub mod Inner
