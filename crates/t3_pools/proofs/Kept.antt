@@ -12,6 +12,7 @@ use Rattle.t3_pools.specs.Pool.{Pool, Paged, page_bytes, HasBytes}
 use Rattle.t3_pools.specs.Building.{pages_at}
 use Rattle.t3_pools.specs.Finding.{listed}
 use Rattle.t3_pools.specs.Inner.Keeping.{paged_from, kept_pool, IsKept, bytes_of, run_in, Runs}
+use Rattle.t3_pools.proofs.Standing.{stands_each}
 use Rattle.t3_pools.proofs.Bytes.{or_else-none, first_at, is_any_long, find_pages, find_none, or_parts_left, or_parts_right}
 
 abbrev pub one : Option (List ℕ) → List (List ℕ)
@@ -98,17 +99,6 @@ fitting size zero (page ∷ pages) fits = ltb-false size (length page)
 fitting size (suc index) (page ∷ pages) fits = fitting size index pages
     (or_parts_right (nat_lt size (length page)) (is_long_in size pages) fits)
 
-pub has_bytes : (pool : Pool) (bytes : List ℕ) (at : ℕ) → ((j : ℕ) → j < length bytes → get pool (at + j) ≡ slice_get bytes j)
-    → HasBytes pool at bytes
-has_bytes pool [] at each = tt
-has_bytes pool (byte ∷ bytes) at each =
-    let here : at ≡ at + 0 = omega arith in (
-      ap (λ n. get pool n) here ∙ each 0 (omega arith),
-      has_bytes pool bytes (at + 1) (λ j inside.
-          let later : (at + 1) + j ≡ at + suc j = omega arith in
-          ap (λ n. get pool n) later ∙ each (suc j) (omega arith)),
-    )
-
 slice_get-drop : (bytes : List ℕ) (place j : ℕ) → slice_get (drop place bytes) j ≡ slice_get bytes (place + j)
 slice_get-drop bytes zero j = let from : j ≡ 0 + j = omega arith in ap (λ n. slice_get bytes n) from
 slice_get-drop [] (suc place) j = refl
@@ -132,7 +122,7 @@ runs_at size index place pages inside kept =
     let short : length (bytes_of (slice_get pages index)) ≤ size = fitting size index pages kept.fits in
     let left = length-drop place (bytes_of (slice_get pages index)) in
     record {
-      stand = has_bytes (kept_pool size pages) (drop place (bytes_of (slice_get pages index))) (index * size + place) (λ j within.
+      stand = stands_each (kept_pool size pages) (drop place (bytes_of (slice_get pages index))) (index * size + place) (λ j within.
           let along : (index * size + place) + j ≡ index * size + (place + j) = omega arith in
           ap (λ n. get (kept_pool size pages) n) along ∙ kept_byte size index (place + j) pages (omega arith) kept.fits
           ∙ sym (slice_get-drop (bytes_of (slice_get pages index)) place j));

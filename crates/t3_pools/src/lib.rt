@@ -10,7 +10,9 @@
 //! The test `the_example_of_the_first_page` runs this on an image of one page of code.
 #![tactic(auto)]
 
+mod constants;
 mod definitions;
+mod laws;
 mod paged;
 mod pools;
 mod refusal;
@@ -18,5 +20,6 @@ mod sheets;
 #[cfg(test)]
 mod tests;
 
+pub use laws::{constant_list, constant_text};
 pub use pools::Pools;
 pub use refusal::PoolRefusal;

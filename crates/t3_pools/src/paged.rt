@@ -1,5 +1,6 @@
 //! A pool as it is kept: its pages by their indices, each with its own bytes.
-ghost use Rattle.std.specs.Prelude.{◌≡◌, ◌<◌, ◌*◌, ◌^◌, nat_lt, false, length, map, drop, IfOk};
+ghost use Rattle.std.specs.Prelude.{◌≡◌, ◌<◌, ◌*◌, ◌^◌, nat_lt, false, length, map, drop, IfOk, IfSome};
+ghost use Rattle.std.specs.FinMap.{get};
 ghost use Rattle.std.specs.List.{list_any};
 ghost use Rattle.t3_pools.specs.Inner.Keeping.{run_in, kept_pool, Runs};
 
@@ -47,6 +48,14 @@ impl PagedPool {
         ensures { Runs self.now address result.now }
     {
         run_at(self.size, &self.pages, address)
+    }
+
+    /// The byte at an address, where one stands there.
+    pub(crate) fn byte(&self, address: u32) -> Option<u8>
+        ensures byte { result ≡ get self.now address }
+        ensures bounded { IfSome result (λ _. address < 2 ^ 31) }
+    {
+        self.run(address).first().copied()
     }
 }
 

@@ -1,7 +1,8 @@
-ghost use Rattle.std.specs.Prelude.{◌≡◌, ◌≢◌, ◌<◌, ◌≤◌, ◌+◌, ◌^◌, [], length, IfOk, IfSome};
+ghost use Rattle.std.specs.Prelude.{◌≡◌, ◌≢◌, ◌<◌, ◌≤◌, ◌+◌, ◌*◌, ◌^◌, [], length, IfOk, IfSome};
 ghost use Rattle.std.specs.FinMap.{get};
 ghost use Rattle.t3_pools.specs.Pool.{numbered, pools_in, HasBytes};
 ghost use Rattle.t3_pools.specs.Building.{Builds};
+ghost use Rattle.t3_pools.specs.Constants.{FindsText, FindsList, place_of, text_in, list_in};
 
 use crate::definitions::{CODE, CONSTANTS, layouts};
 use crate::paged::PagedPool;
@@ -95,5 +96,28 @@ impl Pools {
         ensures bounded { IfSome result (λ _. address < 2 ^ 31) }
     {
         self.run(pool, address).first().copied()
+    }
+
+    /// The address of the first byte of the constant string at an address, and how many bytes it has.
+    /// `None` exactly where no constant string stands there: two bytes of its length, and then so many
+    /// bytes that are UTF-8. It may go over the borders of pages, and takes no memory.
+    pub fn text_at(&self, address: u32) -> Option<(u32, u16)>
+        ensures text { FindsText self.now.constants address result }
+        ensures read { result ≡ place_of address (text_in self.now.constants address) }
+        ensures bounded { IfSome result (λ found. found.0 + found.1 ≤ 2 ^ 31) }
+    {
+        self.constants.text_at(address)
+    }
+
+    /// The address of the first holder of the constant list at an address, and how many holders it has.
+    /// `None` exactly where no constant list stands there: two bytes of its count, and then so many
+    /// holders of five bytes that each mean something. It may go over the borders of pages, and takes
+    /// no memory.
+    pub fn list_at(&self, address: u32) -> Option<(u32, u16)>
+        ensures list { FindsList self.now.constants address result }
+        ensures read { result ≡ place_of address (list_in self.now.constants address) }
+        ensures bounded { IfSome result (λ found. found.0 + 5 * found.1 ≤ 2 ^ 31) }
+    {
+        self.constants.list_at(address)
     }
 }

@@ -1,0 +1,11 @@
+use Rattle.std.proofs.Common.{ℕ, List, take, sym, subst}
+use Rattle.t3_pools.specs.Pool.{HasBytes}
+use Rattle.t3_pools.specs.Inner.Reading.{IsLongestUtf8}
+use Rattle.t3_pools.proofs.Reading.{characters-stand}
+use Rattle.t3_pools.proofs.Standing.{stands_take}
+use Rattle.t3_pools.proofs.paged.PagedPool.characters_in_page.Goals as goal
+
+pub returns-clause-whole : goal.returns-clause-whole
+returns-clause-whole c =
+    characters-stand c.args.self.now c.args.address c.whole_characters.result _
+    (stands_take c.args.self.now c.run-run.result.now c.args.address c.min.result c.run-run.ensures.stand) c.whole_characters.ensures
