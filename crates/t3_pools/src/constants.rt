@@ -139,6 +139,20 @@ impl PagedPool {
         ensures fills { Fills self.now address window.new result }
         ensures bounded { IsTrue result → 0 < length window.new → address + length window.new ≤ 2 ^ 31 }
     {
+        let run = self.run(address);
+        let size = window.len();
+        if size <= run.len() {
+            window.copy_from_slice(&run[..size]);
+            return true;
+        }
+        self.fill_over(address, window)
+    }
+
+    /// As `fill`, byte by byte, where a page may end within the window.
+    fn fill_over(&self, address: u32, window: &mut [u8]) -> bool
+        ensures fills { Fills self.now address window.new result }
+        ensures bounded { IsTrue result → 0 < length window.new → address + length window.new ≤ 2 ^ 31 }
+    {
         let mut place = address;
         for slot in window.iter_mut() {
             match self.byte(place) {

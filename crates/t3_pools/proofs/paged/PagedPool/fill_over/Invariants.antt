@@ -1,6 +1,6 @@
 use Rattle.std.proofs.Common.{◌≡◌, ◌<◌, ◌≤◌, ◌+◌, ◌^◌, take}
 use Rattle.t3_pools.specs.Pool.{HasBytes}
-use Rattle.t3_pools.proofs.paged.PagedPool.fill.Given as goal
+use Rattle.t3_pools.proofs.paged.PagedPool.fill_over.Given as goal
 
 -- the bytes that were written are those that stand
 abbrev pub invariant-loop-slot : goal.invariant-loop-slot
