@@ -1,3 +1,4 @@
 pub mod Keeping
+pub mod Breaking
 pub mod Gathering
 pub mod Reading

@@ -14,6 +14,7 @@ mod constants;
 mod definitions;
 mod laws;
 mod paged;
+mod pages;
 mod pools;
 mod refusal;
 mod sheets;

@@ -4,10 +4,9 @@ ghost use Rattle.t3_pools.specs.Pool.{numbered, pools_in, HasBytes};
 ghost use Rattle.t3_pools.specs.Building.{Builds};
 ghost use Rattle.t3_pools.specs.Constants.{FindsText, FindsList, place_of, text_in, list_in};
 
-use crate::definitions::{CODE, CONSTANTS, layouts};
 use crate::paged::PagedPool;
+use crate::pages::gathered;
 use crate::refusal::PoolRefusal;
-use crate::sheets::{has_far, has_long, in_order, sheets_of, sorted};
 use std::alloc::Global;
 use std::marker::Model;
 use t3_image_read::Image;
@@ -41,35 +40,10 @@ impl Pools {
         ensures built { IfOk result (λ pools. pools ≡ pools_in image.now.blocks) }
         ensures decides { Builds image.now.blocks result }
     {
-        let blocks = &image.blocks.0;
-        let (code, constants) = layouts(blocks)?;
-        let code_sheets = sheets_of(alloc, blocks, CODE)?;
-        let constant_sheets = sheets_of(alloc, blocks, CONSTANTS)?;
-        if has_far(&code_sheets, code.count) || has_far(&constant_sheets, constants.count) {
-            return Err(PoolRefusal::PageIndex);
-        }
-        let code_sorted = match sorted(alloc, &code_sheets)? {
-            Some(code_sorted) => code_sorted,
-            None => return Err(PoolRefusal::PageTwice),
-        };
-        let constant_sorted = match sorted(alloc, &constant_sheets)? {
-            Some(constant_sorted) => constant_sorted,
-            None => return Err(PoolRefusal::PageTwice),
-        };
-        let code_pages = match in_order(alloc, &code_sorted, code.count)? {
-            Some(code_pages) => code_pages,
-            None => return Err(PoolRefusal::PageMissing),
-        };
-        let constant_pages = match in_order(alloc, &constant_sorted, constants.count)? {
-            Some(constant_pages) => constant_pages,
-            None => return Err(PoolRefusal::PageMissing),
-        };
-        if has_long(&code_sheets, code.size) || has_long(&constant_sheets, constants.size) {
-            return Err(PoolRefusal::PageLong);
-        }
+        let (code, constants) = gathered(alloc, &image.blocks.0)?;
         Ok(Pools {
-            code: PagedPool::new(alloc, code.size, &code_pages)?,
-            constants: PagedPool::new(alloc, constants.size, &constant_pages)?,
+            code: PagedPool::new(alloc, code.size, &code.pages)?,
+            constants: PagedPool::new(alloc, constants.size, &constants.pages)?,
         })
     }
 
