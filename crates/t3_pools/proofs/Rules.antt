@@ -17,12 +17,12 @@ use Rattle.t3_pools.specs.declared.refusal.PoolRefusal.{PoolRefusal}
 use Rattle.t3_pools.specs.declared.refusal.PoolRefusal.TheVariants.{PageIndex}
 use Rattle.t3_pools.specs.declared.refusal.PageRule.{PageRule}
 use Rattle.t3_pools.specs.declared.refusal.PageRule.TheVariants.{Index, Twice, Missing, Long}
-use Rattle.t3_pools.specs.Pool.{Pool, PoolsValue, Defined, Paged, Said, said_of, page_bytes, pool_of, pool_in, pools_in, numbered}
-use Rattle.t3_pools.specs.Building.{count_by, size_by, pages_at, HasFarPage, HasPageTwice, LacksPage, HasLongPage, Keeps, KeepsRules, Refuses, before}
+use Rattle.t3_pools.specs.Pool.{Pool, PagedPoolValue, PoolsValue, Defined, Paged, Said, said_of, size_by, page_bytes, pool_of, pool_in, pools_in, pools_of, numbered}
+use Rattle.t3_pools.specs.Building.{count_by, pages_at, HasFarPage, HasPageTwice, LacksPage, HasLongPage, Keeps, KeepsRules, Refuses, before}
 use Rattle.t3_pools.specs.Finding.{listed}
 use Rattle.t3_pools.specs.Inner.Breaking.{page_refusal, rank}
 use Rattle.t3_pools.specs.Inner.Gathering.{paged, sheets_at, Sorts, Orders, LaysOut, BreaksRule, KeepsFirst, IsGathered, FindsPages, Joins, Gathers}
-use Rattle.t3_pools.specs.Inner.Keeping.{kept_pool}
+use Rattle.t3_pools.specs.Inner.Keeping.{kept_bytes}
 use Rattle.t3_pools.proofs.Bytes.{is_any_long}
 use Rattle.t3_pools.proofs.Kept.{one, is_long_in, same_pool}
 use Rattle.t3_pools.proofs.Placing.{now, long_map, at-paged, far-paged, long-paged, placed_pages, no_gap, short_pages}
@@ -147,8 +147,8 @@ pub narrow : (said : Said) (layout : Layout) (sorted : BTreeMap ℕ (Bor (List �
     → Orders layout.count sorted (Some ordered) → length ordered * layout.size < 2 ^ 31
 narrow said layout sorted ordered lays orders = subst (λ n. n * layout.size < 2 ^ 31) (sym orders.0) lays.narrow
 
-no_pages : (pages : List (Bor (List ℕ))) (size : ℕ) → length pages ≡ 0 → empty ≡ kept_pool size (map now pages)
-unfolding kept_pool
+no_pages : (pages : List (Bor (List ℕ))) (size : ℕ) → length pages ≡ 0 → empty ≡ kept_bytes size (map now pages)
+unfolding kept_bytes
 no_pages [] size none = same_map nat_cmp_total nat_cmp-IsAntisymmetric _ _
     (λ address. get-empty nat_cmp address ∙ sym (get-from_entries nat_cmp_total [] address))
 no_pages (page ∷ pages) size none = absurd (omega arith)
@@ -157,7 +157,7 @@ defined_pool : (definitions : List Defined) (all : List Paged) (count size : ℕ
     → count_by definitions ≡ count → size_by definitions ≡ size
     → length ordered ≡ count → is_any_long size all ≡ false → is_long_in size (map now ordered) ≡ false
     → ((index : ℕ) → pages_at index all ≡ one (slice_get (map now ordered) index))
-    → pool_of definitions all ≡ kept_pool size (map now ordered)
+    → pool_of definitions all ≡ kept_bytes size (map now ordered)
 defined_pool [] all count size ordered c s counted short fit same = no_pages ordered size (counted ∙ sym c)
 defined_pool (d ∷ ds) all count size ordered c s counted short fit same =
     ap (λ n. from_entries (flat_map (page_bytes n) all)) s ∙ same_pool size all (map now ordered) short fit same
@@ -167,7 +167,7 @@ pub gathered_pool : (number : ℕ) (said : Said) (layout : Layout) (sheets : Lis
     → AreSheets number said layout sheets → is_far_sheet layout.count sheets ≡ false → Sorts sheets (Some sorted)
     → Orders layout.count sorted (Some ordered)
     → is_long_sheet layout.size sheets ≡ false
-    → pool_of said.definitions said.pages ≡ kept_pool layout.size (map now ordered)
+    → pool_of said.definitions said.pages ≡ kept_bytes layout.size (map now ordered)
 gathered_pool number said layout sheets sorted ordered g near sorts orders short =
     defined_pool said.definitions said.pages layout.count layout.size ordered g.lays_out.count g.lays_out.size orders.0
     (ap (λ n. is_any_long n said.pages) (sym g.lays_out.size) ∙ long_is number said layout sheets g ∙ short)
@@ -340,13 +340,19 @@ keeps_all blocks kept found = (
   ),
 )
 
-pub both_pools : (blocks : List PlacedBlock) (code constants : Pool)
-    → pool_of (said_of 1 blocks).definitions (said_of 1 blocks).pages ≡ code
-    → pool_of (said_of 2 blocks).definitions (said_of 2 blocks).pages ≡ constants
-    → ◌≡◌ {A = PoolsValue} (record { code = code; constants = constants }) (pools_in blocks)
+pub both_pools : (blocks : List PlacedBlock) (code constants : PagedPoolValue)
+    → pool_of (said_of 1 blocks).definitions (said_of 1 blocks).pages ≡ code.bytes
+    → pool_of (said_of 2 blocks).definitions (said_of 2 blocks).pages ≡ constants.bytes
+    → size_by (said_of 1 blocks).definitions ≡ code.page_size → size_by (said_of 2 blocks).definitions ≡ constants.page_size
+    → pools_of code constants ≡ pools_in blocks
 unfolding pool_in
-both_pools blocks code constants code_is constants_is =
-    λ i. record { code = sym code_is i; constants = sym constants_is i }
+both_pools blocks code constants code_is constants_is code_size constant_size =
+    λ i. record {
+      code = sym code_is i;
+      constants = sym constants_is i;
+      code_page_size = sym code_size i;
+      constant_page_size = sym constant_size i;
+    }
 
 -- ---- what stands at an address
 

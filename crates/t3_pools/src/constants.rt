@@ -14,8 +14,8 @@ const HOLDER_SIZE: u32 = 5;
 impl PagedPool {
     /// The address of the first byte of the constant string at an address, and how many it has.
     pub(crate) fn text_at(&self, address: u32) -> Option<(u32, u16)>
-        ensures text { FindsText self.now address result }
-        ensures read { result ≡ place_of address (text_in self.now address) }
+        ensures text { FindsText self.now.bytes address result }
+        ensures read { result ≡ place_of address (text_in self.now.bytes address) }
         ensures bounded { IfSome result (λ found. found.0 + found.1 ≤ 2 ^ 31) }
     {
         let length = self.count_at(address)?;
@@ -29,8 +29,8 @@ impl PagedPool {
 
     /// The address of the first holder of the constant list at an address, and how many it has.
     pub(crate) fn list_at(&self, address: u32) -> Option<(u32, u16)>
-        ensures list { FindsList self.now address result }
-        ensures read { result ≡ place_of address (list_in self.now address) }
+        ensures list { FindsList self.now.bytes address result }
+        ensures read { result ≡ place_of address (list_in self.now.bytes address) }
         ensures bounded { IfSome result (λ found. found.0 + 5 * found.1 ≤ 2 ^ 31) }
     {
         let count = self.count_at(address)?;
@@ -44,7 +44,7 @@ impl PagedPool {
 
     /// The length or the count in the two bytes at an address.
     fn count_at(&self, address: u32) -> Option<u16>
-        ensures reads { ReadsNumber 2 self.now address result }
+        ensures reads { ReadsNumber 2 self.now.bytes address result }
         ensures bounded { IfSome result (λ _. address + 2 ≤ 2 ^ 31) }
     {
         let mut bytes = [0; 2];
@@ -58,7 +58,7 @@ impl PagedPool {
     /// Whether so many bytes from an address on are there and are UTF-8.
     fn is_text(&self, first: u32, count: u16) -> bool
         requires { first ≤ 2 ^ 31 }
-        ensures reads { ReadsText count self.now first result }
+        ensures reads { ReadsText count self.now.bytes first result }
         ensures bounded { IsTrue result → first + count ≤ 2 ^ 31 }
     {
         let mut address = first;
@@ -78,7 +78,7 @@ impl PagedPool {
     /// the other. 0 only where those bytes are no text.
     fn characters(&self, address: u32, left: usize) -> usize
         requires { 0 < left }
-        ensures begins { BeginsText left self.now address result }
+        ensures begins { BeginsText left self.now.bytes address result }
         ensures bounded { 0 < result → address + result ≤ 2 ^ 31 }
     {
         let in_page = self.characters_in_page(address, left);
@@ -98,7 +98,7 @@ impl PagedPool {
     /// The length of the whole characters that so many bytes from an address on begin with in its page.
     fn characters_in_page(&self, address: u32, left: usize) -> usize
         ensures within { result ≤ left }
-        ensures whole { HasCharacters result self.now address }
+        ensures whole { HasCharacters result self.now.bytes address }
         ensures bounded { 0 < result → address + result ≤ 2 ^ 31 }
     {
         let run = self.run(address);
@@ -108,7 +108,7 @@ impl PagedPool {
     /// Whether so many good holders stand from an address on.
     fn has_holders(&self, first: u32, count: u16) -> bool
         requires { first ≤ 2 ^ 31 }
-        ensures reads { ReadsHolders count self.now first result }
+        ensures reads { ReadsHolders count self.now.bytes first result }
         ensures bounded { IsTrue result → first + 5 * count ≤ 2 ^ 31 }
     {
         let mut address = first;
@@ -123,7 +123,7 @@ impl PagedPool {
 
     /// The holder in the five bytes at an address.
     fn holder(&self, address: u32) -> Option<Holder>
-        ensures reads { ReadsHolder self.now address result }
+        ensures reads { ReadsHolder self.now.bytes address result }
         ensures bounded { IfSome result (λ _. address + 5 ≤ 2 ^ 31) }
     {
         let mut bytes = [0; HOLDER_SIZE as usize];
@@ -136,7 +136,7 @@ impl PagedPool {
 
     /// Fills a window with the bytes from an address on, where all of them are there.
     fn fill(&self, address: u32, window: &mut [u8]) -> bool
-        ensures fills { Fills self.now address window.new result }
+        ensures fills { Fills self.now.bytes address window.new result }
         ensures bounded { IsTrue result → 0 < length window.new → address + length window.new ≤ 2 ^ 31 }
     {
         let run = self.run(address);
@@ -150,7 +150,7 @@ impl PagedPool {
 
     /// As `fill`, byte by byte, where a page may end within the window.
     fn fill_over(&self, address: u32, window: &mut [u8]) -> bool
-        ensures fills { Fills self.now address window.new result }
+        ensures fills { Fills self.now.bytes address window.new result }
         ensures bounded { IsTrue result → 0 < length window.new → address + length window.new ≤ 2 ^ 31 }
     {
         let mut place = address;

@@ -1,6 +1,6 @@
 ghost use Rattle.std.specs.Prelude.{◌≡◌, ◌≢◌, ◌<◌, ◌≤◌, ◌+◌, ◌*◌, ◌^◌, [], length, IfOk, IfSome};
 ghost use Rattle.std.specs.FinMap.{get};
-ghost use Rattle.t3_pools.specs.Pool.{numbered, pools_in, HasBytes};
+ghost use Rattle.t3_pools.specs.Pool.{numbered, page_size_of, pools_in, HasBytes, ReachesPageEnd};
 ghost use Rattle.t3_pools.specs.Building.{Builds};
 ghost use Rattle.t3_pools.specs.Constants.{FindsText, FindsList, place_of, text_in, list_in};
 
@@ -11,7 +11,8 @@ use std::alloc::Global;
 use std::marker::Model;
 use t3_image_read::Image;
 
-/// The code and the constants of an image. Contracts see each pool as a map from addresses to bytes.
+/// The code and the constants of an image. Contracts see each pool as a map from addresses to bytes, and
+/// the size of its pages.
 #[derive(Debug, Drop)]
 pub struct Pools {
     code: PagedPool,
@@ -19,13 +20,13 @@ pub struct Pools {
 }
 
 impl Model for Pools {
-    ghost use Rattle.t3_pools.specs.Pool.{PoolsValue, coded_pools};
+    ghost use Rattle.t3_pools.specs.Pool.{PoolsValue, coded_pools, pools_of};
 
     ghost Value = { PoolsValue };
 
     ghost coded = { coded_pools };
 
-    ghost view = { λ p. record { code = p.code; constants = p.constants } };
+    ghost view = { λ p. pools_of p.code p.constants };
 }
 
 impl Pools {
@@ -53,6 +54,7 @@ impl Pools {
         ensures stand { HasBytes (numbered self.now pool) address result.now }
         ensures empty { result.now ≡ [] → get (numbered self.now pool) address ≡ None }
         ensures bounded { result.now ≢ [] → address + length result.now ≤ 2 ^ 31 }
+        ensures whole { ReachesPageEnd (page_size_of self.now pool) (numbered self.now pool) address result.now }
     {
         if pool == 1 {
             self.code.run(address)

@@ -16,10 +16,10 @@ use Rattle.t3_pools.specs.declared.definitions.Layout.{Layout}
 use Rattle.t3_pools.specs.declared.definitions.Definitions.{Definitions}
 use Rattle.t3_pools.specs.declared.definitions.Definitions.TheVariants.{Absent, Once, Repeated}
 use Rattle.t3_pools.specs.declared.sheets.Sheet.{Sheet}
-use Rattle.t3_pools.specs.Pool.{Defined, Paged, Said, said_of, pool_of}
-use Rattle.t3_pools.specs.Building.{count_by, size_by, HasFarPage, HasPageTwice, LacksPage, HasLongPage, Keeps, KeepsRules, Refuses, before}
+use Rattle.t3_pools.specs.Pool.{Defined, Paged, Said, said_of, size_by, pool_of}
+use Rattle.t3_pools.specs.Building.{count_by, HasFarPage, HasPageTwice, LacksPage, HasLongPage, Keeps, KeepsRules, Refuses, before}
 use Rattle.t3_pools.specs.Inner.Breaking.{definition_refusal, rank}
-use Rattle.t3_pools.specs.Inner.Keeping.{kept_pool}
+use Rattle.t3_pools.specs.Inner.Keeping.{kept_bytes}
 
 abbrev pub defined : ℕ → Layout → Defined
 defined number layout = record { pool = number; count = layout.count; size = layout.size }
@@ -71,7 +71,8 @@ KeepsFirst count said = (rule : PageRule) → rank rule < count → ¬ BreaksRul
 
 -- these are the pages of a pool in their order
 pub record IsGathered (said : Said) (gathered : PoolPages) : Type 0 where
-  pub pool : pool_of said.definitions said.pages ≡ kept_pool gathered.size (map (λ page. page.now) gathered.pages.items)
+  pub size : size_by said.definitions ≡ gathered.size
+  pub pool : pool_of said.definitions said.pages ≡ kept_bytes gathered.size (map (λ page. page.now) gathered.pages.items)
   pub fits : list_any (λ page. nat_lt gathered.size (length page.now)) gathered.pages.items ≡ false
   pub narrow : length gathered.pages.items * gathered.size < 2 ^ 31
 

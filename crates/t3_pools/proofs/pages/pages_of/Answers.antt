@@ -67,7 +67,8 @@ returns c =
     let short = tested (λ s. is_long_sheet c.args.layout.size s) _ _ c.has_long.result false c.deref-3.ensures.value c.has_long.ensures
     c.if-has_long.false in (
       record {
-        pool = gathered_pool c.args.number said c.args.layout sheets c.in-Some.sorted _ are near sorts orders short;
+        size = c.requires.size;
+      pool = gathered_pool c.args.number said c.args.layout sheets c.in-Some.sorted _ are near sorts orders short;
         fits = fits c.args.number said c.args.layout sheets c.in-Some.sorted _ are near sorts orders short;
         narrow = narrow said c.args.layout c.in-Some.sorted _ c.requires orders;
       },

@@ -9,9 +9,9 @@ returns-then-fill-clause-begins c =
     let within = c.whole_characters.ensures.within in
     record {
       within = omega arith;
-      whole = characters-stand c.args.self.now c.args.address c.whole_characters.result c.fill.new.window c.if-fill.ensures.fills
+      whole = characters-stand c.args.self.now.bytes c.args.address c.whole_characters.result c.fill.new.window c.if-fill.ensures.fills
           c.whole_characters.ensures;
-      none = λ none. window-none c.args.self.now c.args.address c.args.left c.whole_characters.result c.fill.new.window c.if-fill.ensures.fills
+      none = λ none. window-none c.args.self.now.bytes c.args.address c.args.left c.whole_characters.result c.fill.new.window c.if-fill.ensures.fills
           long c.whole_characters.ensures none c.requires;
     }
 
@@ -21,6 +21,6 @@ returns-else-fill-clause-begins c =
     (let kept = c.fill.auto.window in let took = c.min.ensures in grind (arith, kept, length-take {A = ℕ})) in
     record {
       within = omega arith;
-      whole = no_characters c.args.self.now c.args.address;
-      none = λ none. gap-none c.args.self.now c.args.address c.args.left (length c.fill.new.window) (omega arith) c.if-fill.ensures.fills;
+      whole = no_characters c.args.self.now.bytes c.args.address;
+      none = λ none. gap-none c.args.self.now.bytes c.args.address c.args.left (length c.fill.new.window) (omega arith) c.if-fill.ensures.fills;
     }

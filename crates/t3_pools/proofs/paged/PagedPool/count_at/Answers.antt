@@ -6,4 +6,4 @@ use Rattle.t3_pools.proofs.paged.PagedPool.count_at.Goals as goal
 pub returns-else-fill-clause-reads : goal.returns-else-fill-clause-reads
 returns-else-fill-clause-reads c =
     let long : length c.fill.new.window ≡ 2 = c.fill.auto.window in
-    number_in-none c.args.self.now 2 c.args.address (ap (λ n. bytes_in n c.args.self.now c.args.address) (sym long) ∙ c.if-fill.ensures.fills)
+    number_in-none c.args.self.now.bytes 2 c.args.address (ap (λ n. bytes_in n c.args.self.now.bytes c.args.address) (sym long) ∙ c.if-fill.ensures.fills)

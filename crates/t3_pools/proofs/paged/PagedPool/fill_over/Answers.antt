@@ -13,12 +13,12 @@ returns-in-None-clause-fills c =
     let long = length-set window index (slice_index_or window index 0) in
     let inside = c.loop-slot-test.true in
     let kept = c.loop-slot.auto.window in
-    bytes_in-gap c.args.self.now _ c.args.address index (omega arith)
-    (ap (λ a. get c.args.self.now a) (sym c.loop-slot.invariant.at) ∙ sym c.in-None.ensures.byte)
+    bytes_in-gap c.args.self.now.bytes _ c.args.address index (omega arith)
+    (ap (λ a. get c.args.self.now.bytes a) (sym c.loop-slot.invariant.at) ∙ sym c.in-None.ensures.byte)
 
 pub loop-slot-preserved : goal.loop-slot-preserved
 loop-slot-preserved c =
-    let pool = c.args.self.now in
+    let pool = c.args.self.now.bytes in
     let window : List ℕ = c.loop-slot.window in
     let index : ℕ = c.loop-slot.slot-index in
     let inside = c.loop-slot-test.true in
@@ -39,5 +39,5 @@ pub returns-clause-fills : goal.returns-clause-fills
 returns-clause-fills c =
     let past = c.loop-slot-test.false in
     let kept = c.loop-slot.auto.window in
-    subst (λ (b : List ℕ). HasBytes c.args.self.now c.args.address b) (take_all c.loop-slot.slot-index c.loop-slot.window (omega arith))
+    subst (λ (b : List ℕ). HasBytes c.args.self.now.bytes c.args.address b) (take_all c.loop-slot.slot-index c.loop-slot.window (omega arith))
     c.loop-slot.invariant.stands

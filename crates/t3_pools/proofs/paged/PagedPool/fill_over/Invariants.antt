@@ -7,5 +7,5 @@ abbrev pub invariant-loop-slot : goal.invariant-loop-slot
 invariant-loop-slot l = record {
   at : l.place ≡ l.address + l.slot-index;
   below : 0 < l.slot-index → l.place ≤ 2 ^ 31;
-  stands : HasBytes l.self l.address (take l.slot-index l.window);
+  stands : HasBytes l.self.bytes l.address (take l.slot-index l.window);
 }
