@@ -8,7 +8,7 @@ use Rattle.std.proofs.lemmas.Bool.{ltb-false, cases_lt, cases_eq, eq-eqb}
 use Rattle.std.proofs.lemmas.Option.{slice_get_past}
 use Rattle.std.proofs.lemmas.List.{length-drop}
 use Rattle.std.proofs.Math.Nat.{div-add-mod, mul-le-mul_right}
-use Rattle.t3_pools.specs.Pool.{Pool, Paged, page_bytes, HasBytes, ReachesPageEnd}
+use Rattle.t3_pools.specs.Pool.{Pool, Paged, page_bytes, HasBytes}
 use Rattle.t3_pools.specs.Building.{pages_at}
 use Rattle.t3_pools.specs.Finding.{listed}
 use Rattle.t3_pools.specs.Inner.Keeping.{paged_from, kept_bytes, IsKept, bytes_of, run_in, Runs}
@@ -134,7 +134,7 @@ reaches_end size index place pages inside fits =
     elim (cases_lt (place + length (drop place (bytes_of (slice_get pages index)))) size) [
       | inl before ↦
           let at : (index * size + place) + length (drop place (bytes_of (slice_get pages index)))
-              ≡ index * size + (place + length (drop place (bytes_of (slice_get pages index)))) = omega arith in
+          ≡ index * size + (place + length (drop place (bytes_of (slice_get pages index)))) = omega arith in
           inr (ap (λ n. get (kept_bytes size pages) n) at
           ∙ kept_byte size index (place + length (drop place (bytes_of (slice_get pages index)))) pages before fits
           ∙ slice_get_past (bytes_of (slice_get pages index)) (place + length (drop place (bytes_of (slice_get pages index)))) (omega arith))
@@ -181,7 +181,8 @@ pub run_in-page : (size : ℕ) (pages : List (List ℕ)) (address : ℕ) (page :
     → drop (address % size) page ≡ run_in size pages address
 run_in-page size pages address page some is = sym (run_in-drop size pages address some ∙ ap (λ p. drop (address % size) p) is)
 
-to_runs : (size address : ℕ) (pool : Pool) (bytes : List ℕ) → Reaches size (address % size) pool address bytes → Runs size pool address bytes
+to_runs : (size address : ℕ) (pool : Pool) (bytes : List ℕ) → Reaches size (address % size) pool address bytes
+    → Runs size pool address bytes
 to_runs size address pool bytes reaches = record {
   stand = reaches.stand;
   empty = reaches.empty;

@@ -5,4 +5,5 @@ pub mod Rules
 pub mod Standing
 pub mod Utf8
 pub mod Meaning
-pub mod Reading
+pub mod Texts
+pub mod Lists

@@ -1,13 +1,13 @@
 -- What a type and bits mean, as a function: it is the holder that a raw holder of them means. Other crates may use what stands here.
-use Rattle.std.proofs.Common.{◌≡◌, ◌≢◌, ℕ, ◌+◌, ◌%◌, ◌^◌, ◌<◌, Bool, true, false, cond, nat_lt, ◌&&◌, List, [], ◌∷◌, Option, Some, None, refl, sym, ap, subst, ◌∙◌, arith}
+use Rattle.std.proofs.Common.{◌≡◌, ℕ, ◌%◌, ◌^◌, ◌<◌, Bool, true, false, cond, nat_lt, ◌&&◌, List, [], ◌∷◌, Option, Some, None, refl, sym, ap, subst, ◌∙◌, arith}
 use Rattle.std.specs.Prelude.{◌==◌}
 use Rattle.std.specs.Int.{w32, cast_signed}
 use Rattle.std.specs.List.{find, AllByRecursion}
 use Rattle.std.proofs.lemmas.Int.{to_z-of_z, of_z-to_z}
 use Rattle.std.proofs.Math.Facts.{sfits_to_z}
 use Rattle.std.proofs.lemmas.Bool.{ltb-true, eqb-true}
-use Rattle.std.proofs.lemmas.Option.{same_Some, none-some}
-use Rattle.t3_holder.specs.HolderText.{tag_of, bits_of, used_bits, IsRaw, IsHolder, IsGood, Means, IsNoHolder}
+use Rattle.std.proofs.lemmas.Option.{same_Some}
+use Rattle.t3_holder.specs.HolderText.{tag_of, bits_of, used_bits, IsHolder, IsGood, Means, IsNoHolder}
 use Rattle.t3_holder.specs.declared.holder.Raw.{Raw}
 use Rattle.t3_holder.specs.declared.holder.Holder.{Holder}
 use Rattle.t3_holder.specs.declared.holder.Holder.TheVariants as holders

@@ -1,5 +1,5 @@
 -- Which rules a pool keeps or breaks, and which pool it is, by what was gathered of it.
-use Rattle.std.proofs.Common.{◌≡◌, ◌≢◌, ℕ, zero, suc, ◌*◌, ◌^◌, ◌<◌, ◌≤◌, ◌⊎◌, inl, inr, subst, Bool, true, false, cond, nat_eq, nat_lt, nat_le, List, [], ◌∷◌, map, length, Option, Some, None, Result, Ok, Err, refl, sym, ap, ◌∙◌, arith}
+use Rattle.std.proofs.Common.{◌≡◌, ◌≢◌, ℕ, suc, ◌*◌, ◌^◌, ◌<◌, ◌≤◌, ◌⊎◌, inl, inr, subst, Bool, true, false, cond, nat_eq, nat_lt, nat_le, List, [], ◌∷◌, map, length, Option, Some, None, Result, Ok, Err, refl, sym, ap, ◌∙◌, arith}
 use Rattle.std.specs.Result.{IsErrAnd}
 use Rattle.std.specs.List.{flat_map, list_any, slice_get}
 use Rattle.std.specs.Ordering.{nat_cmp}
@@ -17,7 +17,7 @@ use Rattle.t3_pools.specs.declared.refusal.PoolRefusal.{PoolRefusal}
 use Rattle.t3_pools.specs.declared.refusal.PoolRefusal.TheVariants.{PageIndex}
 use Rattle.t3_pools.specs.declared.refusal.PageRule.{PageRule}
 use Rattle.t3_pools.specs.declared.refusal.PageRule.TheVariants.{Index, Twice, Missing, Long}
-use Rattle.t3_pools.specs.Pool.{Pool, PagedPoolValue, PoolsValue, Defined, Paged, Said, said_of, size_by, page_bytes, pool_of, pool_in, pools_in, pools_of, numbered}
+use Rattle.t3_pools.specs.Pool.{PagedPoolValue, PoolsValue, Defined, Paged, Said, said_of, size_by, page_bytes, pool_of, pool_in, pools_in, pools_of, numbered}
 use Rattle.t3_pools.specs.Building.{count_by, pages_at, HasFarPage, HasPageTwice, LacksPage, HasLongPage, Keeps, KeepsRules, Refuses, before}
 use Rattle.t3_pools.specs.Finding.{listed}
 use Rattle.t3_pools.specs.Inner.Breaking.{page_refusal, rank}

@@ -1,5 +1,5 @@
 -- Which bytes stand from an address on, and which numbers they are. Other crates may use what stands here.
-use Rattle.std.proofs.Common.{◌≡◌, ◌≢◌, ℕ, zero, suc, ◌+◌, ◌^◌, ◌<◌, ◌≤◌, List, [], ◌∷◌, ◌++◌, take, drop, length, Option, Some, None, refl, sym, ap, subst, ◌∙◌, arith}
+use Rattle.std.proofs.Common.{◌≡◌, ℕ, zero, suc, ◌+◌, ◌^◌, ◌<◌, List, [], ◌∷◌, ◌++◌, take, length, Option, Some, None, refl, sym, ap, subst, ◌∙◌, arith}
 use Rattle.std.specs.FinMap.{get}
 use Rattle.std.specs.List.{slice_get}
 use Rattle.std.specs.Option.{option_map, option_and_then}
@@ -8,6 +8,7 @@ use Rattle.t3_holder.specs.NumberText.{little_endian, value_of, AreBytes}
 use Rattle.t3_holder.proofs.Numbers.{length-little_endian, value_of-little_endian, little_endian-value_of, value_fits}
 use Rattle.t3_pools.specs.Pool.{Pool, HasBytes}
 use Rattle.t3_pools.specs.Constants.{bytes_in, number_in, IsOfBytes}
+use Rattle.t3_pools.specs.Inner.Reading.{IsNumber}
 
 -- the bytes stand from an address on where each stands at its own
 pub stands_each : (pool : Pool) (bytes : List ℕ) (at : ℕ) → ((j : ℕ) → j < length bytes → get pool (at + j) ≡ slice_get bytes j)
@@ -131,18 +132,13 @@ are_bytes : (pool : Pool) (bytes : List ℕ) (at : ℕ) → IsOfBytes pool → H
 are_bytes pool [] at of_bytes has = tt
 are_bytes pool (byte ∷ bytes) at of_bytes has = (of_bytes at byte has.0, are_bytes pool bytes (at + 1) of_bytes has.1)
 
--- a number that is read fits its bytes, and stands there
-pub record IsNumber (pool : Pool) (width at number : ℕ) : Type 0 where
-  pub fits : number < 256 ^ width
-  pub stands : HasBytes pool at (little_endian width number)
-
 pub stands-number_in : (pool : Pool) (width at number : ℕ) → IsOfBytes pool → number_in width pool at ≡ Some number
-    → IsNumber pool width at number
+    → IsNumber width pool at number
 unfolding number_in
 stands-number_in pool width at number of_bytes is =
-    let step : (o : Option (List ℕ)) → bytes_in width pool at ≡ o → option_map value_of o ≡ Some number → IsNumber pool width at number
+    let step : (o : Option (List ℕ)) → bytes_in width pool at ≡ o → option_map value_of o ≡ Some number → IsNumber width pool at number
     = λ o. elim o as (λ (o : Option (List ℕ)). bytes_in width pool at ≡ o → option_map value_of o ≡ Some number
-    → IsNumber pool width at number) [
+    → IsNumber width pool at number) [
       | None ↦ λ none e. absurd (none-some number e)
       | Some bytes ↦ λ read e.
           let is_value : value_of bytes ≡ number = same_Some (value_of bytes) number e in
@@ -151,7 +147,7 @@ stands-number_in pool width at number of_bytes is =
           let range = are_bytes pool bytes at of_bytes has in
           let spelled : bytes ≡ little_endian width (value_of bytes) =
           sym (little_endian-value_of bytes range) ∙ ap (λ w. little_endian w (value_of bytes)) long in
-          subst (λ (n : ℕ). IsNumber pool width at n) is_value (record {
+          subst (λ (n : ℕ). IsNumber width pool at n) is_value (record {
             fits = value_fits width bytes range long;
             stands = subst (λ (b : List ℕ). HasBytes pool at b) spelled has;
           })

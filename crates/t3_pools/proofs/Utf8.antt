@@ -1,8 +1,8 @@
 -- Where a text is cut behind whole characters, the rest is a text; and a text begins with a character of one to four bytes.
-use Rattle.std.proofs.Common.{◌≡◌, ◌≢◌, ℕ, zero, suc, ◌+◌, ◌<◌, ◌≤◌, Bool, true, false, ◌&&◌, List, [], ◌∷◌, ◌++◌, take, drop, length, refl, sym, ap, subst, ◌∙◌, append_assoc, length-append, arith}
-use Rattle.std.specs.Str.{IsUtf8, encode_utf8_all, all_scalars}
-use Rattle.std.specs.Char.{encode_utf8, IsScalar, len_utf8}
-use Rattle.std.proofs.lemmas.List.{take-append-le}
+use Rattle.std.proofs.Common.{◌≡◌, ℕ, ◌<◌, ◌≤◌, Bool, true, false, ◌&&◌, List, [], ◌∷◌, ◌++◌, take, length, refl, sym, ap, subst, ◌∙◌, append_assoc, length-append, arith}
+use Rattle.std.specs.Str.{IsUtf8, IsValidUpTo, encode_utf8_all, all_scalars}
+use Rattle.std.specs.Char.{encode_utf8}
+use Rattle.t3_pools.specs.Inner.Reading.{IsLongestUtf8}
 use Rattle.std.proofs.Math.Seq.{take-append_seam}
 use Rattle.std.proofs.lemmas.Str.{encode_same, length-encode, len_utf8_bounds, IsUtf8-encode}
 
@@ -62,3 +62,13 @@ begins (c ∷ cs) text scalars is some =
 -- a text that has a byte begins with a character
 pub utf8-first : (text : List ℕ) → IsUtf8 text → 0 < length text → (size : ℕ) × FirstCharacter text size
 utf8-first text utf8 some = begins utf8.0 text utf8.1.0 utf8.1.1 some
+
+-- what is told valid is the longest prefix that is UTF-8
+pub longest-utf8 : (bytes : List ℕ) (found valid : ℕ) → found ≡ valid → IsValidUpTo bytes valid → IsLongestUtf8 bytes found
+longest-utf8 bytes found valid is up_to =
+    let short = up_to.short in
+    record {
+      within = omega arith;
+      whole = subst (λ (n : ℕ). IsUtf8 (take n bytes)) (sym is) up_to.front;
+      longest = λ more above within. up_to.longest more (omega arith);
+    }

@@ -1,5 +1,6 @@
--- Constant strings and lists: how they stand in a pool, from the value to the bytes, and what a pool has at an address as a function (the chapter on the image format).
-use Rattle.std.specs.Prelude.{◌≡◌, ℕ, zero, suc, ◌+◌, ◌*◌, ◌%◌, ◌^◌, ◌<◌, ◌==◌, Bool, true, ◌&&◌, nat_lt, List, [], ◌∷◌, ◌++◌, length, Option, Some, None, if◌then◌else◌}
+-- Constant strings and lists: how they stand in a pool, from the value to the bytes, and what a pool has at an address, as functions
+-- (the chapter on the image format).
+use Rattle.std.specs.Prelude.{◌≡◌, ℕ, zero, suc, ◌+◌, ◌%◌, ◌^◌, ◌<◌, ◌==◌, Bool, true, ◌&&◌, nat_lt, List, [], ◌∷◌, ◌++◌, length, Option, Some, None, if◌then◌else◌}
 use Rattle.std.specs.FinMap.{get}
 use Rattle.std.specs.Int.{w32, cast_signed}
 use Rattle.std.specs.List.{find}
@@ -41,12 +42,14 @@ pub record HasList (pool : Pool) (address : ℕ) (elements : List Holder) : Type
 -- a constant string stands at an address, so long and with its first byte there; or none does
 abbrev pub FindsText : Pool → ℕ → Option (ℕ × ℕ) → Type 0
 FindsText pool address None = (text : List ℕ) → ¬ HasText pool address text
-FindsText pool address (Some found) = (text : List ℕ) × (HasText pool address text × ((found.0 ≡ address + 2) × (found.1 ≡ length text)))
+FindsText pool address (Some found) =
+    (text : List ℕ) × (HasText pool address text × ((found.0 ≡ address + 2) × (found.1 ≡ length text)))
 
 -- a constant list stands at an address, with so many holders and its first one there; or none does
 abbrev pub FindsList : Pool → ℕ → Option (ℕ × ℕ) → Type 0
 FindsList pool address None = (elements : List Holder) → ¬ HasList pool address elements
-FindsList pool address (Some found) = (elements : List Holder) × (HasList pool address elements × ((found.0 ≡ address + 2) × (found.1 ≡ length elements)))
+FindsList pool address (Some found) =
+    (elements : List Holder) × (HasList pool address elements × ((found.0 ≡ address + 2) × (found.1 ≡ length elements)))
 
 -- ---- what a pool has at an address, as functions
 

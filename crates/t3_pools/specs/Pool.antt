@@ -19,7 +19,8 @@ pub record PagedPoolValue : Type 0 where
 
 abbrev pub coded_paged_pool : Coded PagedPoolValue
 coded_paged_pool =
-    code_by (Pool × ℕ) (coded× (coded_map coded_ℕ coded_ℕ) coded_ℕ) (λ p. (p.bytes, p.page_size)) (λ t. record { bytes = t.0; page_size = t.1 }) (λ _. refl)
+    code_by (Pool × ℕ) (coded× (coded_map coded_ℕ coded_ℕ) coded_ℕ) (λ p. (p.bytes, p.page_size))
+    (λ t. record { bytes = t.0; page_size = t.1 }) (λ _. refl)
 
 -- the two pools that a story uses, and the sizes of their pages
 pub record PoolsValue : Type 0 where

@@ -1,12 +1,11 @@
 //! Constant strings and lists in a pool, over the borders of its pages.
 ghost use Rattle.std.specs.Prelude.{◌≡◌, ◌<◌, ◌≤◌, ◌+◌, ◌*◌, ◌^◌, length, IfSome, IsTrue};
-ghost use Rattle.t3_pools.specs.Constants.{FindsText, FindsList, place_of, text_in, list_in};
-ghost use Rattle.t3_pools.specs.Inner.Reading.{Fills, ReadsNumber, ReadsHolder, ReadsHolders, ReadsText, HasCharacters, BeginsText, IsLongestUtf8};
+ghost use Rattle.t3_pools.specs.Inner.Reading.{Fills, ReadsNumber, ReadsHolder, ReadsHolders, ReadsText, HasCharacters, BeginsText, IsLongestUtf8, TextAnswer, ListAnswer};
 
 use crate::paged::PagedPool;
 use t3_holder::{Holder, holder_of, read_raw, u16_at};
 
-/// Of as many bytes the first character is one.
+/// No character has more bytes.
 const LONGEST_CHARACTER: usize = 4;
 
 const HOLDER_SIZE: u32 = 5;
@@ -14,8 +13,7 @@ const HOLDER_SIZE: u32 = 5;
 impl PagedPool {
     /// The address of the first byte of the constant string at an address, and how many it has.
     pub(crate) fn text_at(&self, address: u32) -> Option<(u32, u16)>
-        ensures text { FindsText self.now.bytes address result }
-        ensures read { result ≡ place_of address (text_in self.now.bytes address) }
+        ensures answer { TextAnswer self.now.bytes address result }
         ensures bounded { IfSome result (λ found. found.0 + found.1 ≤ 2 ^ 31) }
     {
         let length = self.count_at(address)?;
@@ -29,8 +27,7 @@ impl PagedPool {
 
     /// The address of the first holder of the constant list at an address, and how many it has.
     pub(crate) fn list_at(&self, address: u32) -> Option<(u32, u16)>
-        ensures list { FindsList self.now.bytes address result }
-        ensures read { result ≡ place_of address (list_in self.now.bytes address) }
+        ensures answer { ListAnswer self.now.bytes address result }
         ensures bounded { IfSome result (λ found. found.0 + 5 * found.1 ≤ 2 ^ 31) }
     {
         let count = self.count_at(address)?;

@@ -54,7 +54,8 @@ impl Pools {
         ensures stand { HasBytes (numbered self.now pool) address result.now }
         ensures empty { result.now ≡ [] → get (numbered self.now pool) address ≡ None }
         ensures bounded { result.now ≢ [] → address + length result.now ≤ 2 ^ 31 }
-        ensures whole { ReachesPageEnd (page_size_of self.now pool) (numbered self.now pool) address result.now }
+        ensures whole { ReachesPageEnd (page_size_of self.now pool) (numbered self.now pool) address
+            result.now }
     {
         if pool == 1 {
             self.code.run(address)

@@ -1,5 +1,5 @@
 -- The rules on definitions and those on pages, each with its refusal.
-use Rattle.std.specs.Prelude.{ℕ, zero, suc, ◌<◌}
+use Rattle.std.specs.Prelude.{ℕ}
 use Rattle.t3_pools.specs.declared.refusal.PoolRefusal.{PoolRefusal}
 use Rattle.t3_pools.specs.declared.refusal.PoolRefusal.TheVariants as refusals
 use Rattle.t3_pools.specs.declared.refusal.DefinitionRule.{DefinitionRule}

@@ -4,17 +4,22 @@ use Rattle.std.specs.Str.{IsUtf8}
 use Rattle.t3_holder.specs.NumberText.{little_endian}
 use Rattle.t3_holder.specs.declared.holder.Holder.{Holder}
 use Rattle.t3_pools.specs.Pool.{Pool, HasBytes}
-use Rattle.t3_pools.specs.Constants.{bytes_in, number_in, holder_in, holders_in, HasHolder, HasHolders}
+use Rattle.t3_pools.specs.Constants.{bytes_in, number_in, text_in, list_in, holder_in, holders_in, place_of, HasHolder, HasHolders, FindsText, FindsList}
 
 -- a window has the bytes from an address on; or not all of them are there
 abbrev pub Fills : Pool → ℕ → List ℕ → Bool → Type 0
 Fills pool address window true = HasBytes pool address window
 Fills pool address window false = bytes_in (length window) pool address ≡ None
 
+-- a number fits so many bytes, and stands there
+pub record IsNumber (width : ℕ) (pool : Pool) (address number : ℕ) : Type 0 where
+  pub fits : number < 256 ^ width
+  pub stands : HasBytes pool address (little_endian width number)
+
 -- the number in so many bytes
 abbrev pub ReadsNumber : ℕ → Pool → ℕ → Option ℕ → Type 0
 ReadsNumber width pool address None = number_in width pool address ≡ None
-ReadsNumber width pool address (Some number) = (number < 256 ^ width) × HasBytes pool address (little_endian width number)
+ReadsNumber width pool address (Some number) = IsNumber width pool address number
 
 -- the holder in five bytes
 abbrev pub ReadsHolder : Pool → ℕ → Option Holder → Type 0
@@ -46,3 +51,13 @@ pub record IsLongestUtf8 (bytes : List ℕ) (found : ℕ) : Type 0 where
   pub within : found ≤ length bytes
   pub whole : IsUtf8 (take found bytes)
   pub longest : (more : ℕ) → found < more → more ≤ length bytes → ¬ IsUtf8 (take more bytes)
+
+-- which constant string stands at an address, and which is read there
+pub record TextAnswer (pool : Pool) (address : ℕ) (answer : Option (ℕ × ℕ)) : Type 0 where
+  pub text : FindsText pool address answer
+  pub read : answer ≡ place_of address (text_in pool address)
+
+-- which constant list stands at an address, and which is read there
+pub record ListAnswer (pool : Pool) (address : ℕ) (answer : Option (ℕ × ℕ)) : Type 0 where
+  pub list : FindsList pool address answer
+  pub read : answer ≡ place_of address (list_in pool address)

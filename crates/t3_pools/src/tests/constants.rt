@@ -69,8 +69,8 @@ fn constants_go_over_the_borders_of_pages(rt: HostRuntime) -> Result<(), Fail> {
 #[test]
 fn a_hole_ends_constants(rt: HostRuntime) -> Result<(), Fail> {
     let alloc = rt.alloc();
-    // Pages of 8 bytes. The first is one byte short, within a text; the second too, within a list. A length
-    // goes from the third to the last.
+    // Pages of 8 bytes. The first is one byte short, within a text; the second too, within a list. A
+    // length goes from the third to the last.
     let pages: [&[u8]; 4] = [
         b"\x02\x00ab\x02\x00a",
         b"a\x01\x00\x02\x00\x00\x00",

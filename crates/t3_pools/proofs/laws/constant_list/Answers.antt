@@ -1,4 +1,4 @@
-use Rattle.t3_pools.proofs.Reading.{list_in-stands, stands-list_in}
+use Rattle.t3_pools.proofs.Lists.{list_in-stands, stands-list_in}
 use Rattle.t3_pools.proofs.laws.constant_list.Goals as goal
 
 pub returns-clause-read : goal.returns-clause-read

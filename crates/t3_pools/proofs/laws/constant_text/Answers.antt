@@ -1,4 +1,4 @@
-use Rattle.t3_pools.proofs.Reading.{text_in-stands, stands-text_in}
+use Rattle.t3_pools.proofs.Texts.{text_in-stands, stands-text_in}
 use Rattle.t3_pools.proofs.laws.constant_text.Goals as goal
 
 pub returns-clause-read : goal.returns-clause-read

@@ -1,4 +1,4 @@
-use Rattle.std.proofs.Common.{true, false, rules}
+use Rattle.std.proofs.Common.{true, false}
 use Rattle.t3_pools.specs.Pool.{said_of}
 use Rattle.t3_pools.proofs.Rules.{AreSheets, tested, is_far_sheet, is_long_sheet, far, not_far, long, not_long, twice as has_twice, not_twice, lacks, not_lacking, fits, narrow, gathered_pool, keeps_none, keeps_index, keeps_twice, keeps_missing, keeps_long}
 use Rattle.t3_pools.proofs.pages.pages_of.Goals as goal
@@ -68,7 +68,7 @@ returns c =
     c.if-has_long.false in (
       record {
         size = c.requires.size;
-      pool = gathered_pool c.args.number said c.args.layout sheets c.in-Some.sorted _ are near sorts orders short;
+        pool = gathered_pool c.args.number said c.args.layout sheets c.in-Some.sorted _ are near sorts orders short;
         fits = fits c.args.number said c.args.layout sheets c.in-Some.sorted _ are near sorts orders short;
         narrow = narrow said c.args.layout c.in-Some.sorted _ c.requires orders;
       },

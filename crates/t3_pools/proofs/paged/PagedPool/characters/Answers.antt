@@ -1,19 +1,13 @@
-use Rattle.std.proofs.Common.{◌≡◌, ℕ, length, min, length-take, refl, sym, ap, ◌∙◌, arith}
-use Rattle.t3_pools.proofs.Reading.{characters-stand, window-none, gap-none, no_characters}
+use Rattle.std.proofs.Common.{◌≡◌, ℕ, length, min, length-take, arith}
+use Rattle.t3_pools.proofs.Texts.{window-begins, gap-none, no_characters}
 use Rattle.t3_pools.proofs.paged.PagedPool.characters.Goals as goal
 
 pub returns-then-fill-clause-begins : goal.returns-then-fill-clause-begins
 returns-then-fill-clause-begins c =
     let long : length c.fill.new.window ≡ min c.args.left 4 =
     (let kept = c.fill.auto.window in let took = c.min.ensures in grind (arith, kept, length-take {A = ℕ})) in
-    let within = c.whole_characters.ensures.within in
-    record {
-      within = omega arith;
-      whole = characters-stand c.args.self.now.bytes c.args.address c.whole_characters.result c.fill.new.window c.if-fill.ensures.fills
-          c.whole_characters.ensures;
-      none = λ none. window-none c.args.self.now.bytes c.args.address c.args.left c.whole_characters.result c.fill.new.window c.if-fill.ensures.fills
-          long c.whole_characters.ensures none c.requires;
-    }
+    window-begins c.args.self.now.bytes c.args.address c.args.left c.whole_characters.result c.fill.new.window c.if-fill.ensures.fills
+    c.whole_characters.ensures c.requires long
 
 pub returns-else-fill-clause-begins : goal.returns-else-fill-clause-begins
 returns-else-fill-clause-begins c =

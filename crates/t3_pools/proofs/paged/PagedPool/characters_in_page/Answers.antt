@@ -1,7 +1,4 @@
-use Rattle.std.proofs.Common.{ℕ, List, take, sym, subst}
-use Rattle.t3_pools.specs.Pool.{HasBytes}
-use Rattle.t3_pools.specs.Inner.Reading.{IsLongestUtf8}
-use Rattle.t3_pools.proofs.Reading.{characters-stand}
+use Rattle.t3_pools.proofs.Texts.{characters-stand}
 use Rattle.t3_pools.proofs.Standing.{stands_take}
 use Rattle.t3_pools.proofs.paged.PagedPool.characters_in_page.Goals as goal
 

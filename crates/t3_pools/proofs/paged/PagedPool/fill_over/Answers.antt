@@ -2,7 +2,6 @@ use Rattle.std.proofs.Common.{◌≡◌, ◌+◌, ℕ, List, [], ◌∷◌, leng
 use Rattle.std.specs.FinMap.{get}
 use Rattle.std.proofs.lemmas.List.{length-take-le, length-set, take_more_set, take_all}
 use Rattle.t3_pools.specs.Pool.{HasBytes}
-use Rattle.t3_pools.specs.Constants.{bytes_in}
 use Rattle.t3_pools.proofs.Standing.{stands_both, bytes_in-gap}
 use Rattle.t3_pools.proofs.paged.PagedPool.fill_over.Goals as goal
 

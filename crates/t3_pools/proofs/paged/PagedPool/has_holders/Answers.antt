@@ -1,4 +1,4 @@
-use Rattle.t3_pools.proofs.Reading.{passed-more, passed-gap}
+use Rattle.t3_pools.proofs.Lists.{passed-more, passed-gap}
 use Rattle.t3_pools.proofs.paged.PagedPool.has_holders.Goals as goal
 
 pub returns-then-is_none-clause-reads : goal.returns-then-is_none-clause-reads

@@ -1,4 +1,4 @@
-use Rattle.t3_pools.proofs.Reading.{Passed}
+use Rattle.t3_pools.proofs.Lists.{Passed}
 use Rattle.t3_pools.proofs.paged.PagedPool.has_holders.Given as goal
 
 abbrev pub invariant-loop : goal.invariant-loop

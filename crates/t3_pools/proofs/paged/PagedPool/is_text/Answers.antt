@@ -1,5 +1,5 @@
 use Rattle.std.proofs.Common.{arith}
-use Rattle.t3_pools.proofs.Reading.{begun-none, begun-more, begun-all, begun-stops}
+use Rattle.t3_pools.proofs.Texts.{begun-more, begun-stops}
 use Rattle.t3_pools.proofs.paged.PagedPool.is_text.Goals as goal
 
 pub returns-then-found-eq0-clause-reads : goal.returns-then-found-eq0-clause-reads

@@ -1,4 +1,4 @@
-use Rattle.t3_pools.proofs.Reading.{Begun}
+use Rattle.t3_pools.proofs.Texts.{Begun}
 use Rattle.t3_pools.proofs.paged.PagedPool.is_text.Given as goal
 
 abbrev pub invariant-loop-left : goal.invariant-loop-left

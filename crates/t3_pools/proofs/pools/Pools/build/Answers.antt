@@ -26,8 +26,10 @@ returns-clause-decides c =
     let code = rw c.deref-2.ensures.value at c.in_ok-new.ensures in
     let constants = rw c.deref-3.ensures.value at c.in_ok-new-2.ensures in
     let first = c.in_ok-code.ensures.1.0 in
-    let second = c.in_ok-code.ensures.1.1 in
-    (subst (λ (b : List PlacedBlock). KeepsRules b) blocks c.in_ok-code.ensures.0, both_pools c.deref.result.now _ _ (first.pool ∙ ap (λ (p : PagedPoolValue). p.bytes) (sym code))
-    (second.pool ∙ ap (λ (p : PagedPoolValue). p.bytes) (sym constants))
-    (first.size ∙ ap (λ (p : PagedPoolValue). p.page_size) (sym code))
-    (second.size ∙ ap (λ (p : PagedPoolValue). p.page_size) (sym constants)) ∙ ap pools_in blocks)
+    let second = c.in_ok-code.ensures.1.1 in (
+      subst (λ (b : List PlacedBlock). KeepsRules b) blocks c.in_ok-code.ensures.0,
+      both_pools c.deref.result.now _ _ (first.pool ∙ ap (λ (p : PagedPoolValue). p.bytes) (sym code))
+          (second.pool ∙ ap (λ (p : PagedPoolValue). p.bytes) (sym constants))
+          (first.size ∙ ap (λ (p : PagedPoolValue). p.page_size) (sym code))
+          (second.size ∙ ap (λ (p : PagedPoolValue). p.page_size) (sym constants)) ∙ ap pools_in blocks,
+    )
