@@ -8,7 +8,7 @@ use Rattle.t3_holder.specs.HolderText.{raw_text, IsRaw, Means, IsNoHolder}
 use Rattle.t3_holder.specs.declared.holder.Raw.{Raw}
 use Rattle.t3_holder.specs.declared.holder.Holder.{Holder}
 use Rattle.t3_pools.specs.Pool.{Pool, HasBytes}
-use Rattle.t3_pools.specs.Constants.{HasHolder, HasHolders, HasList, bytes_in, number_in, holder_in, holders_in, list_in, meaning_of, place_of, IsOfBytes}
+use Rattle.t3_pools.specs.Constants.{HasHolder, HasHolders, HasList, bytes_in, number_in, holder_in, holders_in, list_in, meaning_of, extent_of, IsOfBytes}
 use Rattle.t3_pools.specs.Inner.Reading.{IsNumber, ReadsHolder, ReadsHolders, ListAnswer}
 use Rattle.t3_pools.proofs.Standing.{number_in-none, number_in-stands, stands-number_in, none_then}
 use Rattle.t3_pools.proofs.Meaning.{meaning-meant, meant-meaning, meaning-none}
@@ -151,7 +151,7 @@ list_in-stands pool address elements has =
 no_list : (pool : Pool) (address : ℕ) → list_in pool address ≡ None → ListAnswer pool address None
 no_list pool address none = record {
   list = λ elements has. none-some elements (sym none ∙ list_in-stands pool address elements has);
-  read = sym (ap (λ o. place_of address o) none);
+  read = sym (ap (λ o. extent_of address o) none);
 }
 
 pub list-gap : (pool : Pool) (address : ℕ) → number_in 2 pool address ≡ None → ListAnswer pool address None
@@ -178,7 +178,7 @@ list-found pool address count number found =
     } in
     record {
       list = (found.0, (has, (refl, sym size)));
-      read = ap (λ n. Some (address + 2, n)) (sym size) ∙ sym (ap (λ o. place_of address o) (list_in-stands pool address found.0 has));
+      read = ap (λ n. Some (address + 2, n)) (sym size) ∙ sym (ap (λ o. extent_of address o) (list_in-stands pool address found.0 has));
     }
 
 -- ---- what is read stands

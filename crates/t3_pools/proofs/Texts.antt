@@ -8,7 +8,7 @@ use Rattle.std.proofs.lemmas.Str.{IsUtf8-append, IsUtf8-nil, IsUtf8-from_is_utf8
 use Rattle.t3_holder.specs.NumberText.{little_endian}
 use Rattle.t3_holder.proofs.Numbers.{length-little_endian}
 use Rattle.t3_pools.specs.Pool.{Pool, HasBytes}
-use Rattle.t3_pools.specs.Constants.{HasText, bytes_in, number_in, text_in, as_utf8, place_of, IsOfBytes}
+use Rattle.t3_pools.specs.Constants.{HasText, bytes_in, number_in, text_in, as_utf8, extent_of, IsOfBytes}
 use Rattle.t3_pools.specs.Inner.Reading.{IsNumber, HasCharacters, BeginsText, IsLongestUtf8, TextAnswer}
 use Rattle.t3_pools.proofs.Standing.{stands_both, stands_left, stands_right, stands_take, same_bytes, bytes_in-stands, stands-bytes_in, length-bytes_in, number_in-stands, stands-number_in}
 use Rattle.t3_pools.proofs.Utf8.{utf8-rest, utf8-first}
@@ -185,7 +185,7 @@ text_in-unfit pool address count fits stands none =
 none_answer : (pool : Pool) (address : ℕ) → text_in pool address ≡ None → TextAnswer pool address None
 none_answer pool address none = record {
   text = λ text has. none-some text (sym none ∙ text_in-stands pool address text has);
-  read = sym (ap (λ o. place_of address o) none);
+  read = sym (ap (λ o. extent_of address o) none);
 }
 
 pub text-gap : (pool : Pool) (address : ℕ) → number_in 2 pool address ≡ None → TextAnswer pool address None
@@ -202,7 +202,7 @@ text-found pool address count number found =
     record {
       text = (found.0, (has, (refl, sym found.1.0)));
       read = ap (λ n. Some (address + 2, n)) (sym found.1.0)
-          ∙ sym (ap (λ o. place_of address o) (text_in-stands pool address found.0 has));
+          ∙ sym (ap (λ o. extent_of address o) (text_in-stands pool address found.0 has));
     }
 
 -- ---- what is read stands

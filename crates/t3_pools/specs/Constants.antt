@@ -102,9 +102,9 @@ holders_in (suc count) pool address =
 unfoldable pub list_in : Pool → ℕ → Option (List Holder)
 list_in pool address = option_and_then (λ count. holders_in count pool (address + 2)) (number_in 2 pool address)
 
--- where a text is and how long; where a list's holders are and how many
-abbrev pub place_of : {Item : Type 0} → ℕ → Option (List Item) → Option (ℕ × ℕ)
-place_of address found = option_map (λ items. (address + 2, length items)) found
+-- the address of the first byte of a text and its length, or of the first holder of a list and its count
+abbrev pub extent_of : {Item : Type 0} → ℕ → Option (List Item) → Option (ℕ × ℕ)
+extent_of address found = option_map (λ items. (address + 2, length items)) found
 
 -- each byte of the pool fits a byte
 abbrev pub IsOfBytes : Pool → Type 0

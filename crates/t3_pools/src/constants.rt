@@ -150,13 +150,13 @@ impl PagedPool {
         ensures fills { Fills self.now.bytes address window.new result }
         ensures bounded { IsTrue result → 0 < length window.new → address + length window.new ≤ 2 ^ 31 }
     {
-        let mut place = address;
+        let mut next = address;
         for slot in window.iter_mut() {
-            match self.byte(place) {
+            match self.byte(next) {
                 Some(byte) => *slot = byte,
                 None => return false,
             }
-            place += 1;
+            next += 1;
         }
         true
     }

@@ -2,7 +2,7 @@ ghost use Rattle.std.specs.Prelude.{◌≡◌, ◌≢◌, ◌<◌, ◌≤◌, �
 ghost use Rattle.std.specs.FinMap.{get};
 ghost use Rattle.t3_pools.specs.Pool.{numbered, page_size_of, pools_in, HasBytes, ReachesPageEnd};
 ghost use Rattle.t3_pools.specs.Building.{Builds};
-ghost use Rattle.t3_pools.specs.Constants.{FindsText, FindsList, place_of, text_in, list_in};
+ghost use Rattle.t3_pools.specs.Constants.{FindsText, FindsList, extent_of, text_in, list_in};
 
 use crate::paged::PagedPool;
 use crate::pages::gathered;
@@ -80,7 +80,7 @@ impl Pools {
     /// bytes that are UTF-8. It may go over the borders of pages, and takes no memory.
     pub fn text_at(&self, address: u32) -> Option<(u32, u16)>
         ensures text { FindsText self.now.constants address result }
-        ensures read { result ≡ place_of address (text_in self.now.constants address) }
+        ensures read { result ≡ extent_of address (text_in self.now.constants address) }
         ensures bounded { IfSome result (λ found. found.0 + found.1 ≤ 2 ^ 31) }
     {
         self.constants.text_at(address)
@@ -92,7 +92,7 @@ impl Pools {
     /// no memory.
     pub fn list_at(&self, address: u32) -> Option<(u32, u16)>
         ensures list { FindsList self.now.constants address result }
-        ensures read { result ≡ place_of address (list_in self.now.constants address) }
+        ensures read { result ≡ extent_of address (list_in self.now.constants address) }
         ensures bounded { IfSome result (λ found. found.0 + 5 * found.1 ≤ 2 ^ 31) }
     {
         self.constants.list_at(address)

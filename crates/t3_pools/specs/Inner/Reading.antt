@@ -4,7 +4,7 @@ use Rattle.std.specs.Str.{IsUtf8}
 use Rattle.t3_holder.specs.NumberText.{little_endian}
 use Rattle.t3_holder.specs.declared.holder.Holder.{Holder}
 use Rattle.t3_pools.specs.Pool.{Pool, HasBytes}
-use Rattle.t3_pools.specs.Constants.{bytes_in, number_in, text_in, list_in, holder_in, holders_in, place_of, HasHolder, HasHolders, FindsText, FindsList}
+use Rattle.t3_pools.specs.Constants.{bytes_in, number_in, text_in, list_in, holder_in, holders_in, extent_of, HasHolder, HasHolders, FindsText, FindsList}
 
 -- a window has the bytes from an address on; or not all of them are there
 abbrev pub Fills : Pool → ℕ → List ℕ → Bool → Type 0
@@ -55,9 +55,9 @@ pub record IsLongestUtf8 (bytes : List ℕ) (found : ℕ) : Type 0 where
 -- which constant string stands at an address, and which is read there
 pub record TextAnswer (pool : Pool) (address : ℕ) (answer : Option (ℕ × ℕ)) : Type 0 where
   pub text : FindsText pool address answer
-  pub read : answer ≡ place_of address (text_in pool address)
+  pub read : answer ≡ extent_of address (text_in pool address)
 
 -- which constant list stands at an address, and which is read there
 pub record ListAnswer (pool : Pool) (address : ℕ) (answer : Option (ℕ × ℕ)) : Type 0 where
   pub list : FindsList pool address answer
-  pub read : answer ≡ place_of address (list_in pool address)
+  pub read : answer ≡ extent_of address (list_in pool address)

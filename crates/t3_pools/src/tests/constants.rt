@@ -95,3 +95,20 @@ fn a_hole_ends_constants(rt: HostRuntime) -> Result<(), Fail> {
     assert_eq!(rt; none.list_at(0), None);
     Ok(())
 }
+
+#[test]
+fn the_longest_text_and_one_that_is_cut(rt: HostRuntime) -> Result<(), Fail> {
+    let alloc = rt.alloc();
+    let mut bytes = Vec::from_slice(alloc, b"\xFF\xFF")?;
+    bytes.resize(65_537, b'x')?;
+    let rows: [(usize, Option<(u32, u16)>); 2] = [(65_537, Some((2, 65_535))), (65_536, None)];
+    for (size, want) in rows {
+        bytes.truncate(size);
+        let mut pages = Vec::new(alloc);
+        for page in bytes.chunks(1000) {
+            pages.push(page)?;
+        }
+        assert_eq!(rt; constants(alloc, 1000, &pages)?.text_at(0), want, "{size}");
+    }
+    Ok(())
+}

@@ -24,14 +24,14 @@ loop-slot-preserved c =
     let kept = c.loop-slot.auto.window in
     let long = length-take-le index window (omega arith) in
     let at = c.loop-slot.invariant.at in
-    let place : c.args.address + length (take index window) ≡ c.loop-slot.place = omega arith in
+    let here : c.args.address + length (take index window) ≡ c.loop-slot.next = omega arith in
     let below = c.in-Some.ensures.bounded in
     record {
       at = omega arith;
       below = λ some. omega arith;
       stands = subst (λ (b : List ℕ). HasBytes pool c.args.address b) (sym (take_more_set window index c.in-Some.byte (omega arith)))
           (stands_both pool (take index window) (c.in-Some.byte ∷ []) c.args.address c.loop-slot.invariant.stands
-          (ap (λ a. get pool a) place ∙ sym c.in-Some.ensures.byte, tt));
+          (ap (λ a. get pool a) here ∙ sym c.in-Some.ensures.byte, tt));
     }
 
 pub returns-clause-fills : goal.returns-clause-fills
