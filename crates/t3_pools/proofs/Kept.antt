@@ -1,17 +1,18 @@
 -- The bytes of a kept pool.
-use Rattle.std.proofs.Common.{◌≡◌, ◌≢◌, ℕ, zero, suc, ◌+◌, ◌*◌, ◌/◌, ◌%◌, ◌<◌, ◌≤◌, inl, inr, subst, Bool, true, false, cond, nat_eq, nat_lt, ◌||◌, List, [], ◌∷◌, ◌++◌, drop, length, Option, Some, None, refl, sym, ap, ◌∙◌, arith}
+use Rattle.std.proofs.Common.{◌≡◌, ◌≢◌, ℕ, zero, suc, ◌+◌, ◌*◌, ◌/◌, ◌%◌, ◌^◌, ◌<◌, ◌≤◌, ◌⊎◌, inl, inr, subst, Bool, true, false, cond, nat_eq, nat_lt, ◌||◌, List, [], ◌∷◌, ◌++◌, drop, length, Option, Some, None, refl, sym, ap, ◌∙◌, arith}
 use Rattle.std.specs.Ordering.{nat_cmp}
 use Rattle.std.specs.Cmp.{nat_cmp_total}
 use Rattle.std.specs.FinMap.{get, find, from_entries, get-from_entries, same_map, nat_cmp-IsAntisymmetric}
 use Rattle.std.specs.List.{flat_map, list_any, slice_get}
-use Rattle.std.proofs.lemmas.Bool.{ltb-false, cases_eq, eq-eqb}
+use Rattle.std.proofs.lemmas.Bool.{ltb-false, cases_lt, cases_eq, eq-eqb}
 use Rattle.std.proofs.lemmas.Option.{slice_get_past}
 use Rattle.std.proofs.lemmas.List.{length-drop}
 use Rattle.std.proofs.Math.Nat.{div-add-mod, mul-le-mul_right}
 use Rattle.t3_pools.specs.Pool.{Pool, Paged, page_bytes, HasBytes}
 use Rattle.t3_pools.specs.Building.{pages_at}
 use Rattle.t3_pools.specs.Finding.{listed}
-use Rattle.t3_pools.specs.Inner.Keeping.{paged_from, kept_pool, IsKept, bytes_of, run_in, Runs}
+use Rattle.t3_pools.specs.Inner.Keeping.{paged_from, kept_bytes, IsKept, bytes_of, run_in, Runs}
+use Rattle.t3_pools.proofs.Standing.{stands_each}
 use Rattle.t3_pools.proofs.Bytes.{or_else-none, first_at, is_any_long, find_pages, find_none, or_parts_left, or_parts_right}
 
 abbrev pub one : Option (List ℕ) → List (List ℕ)
@@ -55,8 +56,8 @@ first_at-one place (Some page) = or_else-none (slice_get page place)
 -- pages that say the same at each index make one pool
 pub same_pool : (size : ℕ) (all : List Paged) (pages : List (List ℕ)) → is_any_long size all ≡ false → is_long_in size pages ≡ false
     → ((index : ℕ) → pages_at index all ≡ one (slice_get pages index))
-    → from_entries (flat_map (page_bytes size) all) ≡ kept_pool size pages
-unfolding kept_pool
+    → from_entries (flat_map (page_bytes size) all) ≡ kept_bytes size pages
+unfolding kept_bytes
 same_pool zero all pages short fits same =
     same_map nat_cmp_total nat_cmp-IsAntisymmetric _ _ (λ address.
     get-from_entries nat_cmp_total (flat_map (page_bytes 0) all) address ∙ find_none address all short
@@ -77,16 +78,16 @@ same_pool (suc n) all pages short fits same =
 
 -- the byte at a place of a page
 pub kept_byte : (size index place : ℕ) (pages : List (List ℕ)) → place < size → is_long_in size pages ≡ false
-    → get (kept_pool size pages) (index * size + place) ≡ slice_get (bytes_of (slice_get pages index)) place
-unfolding kept_pool
+    → get (kept_bytes size pages) (index * size + place) ≡ slice_get (bytes_of (slice_get pages index)) place
+unfolding kept_bytes
 kept_byte size index place pages inside fits =
     get-from_entries nat_cmp_total (flat_map (page_bytes size) (paged_from 0 pages)) (index * size + place)
     ∙ find_pages size index place (paged_from 0 pages) inside (long_paged size pages 0 ∙ fits)
     ∙ ap (λ o. first_at place o) (pages_at-paged_from pages index)
     ∙ first_at-one place (slice_get pages index)
 
-pub kept_none : (pages : List (List ℕ)) (address : ℕ) → is_long_in 0 pages ≡ false → get (kept_pool 0 pages) address ≡ None
-unfolding kept_pool
+pub kept_none : (pages : List (List ℕ)) (address : ℕ) → is_long_in 0 pages ≡ false → get (kept_bytes 0 pages) address ≡ None
+unfolding kept_bytes
 kept_none pages address fits =
     get-from_entries nat_cmp_total (flat_map (page_bytes 0) (paged_from 0 pages)) address
     ∙ find_none address (paged_from 0 pages) (long_paged 0 pages 0 ∙ fits)
@@ -97,17 +98,6 @@ fitting size zero (page ∷ pages) fits = ltb-false size (length page)
     (or_parts_left (nat_lt size (length page)) (is_long_in size pages) fits)
 fitting size (suc index) (page ∷ pages) fits = fitting size index pages
     (or_parts_right (nat_lt size (length page)) (is_long_in size pages) fits)
-
-pub has_bytes : (pool : Pool) (bytes : List ℕ) (at : ℕ) → ((j : ℕ) → j < length bytes → get pool (at + j) ≡ slice_get bytes j)
-    → HasBytes pool at bytes
-has_bytes pool [] at each = tt
-has_bytes pool (byte ∷ bytes) at each =
-    let here : at ≡ at + 0 = omega arith in (
-      ap (λ n. get pool n) here ∙ each 0 (omega arith),
-      has_bytes pool bytes (at + 1) (λ j inside.
-          let later : (at + 1) + j ≡ at + suc j = omega arith in
-          ap (λ n. get pool n) later ∙ each (suc j) (omega arith)),
-    )
 
 slice_get-drop : (bytes : List ℕ) (place j : ℕ) → slice_get (drop place bytes) j ≡ slice_get bytes (place + j)
 slice_get-drop bytes zero j = let from : j ≡ 0 + j = omega arith in ap (λ n. slice_get bytes n) from
@@ -125,16 +115,42 @@ there [] index h = absurd (omega arith)
 there (page ∷ pages) zero h = omega arith
 there (page ∷ pages) (suc index) h = let rest = there pages index h in omega arith
 
+-- bytes that reach from a place of a page to its end
+record Reaches (size place : ℕ) (pool : Pool) (address : ℕ) (bytes : List ℕ) : Type 0 where
+  pub stand : HasBytes pool address bytes
+  pub empty : bytes ≡ [] → get pool address ≡ None
+  pub narrow : 0 < length bytes → address + length bytes ≤ 2 ^ 31
+  pub within : 0 < length bytes → place + length bytes ≤ size
+  pub ends : (place + length bytes ≡ size) ⊎ (get pool (address + length bytes) ≡ None)
+
+-- a run ends where its page does, or behind the bytes of a short page
+reaches_end : (size index place : ℕ) (pages : List (List ℕ)) → place < size → is_long_in size pages ≡ false
+    → (place + length (drop place (bytes_of (slice_get pages index))) ≡ size)
+    ⊎ (get (kept_bytes size pages) ((index * size + place) + length (drop place (bytes_of (slice_get pages index)))) ≡ None)
+reaches_end size index place pages inside fits =
+    let page : List ℕ = bytes_of (slice_get pages index) in
+    let short : length (bytes_of (slice_get pages index)) ≤ size = fitting size index pages fits in
+    let left = length-drop place (bytes_of (slice_get pages index)) in
+    elim (cases_lt (place + length (drop place (bytes_of (slice_get pages index)))) size) [
+      | inl before ↦
+          let at : (index * size + place) + length (drop place (bytes_of (slice_get pages index)))
+          ≡ index * size + (place + length (drop place (bytes_of (slice_get pages index)))) = omega arith in
+          inr (ap (λ n. get (kept_bytes size pages) n) at
+          ∙ kept_byte size index (place + length (drop place (bytes_of (slice_get pages index)))) pages before fits
+          ∙ slice_get_past (bytes_of (slice_get pages index)) (place + length (drop place (bytes_of (slice_get pages index)))) (omega arith))
+      | inr past ↦ inl (omega arith)
+    ]
+
 runs_at : (size index place : ℕ) (pages : List (List ℕ)) → place < size → IsKept size pages
-    → Runs (kept_pool size pages) (index * size + place) (drop place (bytes_of (slice_get pages index)))
+    → Reaches size place (kept_bytes size pages) (index * size + place) (drop place (bytes_of (slice_get pages index)))
 runs_at size index place pages inside kept =
     let page : List ℕ = bytes_of (slice_get pages index) in
     let short : length (bytes_of (slice_get pages index)) ≤ size = fitting size index pages kept.fits in
     let left = length-drop place (bytes_of (slice_get pages index)) in
     record {
-      stand = has_bytes (kept_pool size pages) (drop place (bytes_of (slice_get pages index))) (index * size + place) (λ j within.
+      stand = stands_each (kept_bytes size pages) (drop place (bytes_of (slice_get pages index))) (index * size + place) (λ j within.
           let along : (index * size + place) + j ≡ index * size + (place + j) = omega arith in
-          ap (λ n. get (kept_pool size pages) n) along ∙ kept_byte size index (place + j) pages (omega arith) kept.fits
+          ap (λ n. get (kept_bytes size pages) n) along ∙ kept_byte size index (place + j) pages (omega arith) kept.fits
           ∙ sym (slice_get-drop (bytes_of (slice_get pages index)) place j));
       empty = λ none. kept_byte size index place pages inside kept.fits
           ∙ slice_get_past (bytes_of (slice_get pages index)) place (drop-empty (bytes_of (slice_get pages index)) place none);
@@ -144,6 +160,8 @@ runs_at size index place pages inside kept =
           let one_more : (index + 1) * size ≡ index * size + size = omega arith in
           let narrow = kept.narrow in
           omega arith;
+      within = λ some. omega arith;
+      ends = reaches_end size index place pages inside kept.fits;
     }
 
 run_in-drop : (size : ℕ) (pages : List (List ℕ)) (address : ℕ) → size ≢ 0
@@ -163,16 +181,36 @@ pub run_in-page : (size : ℕ) (pages : List (List ℕ)) (address : ℕ) (page :
     → drop (address % size) page ≡ run_in size pages address
 run_in-page size pages address page some is = sym (run_in-drop size pages address some ∙ ap (λ p. drop (address % size) p) is)
 
+to_runs : (size address : ℕ) (pool : Pool) (bytes : List ℕ) → Reaches size (address % size) pool address bytes
+    → Runs size pool address bytes
+to_runs size address pool bytes reaches = record {
+  stand = reaches.stand;
+  empty = reaches.empty;
+  narrow = reaches.narrow;
+  whole = record { within = reaches.within; ends = reaches.ends };
+}
+
+no_run : (size : ℕ) (pages : List (List ℕ)) (address : ℕ) → IsKept size pages → size ≡ 0 → Runs size (kept_bytes size pages) address []
+no_run size pages address kept none =
+    let zero_size : is_long_in 0 pages ≡ false = subst (λ (n : ℕ). is_long_in n pages ≡ false) none kept.fits in
+    let nothing : (at : ℕ) → get (kept_bytes size pages) at ≡ None =
+    λ at. ap (λ n. get (kept_bytes n pages) at) none ∙ kept_none pages at zero_size in
+    record {
+      stand = tt;
+      empty = λ h. nothing address;
+      narrow = λ h. absurd (omega arith);
+      whole = record { within = λ h. absurd (omega arith); ends = inr (nothing (address + 0)) };
+    }
+
 pub runs_in : (size : ℕ) (pages : List (List ℕ)) (address : ℕ) → IsKept size pages
-    → Runs (kept_pool size pages) address (run_in size pages address)
+    → Runs size (kept_bytes size pages) address (run_in size pages address)
 runs_in size pages address kept = elim (cases_eq size 0) [
-  | inl none ↦
-      let zero_size : is_long_in 0 pages ≡ false = subst (λ (n : ℕ). is_long_in n pages ≡ false) none kept.fits in
-      subst (λ (run : List ℕ). Runs (kept_pool size pages) address run) (run_in-zero size pages address none)
-      (record { stand = tt; empty = λ h. ap (λ n. get (kept_pool n pages) address) none ∙ kept_none pages address zero_size; narrow = λ h. absurd (omega arith) })
+  | inl none ↦ subst (λ (run : List ℕ). Runs size (kept_bytes size pages) address run) (run_in-zero size pages address none)
+      (no_run size pages address kept none)
   | inr some ↦
       let at : address / size * size + address % size ≡ address = omega (arith, div-add-mod address size) in
-      subst (λ (run : List ℕ). Runs (kept_pool size pages) address run) (sym (run_in-drop size pages address some))
-      (subst (λ (a : ℕ). Runs (kept_pool size pages) a (drop (address % size) (bytes_of (slice_get pages (address / size))))) at
-      (runs_at size (address / size) (address % size) pages (omega arith) kept))
+      subst (λ (run : List ℕ). Runs size (kept_bytes size pages) address run) (sym (run_in-drop size pages address some))
+      (to_runs size address (kept_bytes size pages) (drop (address % size) (bytes_of (slice_get pages (address / size))))
+      (subst (λ (a : ℕ). Reaches size (address % size) (kept_bytes size pages) a (drop (address % size) (bytes_of (slice_get pages (address / size))))) at
+      (runs_at size (address / size) (address % size) pages (omega arith) kept)))
 ]

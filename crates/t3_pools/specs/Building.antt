@@ -4,16 +4,12 @@ use Rattle.std.specs.List.{flat_map, list_any}
 use Rattle.t3_image_read.specs.declared.image.PlacedBlock.{PlacedBlock}
 use Rattle.t3_pools.specs.declared.refusal.PoolRefusal.{PoolRefusal}
 use Rattle.t3_pools.specs.declared.refusal.PoolRefusal.TheVariants.{NoCode, TwoDefs, TooWide, PageIndex, PageTwice, PageMissing, PageLong, NoMemory}
-use Rattle.t3_pools.specs.Pool.{Defined, Paged, PoolsValue, Said, said_of, pools_in}
+use Rattle.t3_pools.specs.Pool.{Defined, Paged, PoolsValue, Said, said_of, size_by, pools_in}
 
--- the page count and the page size by the first definition, 0 where there is none
+-- the page count by the first definition, 0 where there is none
 abbrev pub count_by : List Defined → ℕ
 count_by [] = 0
 count_by (d ∷ _) = d.count
-
-abbrev pub size_by : List Defined → ℕ
-size_by [] = 0
-size_by (d ∷ _) = d.size
 
 -- what the pages of an index hold
 abbrev pub at_index : ℕ → Paged → List (List ℕ)

@@ -1,2 +1,4 @@
 pub mod Keeping
+pub mod Breaking
 pub mod Gathering
+pub mod Reading

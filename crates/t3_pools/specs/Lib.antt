@@ -1,4 +1,5 @@
 pub mod Pool
 pub mod Building
 pub mod Finding
+pub mod Constants
 pub mod Inner

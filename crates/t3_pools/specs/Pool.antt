@@ -1,5 +1,5 @@
 -- The pools of an image as finite maps from addresses to bytes (the chapter on the image format).
-use Rattle.std.specs.Prelude.{◌≡◌, ℕ, ◌+◌, ◌*◌, ◌==◌, refl, Some, List, [], ◌∷◌, if◌then◌else◌}
+use Rattle.std.specs.Prelude.{◌≡◌, ℕ, ◌+◌, ◌*◌, ◌%◌, ◌<◌, ◌≤◌, ◌==◌, ◌⊎◌, refl, Some, None, length, List, [], ◌∷◌, if◌then◌else◌}
 use Rattle.std.specs.Ordering.{nat_cmp}
 use Rattle.std.specs.FinMap.{FinMap, get, from_entries, empty, code as coded_map}
 use Rattle.std.specs.List.{flat_map, filter}
@@ -12,18 +12,45 @@ use Rattle.t3_image_read.specs.declared.image.PlacedBlock.{PlacedBlock}
 abbrev pub Pool : Type 0
 Pool = FinMap nat_cmp ℕ
 
--- the two pools that a story uses
+-- a pool, and the size of the pages in which it is laid out
+pub record PagedPoolValue : Type 0 where
+  pub bytes : Pool
+  pub page_size : ℕ
+
+abbrev pub coded_paged_pool : Coded PagedPoolValue
+coded_paged_pool =
+    code_by (Pool × ℕ) (coded× (coded_map coded_ℕ coded_ℕ) coded_ℕ) (λ p. (p.bytes, p.page_size))
+    (λ t. record { bytes = t.0; page_size = t.1 }) (λ _. refl)
+
+-- the two pools that a story uses, and the sizes of their pages
 pub record PoolsValue : Type 0 where
   pub code : Pool
   pub constants : Pool
+  pub code_page_size : ℕ
+  pub constant_page_size : ℕ
 
 abbrev pub coded_pools : Coded PoolsValue
 coded_pools =
-    code_by (Pool × Pool) (coded× (coded_map coded_ℕ coded_ℕ) (coded_map coded_ℕ coded_ℕ)) (λ p. (p.code, p.constants)) (λ t. record { code = t.0; constants = t.1 }) (λ _. refl)
+    code_by (PagedPoolValue × PagedPoolValue) (coded× coded_paged_pool coded_paged_pool)
+    (λ p. (record { bytes = p.code; page_size = p.code_page_size }, record { bytes = p.constants; page_size = p.constant_page_size }))
+    (λ t. record { code = t.0.bytes; constants = t.1.bytes; code_page_size = t.0.page_size; constant_page_size = t.1.page_size })
+    (λ _. refl)
+
+abbrev pub pools_of : PagedPoolValue → PagedPoolValue → PoolsValue
+pools_of code constants = record {
+  code = code.bytes;
+  constants = constants.bytes;
+  code_page_size = code.page_size;
+  constant_page_size = constants.page_size;
+}
 
 -- the pool of a number: 1 is the code, 2 the constants, and there is no other
 abbrev pub numbered : PoolsValue → ℕ → Pool
 numbered pools number = if number == 1 then pools.code else (if number == 2 then pools.constants else empty)
+
+-- the page size of the pool of a number
+abbrev pub page_size_of : PoolsValue → ℕ → ℕ
+page_size_of pools number = if number == 1 then pools.code_page_size else (if number == 2 then pools.constant_page_size else 0)
 
 -- what a block says of the size of a pool
 pub record Defined : Type 0 where
@@ -81,11 +108,26 @@ pool_of (d ∷ _) all = from_entries (flat_map (page_bytes d.size) all)
 unfoldable pub pool_in : ℕ → List PlacedBlock → Pool
 pool_in number blocks = pool_of (said_of number blocks).definitions (said_of number blocks).pages
 
+-- the page size by the first definition, 0 where there is none
+abbrev pub size_by : List Defined → ℕ
+size_by [] = 0
+size_by (d ∷ _) = d.size
+
 -- both pools of an image
 abbrev pub pools_in : List PlacedBlock → PoolsValue
-pools_in blocks = record { code = pool_in 1 blocks; constants = pool_in 2 blocks }
+pools_in blocks = record {
+  code = pool_in 1 blocks;
+  constants = pool_in 2 blocks;
+  code_page_size = size_by (said_of 1 blocks).definitions;
+  constant_page_size = size_by (said_of 2 blocks).definitions;
+}
 
 -- these bytes stand from an address on
 abbrev pub HasBytes : Pool → ℕ → List ℕ → Type 0
 HasBytes pool at [] = Unit {0}
 HasBytes pool at (byte ∷ bytes) = (get pool at ≡ Some byte) × HasBytes pool (at + 1) bytes
+
+-- these bytes are those from an address to the end of its page, or to the first address in it at which no byte stands
+pub record ReachesPageEnd (size : ℕ) (pool : Pool) (address : ℕ) (bytes : List ℕ) : Type 0 where
+  pub within : 0 < length bytes → address % size + length bytes ≤ size
+  pub ends : (address % size + length bytes ≡ size) ⊎ (get pool (address + length bytes) ≡ None)

@@ -3,7 +3,7 @@ ghost use Rattle.std.specs.Prelude.{◌≡◌, ◌≤◌, ◌*◌, ◌^◌, nat_
 ghost use Rattle.t3_pools.specs.Pool.{said_of};
 ghost use Rattle.t3_pools.specs.Inner.Gathering.{SaysOf, FindsLayouts};
 
-use crate::refusal::PoolRefusal;
+use crate::refusal::DefinitionRule;
 use t3_blocks::Block;
 use t3_image_read::PlacedBlock;
 
@@ -30,7 +30,7 @@ pub(crate) enum Definitions {
 }
 
 /// The layouts of code and of constants, or the first rule that their definitions break.
-pub(crate) fn layouts(blocks: &[PlacedBlock]) -> Result<(Layout, Layout), PoolRefusal>
+pub(crate) fn layouts(blocks: &[PlacedBlock]) -> Result<(Layout, Layout), DefinitionRule>
     ensures { FindsLayouts blocks.now result }
 {
     let none = Layout { count: 0, size: 0 };
@@ -38,13 +38,13 @@ pub(crate) fn layouts(blocks: &[PlacedBlock]) -> Result<(Layout, Layout), PoolRe
         definitions_of(blocks, CODE),
         definitions_of(blocks, CONSTANTS),
     ) {
-        (Definitions::Absent, _) => return Err(PoolRefusal::NoCode),
+        (Definitions::Absent, _) => return Err(DefinitionRule::NoCode),
         (Definitions::Once(code), Definitions::Once(constants)) => (code, constants),
         (Definitions::Once(code), Definitions::Absent) => (code, none),
-        _ => return Err(PoolRefusal::TwoDefs),
+        _ => return Err(DefinitionRule::TwoDefs),
     };
     if is_wide(code) || is_wide(constants) {
-        return Err(PoolRefusal::TooWide);
+        return Err(DefinitionRule::TooWide);
     }
     Ok((code, constants))
 }

@@ -10,14 +10,18 @@
 //! The test `the_example_of_the_first_page` runs this on an image of one page of code.
 #![tactic(auto)]
 
+mod constants;
 mod definitions;
+mod laws;
 mod page_size;
 mod paged;
+mod pages;
 mod pools;
 mod refusal;
 mod sheets;
 #[cfg(test)]
 mod tests;
 
+pub use laws::{constant_list, constant_text};
 pub use pools::Pools;
 pub use refusal::PoolRefusal;

@@ -1,5 +1,6 @@
 //! A pool as it is kept: its pages by their indices, each with its own bytes.
-ghost use Rattle.std.specs.Prelude.{◌≡◌, ◌<◌, ◌*◌, ◌^◌, nat_lt, false, length, map, drop, IfOk};
+ghost use Rattle.std.specs.Prelude.{◌≡◌, ◌<◌, ◌*◌, ◌^◌, nat_lt, false, length, map, drop, IfOk, IfSome};
+ghost use Rattle.std.specs.FinMap.{get};
 ghost use Rattle.std.specs.List.{list_any};
 ghost use Rattle.t3_pools.specs.Inner.Keeping.{run_in, kept_pool, Runs};
 
@@ -8,7 +9,7 @@ use std::alloc::{AllocError, Global};
 use std::marker::Model;
 use t3_holder::Bytes;
 
-/// A pool. Contracts see the map from addresses to bytes.
+/// A pool. Contracts see the map from addresses to bytes, and the page size.
 #[derive(Debug, Drop)]
 pub(crate) struct PagedPool {
     size: PageSize,
@@ -16,14 +17,12 @@ pub(crate) struct PagedPool {
 }
 
 impl Model for PagedPool {
-    ghost use Rattle.std.specs.FinMap.{code as coded_map};
-    ghost use Rattle.std.specs.Coded.{coded_ℕ};
-    ghost use Rattle.t3_pools.specs.Pool.{Pool};
+    ghost use Rattle.t3_pools.specs.Pool.{PagedPoolValue, coded_paged_pool};
     ghost use Rattle.t3_pools.specs.Inner.Keeping.{kept_pool, IsKept};
 
-    ghost Value = { Pool };
+    ghost Value = { PagedPoolValue };
 
-    ghost coded = { coded_map coded_ℕ coded_ℕ };
+    ghost coded = { coded_paged_pool };
 
     ghost view = { λ p. kept_pool p.size.size p.pages.items };
 
@@ -45,9 +44,17 @@ impl PagedPool {
 
     /// The bytes from an address to the end of its page. It is empty exactly where no byte stands there.
     pub(crate) fn run(&self, address: u32) -> &[u8]
-        ensures { Runs self.now address result.now }
+        ensures { Runs self.now.page_size self.now.bytes address result.now }
     {
         run_at(self.size, &self.pages, address)
+    }
+
+    /// The byte at an address, where one stands there.
+    pub(crate) fn byte(&self, address: u32) -> Option<u8>
+        ensures byte { result ≡ get self.now.bytes address }
+        ensures bounded { IfSome result (λ _. address < 2 ^ 31) }
+    {
+        self.run(address).first().copied()
     }
 }
 

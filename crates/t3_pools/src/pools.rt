@@ -1,17 +1,18 @@
-ghost use Rattle.std.specs.Prelude.{◌≡◌, ◌≢◌, ◌<◌, ◌≤◌, ◌+◌, ◌^◌, [], length, IfOk, IfSome};
+ghost use Rattle.std.specs.Prelude.{◌≡◌, ◌≢◌, ◌<◌, ◌≤◌, ◌+◌, ◌*◌, ◌^◌, [], length, IfOk, IfSome};
 ghost use Rattle.std.specs.FinMap.{get};
-ghost use Rattle.t3_pools.specs.Pool.{numbered, pools_in, HasBytes};
+ghost use Rattle.t3_pools.specs.Pool.{numbered, page_size_of, pools_in, HasBytes, ReachesPageEnd};
 ghost use Rattle.t3_pools.specs.Building.{Builds};
+ghost use Rattle.t3_pools.specs.Constants.{FindsText, FindsList, extent_of, text_in, list_in};
 
-use crate::definitions::{CODE, CONSTANTS, layouts};
 use crate::paged::PagedPool;
+use crate::pages::gathered;
 use crate::refusal::PoolRefusal;
-use crate::sheets::{has_far, has_long, in_order, sheets_of, sorted};
 use std::alloc::Global;
 use std::marker::Model;
 use t3_image_read::Image;
 
-/// The code and the constants of an image. Contracts see each pool as a map from addresses to bytes.
+/// The code and the constants of an image. Contracts see each pool as a map from addresses to bytes, and
+/// the size of its pages.
 #[derive(Debug, Drop)]
 pub struct Pools {
     code: PagedPool,
@@ -19,13 +20,13 @@ pub struct Pools {
 }
 
 impl Model for Pools {
-    ghost use Rattle.t3_pools.specs.Pool.{PoolsValue, coded_pools};
+    ghost use Rattle.t3_pools.specs.Pool.{PoolsValue, coded_pools, pools_of};
 
     ghost Value = { PoolsValue };
 
     ghost coded = { coded_pools };
 
-    ghost view = { λ p. record { code = p.code; constants = p.constants } };
+    ghost view = { λ p. pools_of p.code p.constants };
 }
 
 impl Pools {
@@ -40,35 +41,10 @@ impl Pools {
         ensures built { IfOk result (λ pools. pools ≡ pools_in image.now.blocks) }
         ensures decides { Builds image.now.blocks result }
     {
-        let blocks = &image.blocks.0;
-        let (code, constants) = layouts(blocks)?;
-        let code_sheets = sheets_of(alloc, blocks, CODE)?;
-        let constant_sheets = sheets_of(alloc, blocks, CONSTANTS)?;
-        if has_far(&code_sheets, code.count) || has_far(&constant_sheets, constants.count) {
-            return Err(PoolRefusal::PageIndex);
-        }
-        let code_sorted = match sorted(alloc, &code_sheets)? {
-            Some(code_sorted) => code_sorted,
-            None => return Err(PoolRefusal::PageTwice),
-        };
-        let constant_sorted = match sorted(alloc, &constant_sheets)? {
-            Some(constant_sorted) => constant_sorted,
-            None => return Err(PoolRefusal::PageTwice),
-        };
-        let code_pages = match in_order(alloc, &code_sorted, code.count)? {
-            Some(code_pages) => code_pages,
-            None => return Err(PoolRefusal::PageMissing),
-        };
-        let constant_pages = match in_order(alloc, &constant_sorted, constants.count)? {
-            Some(constant_pages) => constant_pages,
-            None => return Err(PoolRefusal::PageMissing),
-        };
-        if has_long(&code_sheets, code.size) || has_long(&constant_sheets, constants.size) {
-            return Err(PoolRefusal::PageLong);
-        }
+        let (code, constants) = gathered(alloc, &image.blocks.0)?;
         Ok(Pools {
-            code: PagedPool::new(alloc, code.size, &code_pages)?,
-            constants: PagedPool::new(alloc, constants.size, &constant_pages)?,
+            code: PagedPool::new(alloc, code.size, &code.pages)?,
+            constants: PagedPool::new(alloc, constants.size, &constants.pages)?,
         })
     }
 
@@ -78,6 +54,8 @@ impl Pools {
         ensures stand { HasBytes (numbered self.now pool) address result.now }
         ensures empty { result.now ≡ [] → get (numbered self.now pool) address ≡ None }
         ensures bounded { result.now ≢ [] → address + length result.now ≤ 2 ^ 31 }
+        ensures whole { ReachesPageEnd (page_size_of self.now pool) (numbered self.now pool) address
+            result.now }
     {
         if pool == 1 {
             self.code.run(address)
@@ -95,5 +73,28 @@ impl Pools {
         ensures bounded { IfSome result (λ _. address < 2 ^ 31) }
     {
         self.run(pool, address).first().copied()
+    }
+
+    /// The address of the first byte of the constant string at an address, and how many bytes it has.
+    /// `None` exactly where no constant string stands there: two bytes of its length, and then so many
+    /// bytes that are UTF-8. It may go over the borders of pages, and takes no memory.
+    pub fn text_at(&self, address: u32) -> Option<(u32, u16)>
+        ensures text { FindsText self.now.constants address result }
+        ensures read { result ≡ extent_of address (text_in self.now.constants address) }
+        ensures bounded { IfSome result (λ found. found.0 + found.1 ≤ 2 ^ 31) }
+    {
+        self.constants.text_at(address)
+    }
+
+    /// The address of the first holder of the constant list at an address, and how many holders it has.
+    /// `None` exactly where no constant list stands there: two bytes of its count, and then so many
+    /// holders of five bytes that each mean something. It may go over the borders of pages, and takes
+    /// no memory.
+    pub fn list_at(&self, address: u32) -> Option<(u32, u16)>
+        ensures list { FindsList self.now.constants address result }
+        ensures read { result ≡ extent_of address (list_in self.now.constants address) }
+        ensures bounded { IfSome result (λ found. found.0 + 5 * found.1 ≤ 2 ^ 31) }
+    {
+        self.constants.list_at(address)
     }
 }

@@ -1,4 +1,5 @@
 ghost use Rattle.std.specs.Prelude.{◌≡◌};
+ghost use Rattle.t3_pools.specs.Inner.Breaking.{definition_refusal, page_refusal};
 ghost use Rattle.t3_pools.specs.declared.refusal.PoolRefusal.TheVariants.{NoMemory as Wanting};
 
 use std::alloc::{AllocError, AllocFailed};
@@ -32,6 +33,48 @@ pub enum PoolRefusal {
     /// An allocation was refused.
     #[error("out of memory")]
     NoMemory,
+}
+
+/// The rules on definitions, in their order.
+#[derive(Clone, Copy, Debug)]
+pub(crate) enum DefinitionRule {
+    NoCode,
+    TwoDefs,
+    TooWide,
+}
+
+/// The rules on pages, in their order.
+#[derive(Clone, Copy, Debug)]
+pub(crate) enum PageRule {
+    Index,
+    Twice,
+    Missing,
+    Long,
+}
+
+impl From<DefinitionRule> for PoolRefusal {
+    ghost from_gives = { λ rule e. e ≡ definition_refusal rule };
+
+    fn from(rule: DefinitionRule) -> PoolRefusal {
+        match rule {
+            DefinitionRule::NoCode => PoolRefusal::NoCode,
+            DefinitionRule::TwoDefs => PoolRefusal::TwoDefs,
+            DefinitionRule::TooWide => PoolRefusal::TooWide,
+        }
+    }
+}
+
+impl From<PageRule> for PoolRefusal {
+    ghost from_gives = { λ rule e. e ≡ page_refusal rule };
+
+    fn from(rule: PageRule) -> PoolRefusal {
+        match rule {
+            PageRule::Index => PoolRefusal::PageIndex,
+            PageRule::Twice => PoolRefusal::PageTwice,
+            PageRule::Missing => PoolRefusal::PageMissing,
+            PageRule::Long => PoolRefusal::PageLong,
+        }
+    }
 }
 
 impl From<AllocError> for PoolRefusal {

@@ -4,6 +4,8 @@ use std::alloc::{AllocError, Global};
 use std::test::Fail;
 use t3_image_read::ImageReader;
 
+mod constants;
+
 /// An image of these blocks.
 fn image(alloc: Global, blocks: &[Vec<u8>]) -> Result<Vec<u8>, AllocError> {
     let mut bytes = Vec::new(alloc);
@@ -121,6 +123,67 @@ fn the_first_broken_rule_is_named(rt: HostRuntime) -> Result<(), Fail> {
     ];
     for (blocks, want) in rows {
         assert_eq!(rt; build(alloc, blocks)?.err(), Some(want));
+    }
+    Ok(())
+}
+
+/// Blocks of a pool that break this rule and no other one; or no rule.
+fn breaking(alloc: Global, pool: u8, rule: Option<PoolRefusal>) -> Result<Vec<Vec<u8>>, Fail> {
+    let first = page(alloc, pool, 0, b"ab")?;
+    let second = page(alloc, pool, 1, b"c")?;
+    let one = definition(alloc, pool, 1, 4)?;
+    let blocks = match rule {
+        Some(PoolRefusal::NoCode) => return Ok(Vec::new(alloc)),
+        Some(PoolRefusal::TwoDefs) => [first, one, definition(alloc, pool, 1, 4)?],
+        Some(PoolRefusal::TooWide) => [first, second, definition(alloc, pool, 2, 0x4000_0000)?],
+        Some(PoolRefusal::PageIndex) => [first, second, one],
+        Some(PoolRefusal::PageTwice) => [first, page(alloc, pool, 0, b"c")?, one],
+        // A page of another pool stands for what isn't there.
+        Some(PoolRefusal::PageMissing) => {
+            [
+                page(alloc, 9, 0, b"")?,
+                second,
+                definition(alloc, pool, 2, 4)?,
+            ]
+        }
+        Some(PoolRefusal::PageLong) => {
+            [
+                first,
+                page(alloc, 9, 0, b"")?,
+                definition(alloc, pool, 1, 1)?,
+            ]
+        }
+        _ => [first, page(alloc, 9, 0, b"")?, one],
+    };
+    Ok(Vec::from_array(alloc, blocks)?)
+}
+
+#[test]
+fn of_two_broken_rules_the_earlier_is_named(rt: HostRuntime) -> Result<(), Fail> {
+    let alloc = rt.alloc();
+    let rules = [
+        Some(PoolRefusal::NoCode),
+        Some(PoolRefusal::TwoDefs),
+        Some(PoolRefusal::TooWide),
+        Some(PoolRefusal::PageIndex),
+        Some(PoolRefusal::PageTwice),
+        Some(PoolRefusal::PageMissing),
+        Some(PoolRefusal::PageLong),
+        None,
+    ];
+    for code in 0..8 {
+        for constants in 1..8 {
+            let mut blocks = breaking(alloc, 2, rules[constants])?;
+            for block in breaking(alloc, 1, rules[code])? {
+                blocks.push(block)?;
+            }
+            let built = build(alloc, &blocks)?;
+            assert_eq!(rt;
+                built.err(),
+                rules[code.min(constants)],
+                "{code} {constants}"
+            );
+        }
     }
     Ok(())
 }

@@ -2,7 +2,7 @@
 use Rattle.std.specs.Prelude.{◌≡◌, ℕ, ◌+◌, ◌*◌, ◌/◌, ◌%◌, ◌^◌, ◌<◌, ◌≤◌, ◌==◌, nat_lt, false, List, [], ◌∷◌, length, Option, Some, None, drop, if◌then◌else◌}
 use Rattle.std.specs.List.{flat_map, list_any, slice_get}
 use Rattle.std.specs.FinMap.{get, from_entries}
-use Rattle.t3_pools.specs.Pool.{Pool, Paged, page_bytes, HasBytes}
+use Rattle.t3_pools.specs.Pool.{Pool, PagedPoolValue, Paged, page_bytes, HasBytes, ReachesPageEnd}
 
 -- pages with their indices, from an index on
 abbrev pub paged_from : ℕ → List (List ℕ) → List Paged
@@ -10,8 +10,12 @@ paged_from at [] = []
 paged_from at (page ∷ pages) = record { pool = 0; index = at; bytes = page } ∷ paged_from (at + 1) pages
 
 -- the pool of such pages
-unfoldable pub kept_pool : ℕ → List (List ℕ) → Pool
-kept_pool size pages = from_entries (flat_map (page_bytes size) (paged_from 0 pages))
+unfoldable pub kept_bytes : ℕ → List (List ℕ) → Pool
+kept_bytes size pages = from_entries (flat_map (page_bytes size) (paged_from 0 pages))
+
+-- a pool that is kept so
+abbrev pub kept_pool : ℕ → List (List ℕ) → PagedPoolValue
+kept_pool size pages = record { bytes = kept_bytes size pages; page_size = size }
 
 -- no page is longer than the page size, and all addresses are below 2^31
 pub record IsKept (size : ℕ) (pages : List (List ℕ)) : Type 0 where
@@ -27,8 +31,9 @@ bytes_of (Some page) = page
 unfoldable pub run_in : ℕ → List (List ℕ) → ℕ → List ℕ
 run_in size pages address = if size == 0 then [] else drop (address % size) (bytes_of (slice_get pages (address / size)))
 
--- the bytes from an address on, all of them below 2^31; none exactly where no byte stands there
-pub record Runs (pool : Pool) (address : ℕ) (bytes : List ℕ) : Type 0 where
+-- the bytes from an address to the end of its page, all of them below 2^31; none exactly where no byte stands there
+pub record Runs (size : ℕ) (pool : Pool) (address : ℕ) (bytes : List ℕ) : Type 0 where
   pub stand : HasBytes pool address bytes
   pub empty : bytes ≡ [] → get pool address ≡ None
   pub narrow : 0 < length bytes → address + length bytes ≤ 2 ^ 31
+  pub whole : ReachesPageEnd size pool address bytes

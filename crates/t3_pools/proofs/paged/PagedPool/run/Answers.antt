@@ -1,12 +1,12 @@
 use Rattle.std.proofs.Common.{ℕ, List, subst, sym, ◌∙◌, ap}
-use Rattle.t3_pools.specs.Pool.{Pool}
-use Rattle.t3_pools.specs.Inner.Keeping.{kept_pool, run_in, Runs}
+use Rattle.t3_pools.specs.Pool.{PagedPoolValue}
+use Rattle.t3_pools.specs.Inner.Keeping.{kept_bytes, run_in, Runs}
 use Rattle.t3_pools.proofs.Kept.{runs_in}
 use Rattle.t3_pools.proofs.paged.PagedPool.run.Goals as goal
 
 pub returns : goal.returns
 returns c =
     let run = c.run_at.ensures ∙ ap (λ pages. run_in c.self.inside.size.size pages c.args.address) c.deref.ensures.value in
-    subst (λ (pool : Pool). Runs pool c.args.address c.run_at.result.now) c.self.view_is
-    (subst (λ (bytes : List ℕ). Runs (kept_pool c.self.inside.size.size c.self.inside.pages.items) c.args.address bytes) (sym run)
+    subst (λ (pool : PagedPoolValue). Runs pool.page_size pool.bytes c.args.address c.run_at.result.now) c.self.view_is
+    (subst (λ (bytes : List ℕ). Runs c.self.inside.size.size (kept_bytes c.self.inside.size.size c.self.inside.pages.items) c.args.address bytes) (sym run)
     (runs_in c.self.inside.size.size c.self.inside.pages.items c.args.address c.self.invariant))
