@@ -14,6 +14,12 @@ build/t3: $(SOURCES)
 	cd crates/t3 && rm -f out/t3 && { rt run || true; } && test -x out/t3
 	cp crates/t3/out/t3 $@
 
+# The program that `bench/page` times: its input on lines of 79 columns.
+build/t3_page: $(SOURCES)
+	mkdir -p build
+	cd crates/t3_page && rm -f out/t3_page && { rt run < stdin || true; } && test -x out/t3_page
+	cp crates/t3_page/out/t3_page $@
+
 # A first look, within a minute: built without its proofs, and run once.
 demo: examples/answer.t3
 	@echo 'This build is not proved: make proves the program and builds it.'
@@ -25,8 +31,9 @@ examples/answer.t3: examples/make.sh
 test:
 	.ci/run
 
-bench: build/t3
+bench: build/t3 build/t3_page
 	bench/check
+	bench/page
 	bench/pools
 	bench/rewrite
 	bench/run

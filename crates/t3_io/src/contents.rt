@@ -1,9 +1,9 @@
 //! What the devices in memory keep: files, or a session.
-ghost use Rattle.std.specs.Prelude.{◌≡◌, [], length, IfOk, OnOk, OnErr};
+ghost use Rattle.std.specs.Prelude.{◌≡◌, ◌≤◌, Some, length, IfOk, OnErr, OnOk};
 ghost use Rattle.std.specs.Option.{option_copied};
 ghost use Rattle.std.specs.FinMap as map;
 ghost use Rattle.t3_io.specs.Reading.{Copies, ReadsFile, IsAtMost};
-ghost use Rattle.t3_io.specs.Session.{after_showing};
+ghost use Rattle.t3_io.specs.Session.{new_session, after_showing, TakesInput};
 
 use crate::depot::Got;
 use std::alloc::Global;
@@ -86,25 +86,49 @@ fn copy_from(file: &[u8], at: u64, buf: &mut [u8]) -> usize
 #[derive(Drop)]
 pub(crate) struct KeptSession {
     input: Vec<u8>,
+    /// How many bytes of the input are taken.
+    taken: usize,
     output: Vec<u8>,
+    /// Of each read, how many bytes of the input were left before it, and how many were shown.
+    asked: Vec<(usize, usize)>,
 }
 
 impl Model for KeptSession {
+    ghost use Rattle.std.specs.Prelude.{drop};
     ghost use Rattle.t3_io.specs.Session.{Session};
 
     ghost Value = { Session };
 
-    ghost view = { λ c. record { left = c.input.items; shown = c.output.items } };
+    ghost view = { λ c. record {
+      left = drop c.taken c.input.items;
+      shown = c.output.items;
+      asked = c.asked.items;
+    } };
 }
 
 impl KeptSession {
     pub(crate) fn new(alloc: Global, input: &[u8]) -> Result<KeptSession, NoMemory>
-        ensures { IfOk result (λ kept. kept ≡ record { left = input.now; shown = [] }) }
+        ensures { IfOk result (λ kept. kept ≡ new_session input.now) }
     {
         Ok(KeptSession {
             input: Vec::from_slice(alloc, input)?,
+            taken: 0,
             output: Vec::new(alloc),
+            asked: Vec::new(alloc),
         })
+    }
+
+    /// Takes so many bytes of the input as there are and the buffer has room for.
+    pub(crate) fn take(&mut self, buf: &mut [u8]) -> Result<usize, NoMemory>
+        ensures taken { IfOk result (λ count. TakesInput self.old (Some self.new) buf.new count) }
+        ensures count { IfOk result (λ count. count ≤ length buf.old) }
+        ensures err { OnErr result (self.new ≡ self.old) }
+    {
+        let left = self.input.len().saturating_sub(self.taken);
+        self.asked.push((left, self.output.len()))?;
+        let count = copy_from(&self.input, self.taken as u64, buf);
+        self.taken += count;
+        Ok(count)
     }
 
     /// Shows a piece whole, or nothing of it.

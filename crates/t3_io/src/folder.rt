@@ -133,7 +133,7 @@ fn read_file<R: Files>(rt: &R, name: &[u8], at: u64, buf: &mut [u8]) -> io::Resu
 }
 
 /// One read, begun again where a signal interrupts it.
-fn read_some<F: Read>(file: &mut F, buf: &mut [u8]) -> io::Result<usize>
+pub(crate) fn read_some<F: Read>(file: &mut F, buf: &mut [u8]) -> io::Result<usize>
     ensures { IfOk result (λ count. count ≤ length buf.old) }
 {
     for _ in 0..u64::MAX {

@@ -1,12 +1,12 @@
 //! Devices that keep all in memory and fault at the calls that they are told to fail at.
-ghost use Rattle.std.specs.Prelude.{◌≡◌, ◌-◌, ◌^◌, ◌<◌, [], Some, length, IfOk, OnOk, OnErr};
+ghost use Rattle.std.specs.Prelude.{◌≡◌, ◌-◌, ◌^◌, ◌<◌, ◌≤◌, Some, length, IfOk, OnOk, OnErr};
 ghost use Rattle.std.specs.Option.{option_copied};
 ghost use Rattle.std.specs.FinMap as map;
 ghost use Rattle.t3_holder.specs.FileName.{IsFileName};
 ghost use Rattle.t3_io.specs.Cause.{MovesFaults};
 ghost use Rattle.t3_io.specs.Reading.{Reads, IsAtMost};
 ghost use Rattle.t3_io.specs.Putting.{PutsFile};
-ghost use Rattle.t3_io.specs.Session.{ShowsPiece, IsProgress};
+ghost use Rattle.t3_io.specs.Session.{new_session, ShowsPiece, TakesPiece, IsProgress};
 ghost use Rattle.t3_io.specs.Failing.{no_calls, Counts, LeavesHalf};
 
 use crate::console::Console;
@@ -107,8 +107,9 @@ impl Depot for MemoryDepot {
     }
 }
 
-/// Input and output in memory, whose `write` faults at chosen calls, counted from 0 whatever they answer.
-/// Contracts see the session, which calls to come are to fail, and how many have failed.
+/// Input and output in memory, whose `read` and `write` fault at chosen calls. Both are counted together,
+/// from 0, whatever they answer. Contracts see the session, which calls to come are to fail, and how many
+/// have failed.
 #[derive(Drop)]
 pub struct MemoryConsole {
     kept: KeptSession,
@@ -127,13 +128,8 @@ impl MemoryConsole {
     /// A console with this input, on which nothing was shown. Its calls of these numbers are to fail, in
     /// whatever order they stand.
     pub fn new(alloc: Global, input: &[u8], failing: &[u32]) -> Result<MemoryConsole, NoMemory>
-        ensures { IfOk result (λ console. console ≡ record {
-          session = record {
-            left = input.now;
-            shown = [];
-          };
-          calls = no_calls failing.now;
-        }) }
+        ensures { IfOk result (λ console. console
+            ≡ record { session = new_session input.now; calls = no_calls failing.now }) }
     {
         Ok(MemoryConsole {
             kept: KeptSession::new(alloc, input)?,
@@ -153,6 +149,19 @@ impl Console for MemoryConsole {
     ghost session = { λ c. Some c.session };
 
     ghost faults = { λ c. c.calls.faults };
+
+    fn read(&mut self, buf: &mut [u8]) -> Result<usize, DeviceRefusal>
+        requires { self.old.calls.faults < 2 ^ 64 - 1 }
+        ensures taken { TakesPiece (Some self.old.session) (Some self.new.session) buf.new result }
+        ensures count { IfOk result (λ count. count ≤ length buf.old) }
+        ensures cause { MovesFaults self.old.calls.faults self.new.calls.faults result }
+        ensures counts { Counts self.old.calls self.new.calls result }
+    {
+        if self.calls.next_fails() {
+            return Err(DeviceRefusal::Fault);
+        }
+        Ok(self.kept.take(buf)?)
+    }
 
     fn write(&mut self, piece: &[u8]) -> Result<usize, DeviceRefusal>
         requires { self.old.calls.faults < 2 ^ 64 - 1 }

@@ -3,7 +3,7 @@ ghost use Rattle.std.specs.Prelude.{◌≡◌, length, IfOk};
 ghost use Rattle.t3_io.specs.Session.{IsProgress};
 
 use crate::console::Console;
-use crate::folder::counted;
+use crate::folder::{counted, read_some};
 use crate::refusal::DeviceRefusal;
 use std::io::{self, ErrorKind};
 use std::marker::Model;
@@ -39,6 +39,12 @@ impl<'r, R: Input + Print> Console for StdConsole<'r, R> {
     ghost session = { λ _. None };
 
     ghost faults = { λ c. c };
+
+    /// One read of the process's input, which takes no byte that it doesn't give.
+    fn read(&mut self, buf: &mut [u8]) -> Result<usize, DeviceRefusal> {
+        let answer = read_some(&mut self.rt.reader(), buf);
+        counted(&mut self.faults, answer)
+    }
 
     fn write(&mut self, piece: &[u8]) -> Result<usize, DeviceRefusal> {
         let answer = write_some(self.rt, piece);

@@ -1,8 +1,9 @@
 //! Devices that keep all in memory and never fault.
-ghost use Rattle.std.specs.Prelude.{◌≡◌, [], IfOk, OnOk, OnErr};
+ghost use Rattle.std.specs.Prelude.{◌≡◌, IfOk, OnOk, OnErr};
 ghost use Rattle.std.specs.Option.{option_copied};
 ghost use Rattle.std.specs.FinMap as map;
 ghost use Rattle.t3_holder.specs.FileName.{IsFileName};
+ghost use Rattle.t3_io.specs.Session.{new_session};
 
 use crate::console::Console;
 use crate::contents::{KeptFiles, KeptSession};
@@ -91,7 +92,7 @@ impl Model for SureConsole {
 impl SureConsole {
     /// A console with this input, on which nothing was shown.
     pub fn new(alloc: Global, input: &[u8]) -> Result<SureConsole, NoMemory>
-        ensures { IfOk result (λ console. console ≡ record { left = input.now; shown = [] }) }
+        ensures { IfOk result (λ console. console ≡ new_session input.now) }
     {
         Ok(SureConsole {
             kept: KeptSession::new(alloc, input)?,
@@ -112,6 +113,10 @@ impl Console for SureConsole {
     ghost session = { λ c. Some c };
 
     ghost faults = { λ _. 0 };
+
+    fn read(&mut self, buf: &mut [u8]) -> Result<usize, DeviceRefusal> {
+        Ok(self.kept.take(buf)?)
+    }
 
     fn write(&mut self, piece: &[u8]) -> Result<usize, DeviceRefusal> {
         self.kept.show(piece)?;

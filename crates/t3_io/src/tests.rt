@@ -51,6 +51,16 @@ fn the_output_takes_a_line(rt: HostRuntime) -> Result<(), Fail> {
     Ok(())
 }
 
+/// A test has no input: what the console reads of some, `t3_echo` shows.
+#[test]
+fn the_input_ends(rt: HostRuntime) -> Result<(), Fail> {
+    let mut console = StdConsole::new(&rt);
+    let mut buf = [0u8; 4];
+    assert_eq!(rt; console.read(&mut buf)?, 0);
+    assert_eq!(rt; console.read(&mut buf)?, 0);
+    Ok(())
+}
+
 #[test]
 fn the_sure_devices_keep_all(rt: HostRuntime) -> Result<(), Fail> {
     let mut depot = SureDepot::new(rt.alloc());
@@ -63,6 +73,11 @@ fn the_sure_devices_keep_all(rt: HostRuntime) -> Result<(), Fail> {
     let mut console = SureConsole::new(rt.alloc(), b"input")?;
     assert_eq!(rt; console.write(b"shown")?, 5);
     assert_eq!(rt; console.shown(), b"shown".as_slice());
+    assert_eq!(rt; console.read(&mut buf)?, 4);
+    assert_eq!(rt; buf.as_slice(), b"inpu".as_slice());
+    assert_eq!(rt; console.read(&mut buf)?, 1);
+    assert_eq!(rt; buf.as_slice(), b"tnpu".as_slice());
+    assert_eq!(rt; console.read(&mut buf)?, 0);
     Ok(())
 }
 
@@ -120,6 +135,29 @@ fn a_console_fails_by_the_numbers(rt: HostRuntime) -> Result<(), Fail> {
         ];
         assert_eq!(rt; got, want, "{failing:?}");
         assert_eq!(rt; console.shown(), shown, "{failing:?}");
+    }
+    Ok(())
+}
+
+#[test]
+fn a_read_fails_by_the_numbers(rt: HostRuntime) -> Result<(), Fail> {
+    let rows: [(&[u32], [Option<usize>; 3], &[u8]); 4] = [
+        (&[], [Some(3), Some(2), Some(0)], b"abcde\0"),
+        (&[0], [None, Some(3), Some(2)], b"\0\0\0abc"),
+        (&[1, 7], [Some(3), None, Some(2)], b"abc\0\0\0"),
+        (&[0, 2], [None, Some(3), None], b"\0\0\0abc"),
+    ];
+    for (failing, want, taken) in rows {
+        let mut console = MemoryConsole::new(rt.alloc(), b"abcde", failing)?;
+        let mut buf = [0u8; 6];
+        let mut last = [0u8; 3];
+        let got = [
+            console.read(&mut buf[..3]).ok(),
+            console.read(&mut buf[3..]).ok(),
+            console.read(&mut last).ok(),
+        ];
+        assert_eq!(rt; got, want, "{failing:?}");
+        assert_eq!(rt; buf.as_slice(), taken, "{failing:?}");
     }
     Ok(())
 }

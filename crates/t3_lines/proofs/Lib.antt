@@ -1,0 +1,6 @@
+mod Readable
+mod Pieces
+mod Cutting
+mod TakenPieces
+mod Sounding
+mod Inputs

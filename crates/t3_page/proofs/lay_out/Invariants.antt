@@ -1,0 +1,5 @@
+use Rattle.std.proofs.Common.{◌≡◌}
+use Rattle.t3_page.proofs.lay_out.Given as goal
+
+abbrev pub invariant-loop-turn : goal.invariant-loop-turn
+invariant-loop-turn g l = g.C.Console.faults l.console ≡ g.C.Console.faults l.fn.console
