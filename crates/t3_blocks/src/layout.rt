@@ -44,7 +44,8 @@ pub(crate) trait Layout {
         ensures { result ≡ length (text self.now item.now) };
 }
 
-/// So many items that begin some bytes, and what follows them.
+/// So many items that begin some bytes, and what follows them. Room for them is made at once, but for no
+/// more of them than there are bytes.
 pub(crate) fn take_items<'a, L: Layout>(
     alloc: Global,
     layout: &L,
@@ -59,7 +60,7 @@ pub(crate) fn take_items<'a, L: Layout>(
 {
     let due = usize::from(due);
     let mut rest = bytes;
-    let mut items = Vec::new(alloc);
+    let mut items = Vec::with_capacity(alloc, due.min(bytes.len()))?;
     while items.len() < due {
         match layout.take(alloc, rest)? {
             Some((item, trailing)) => {

@@ -1,10 +1,13 @@
 //! Takes a stream run by run: the header, then each block's header and payload.
-ghost use Rattle.std.specs.Prelude.{◌≡◌, ◌<◌, ◌≤◌, [], ◌++◌, length, IfOk, IfErr};
+ghost use Rattle.std.specs.Prelude.{◌≡◌, ◌≢◌, ◌+◌, ◌<◌, ◌≤◌, [], ◌++◌, length, IfOk, IfErr, IfSome};
+ghost use Rattle.t3_blocks.specs.BlockName.{HasKind, end_name};
+ghost use Rattle.t3_blocks.specs.Parsing.{Gives};
+ghost use Rattle.t3_blocks.specs.Spelling.{image_limit};
 ghost use Rattle.t3_image_read.specs.Refusal.{head_place};
 ghost use Rattle.t3_image_read.specs.Validity.{IsValid};
 ghost use Rattle.t3_image_read.specs.Reader.{RefusesBy};
 ghost use Rattle.t3_image_read.specs.Inner.Faults.{head_why, payload_refusal};
-ghost use Rattle.t3_image_read.specs.Inner.Steps.{size_of, stream_of, image_of, AtPart, IsSound, Holds, Advances, TakesRun, TakesAll};
+ghost use Rattle.t3_image_read.specs.Inner.Steps.{size_of, stream_of, image_of, AtPart, IsSound, Holds, BeginsWhole, AddsBlock, Advances, TakesRun, TakesAll};
 
 use crate::header::{
     BlockHeader, HEAD_SIZE, HEADER_SIZE, HeadFault, VERSION_AT, head_fault, header_fault, read_head,
@@ -13,7 +16,7 @@ use crate::image::{Head, Image, Placed, PlacedBlock};
 use crate::refusal::{ReadRefusal, ReadWhy};
 use std::alloc::{AllocError, Global};
 use std::mem;
-use t3_blocks::{BlockKind, PayloadRefusal, take_block};
+use t3_blocks::{Block, BlockKind, PayloadRefusal, spelled_block, take_block};
 use t3_holder::Bytes;
 
 /// The part of an image that comes next, or that is there in part.
@@ -100,6 +103,50 @@ impl Taker {
 
     /// Takes the bytes that the part still wants, as far as they are there.
     fn take_run(&mut self, rest: &[u8]) -> Result<(usize, Option<u16>), ReadRefusal>
+        requires sound { IsSound self.old }
+        requires some { 0 < length rest.now }
+        ensures taken { IfOk result (TakesRun self.old self.new rest.now) }
+        ensures refused { IfErr result (RefusesBy (stream_of self.old ++ rest.now)) }
+    {
+        match self.whole_payload(rest) {
+            Some((header, kind)) => self.take_whole(header, kind, rest),
+            None => self.take_part(rest),
+        }
+    }
+
+    /// The header of the block whose payload comes next, if it is whole there.
+    fn whole_payload(&self, rest: &[u8]) -> Option<(BlockHeader, BlockKind)>
+        ensures { IfSome result (BeginsWhole self.now rest.now) }
+    {
+        match self.part {
+            Part::InPayload(header, kind)
+                if self.held.is_empty() && header.size as usize <= rest.len() => {
+                Some((header, kind))
+            }
+            _ => None,
+        }
+    }
+
+    /// Takes a payload that is whole there. Only what its block keeps of it is copied.
+    fn take_whole(
+        &mut self,
+        header: BlockHeader,
+        kind: BlockKind,
+        rest: &[u8],
+    ) -> Result<(usize, Option<u16>), ReadRefusal>
+        requires sound { IsSound self.old }
+        requires begins { BeginsWhole self.old rest.now (header, kind) }
+        ensures taken { IfOk result (TakesRun self.old self.new rest.now) }
+        ensures refused { IfErr result (RefusesBy (stream_of self.old ++ rest.now)) }
+    {
+        let payload = &rest[..header.size as usize];
+        let given = spelled_block(self.alloc, kind, header.name, payload);
+        self.add_block(header, given)?;
+        Ok((payload.len(), None))
+    }
+
+    /// Holds the bytes that the part still wants, as far as they are there, and goes on where it is whole.
+    fn take_part(&mut self, rest: &[u8]) -> Result<(usize, Option<u16>), ReadRefusal>
         requires sound { IsSound self.old }
         requires some { 0 < length rest.now }
         ensures taken { IfOk result (TakesRun self.old self.new rest.now) }
@@ -204,8 +251,45 @@ impl Taker {
         if self.held.len() < header.size as usize {
             return Ok(None);
         }
-        let payload = mem::replace(&mut self.held, Vec::new(self.alloc));
-        match take_block(self.alloc, kind, header.name, Bytes(payload)) {
+        let given = self.take_held(header.name, kind);
+        self.add_block(header, given)?;
+        Ok(None)
+    }
+
+    /// The block that the held bytes spell, which are held no more. Where the block is those bytes, it has
+    /// their memory; else that memory is there for the next payload.
+    fn take_held(&mut self, name: [u8; 4], kind: BlockKind) -> Result<Block, PayloadRefusal>
+        requires name { name ≢ end_name }
+        requires kind { HasKind name kind }
+        requires size { length self.old.held.items ≤ image_limit }
+        ensures gives { Gives name self.old.held.items result }
+        ensures none { self.new.held.items ≡ [] }
+        ensures others { self.new ≡ record self.old { held = self.new.held } }
+    {
+        match kind {
+            BlockKind::Kept | BlockKind::Unknown => {
+                let mut payload = mem::replace(&mut self.held, Vec::new(self.alloc));
+                payload.shrink_to_fit();
+                take_block(self.alloc, kind, name, Bytes(payload))
+            }
+            _ => {
+                let given = spelled_block(self.alloc, kind, name, &self.held);
+                self.held.clear();
+                given
+            }
+        }
+    }
+
+    /// Adds the block that the payload after a header gave.
+    fn add_block(
+        &mut self,
+        header: BlockHeader,
+        given: Result<Block, PayloadRefusal>,
+    ) -> Result<(), ReadRefusal>
+        requires { self.old.place + 10 + header.size ≤ image_limit }
+        ensures { AddsBlock self.old self.new header given result }
+    {
+        match given {
             Ok(block) => {
                 self.blocks.push(PlacedBlock {
                     flags: header.flags,
@@ -213,7 +297,7 @@ impl Taker {
                 })?;
                 self.part = Part::InHeader;
                 self.place += HEADER_SIZE as u32 + header.size;
-                Ok(None)
+                Ok(())
             }
             Err(refusal) => Err(refused_payload(self.place, refusal)),
         }

@@ -14,7 +14,7 @@ use t3_io::{Depot, DeviceRefusal, Got};
 const READ_LIMIT: u64 = 268_435_457;
 
 /// How many bytes are asked for at once.
-const PIECE: usize = 1 << 16;
+const PIECE: usize = 1 << 18;
 
 /// What an image's file has.
 #[derive(Debug, Drop)]

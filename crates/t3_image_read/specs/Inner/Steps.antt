@@ -1,7 +1,9 @@
 -- How the fields of a reader stand for the stream that was taken, and what each step does to them.
-use Rattle.std.specs.Prelude.{◌≡◌, ◌≢◌, ℕ, ◌<◌, ◌≤◌, List, [], ◌++◌, length, take, Option, Some, None}
+use Rattle.std.specs.Prelude.{◌≡◌, ◌≢◌, ℕ, ◌+◌, ◌<◌, ◌≤◌, List, [], ◌∷◌, ◌++◌, length, take, Option, Some, None, Result, Ok, Err}
 use Rattle.t3_blocks.specs.BlockName.{end_name, HasKind}
+use Rattle.t3_blocks.specs.declared.block.Block.{Block}
 use Rattle.t3_blocks.specs.declared.kind.BlockKind.{BlockKind}
+use Rattle.t3_blocks.specs.declared.refusal.PayloadRefusal.{PayloadRefusal}
 use Rattle.t3_image_read.specs.declared.header.BlockHeader.{BlockHeader}
 use Rattle.t3_image_read.specs.declared.taker.Part.{Part}
 use Rattle.t3_image_read.specs.declared.taker.Part.TheVariants.{InHead, InHeader, InPayload}
@@ -10,7 +12,9 @@ use Rattle.t3_image_read.specs.declared.reader.State.{State}
 use Rattle.t3_image_read.specs.declared.reader.State.TheVariants as states
 use Rattle.t3_image_read.specs.ImageText.{ImageValue, header_text, prefix_text, text}
 use Rattle.t3_image_read.specs.Validity.{IsHeader, IsGoodPrefix, IsValid}
-use Rattle.t3_image_read.specs.Inner.Faults.{IsGoodSoFar, IsAllowed}
+use Rattle.t3_image_read.specs.declared.refusal.ReadRefusal.{ReadRefusal}
+use Rattle.t3_image_read.specs.declared.refusal.ReadRefusal.TheVariants.{NoMemory}
+use Rattle.t3_image_read.specs.Inner.Faults.{IsGoodSoFar, IsAllowed, payload_refusal}
 use Rattle.t3_image_read.specs.Reader.{Reading, Taking, Ended, Failed}
 
 -- how many bytes the part has
@@ -78,6 +82,30 @@ pub record Holds (old new : Taker) (rest : List ℕ) (count : ℕ) : Type 0 wher
   pub held : new.held.items ≡ old.held.items ++ take count rest
   pub within : length new.held.items ≤ size_of old.part
   pub others : new ≡ record old { held = new.held }
+
+-- the payload of this header comes next, nothing of it is held, and all of it is there
+pub record BeginsWhole (t : Taker) (rest : List ℕ) (of : BlockHeader × BlockKind) : Type 0 where
+  pub part : t.part ≡ InPayload of.0 of.1
+  pub none : t.held.items ≡ []
+  pub there : of.0.size ≤ length rest
+
+-- the block of this header is the last one, and the next header comes after it
+pub record HasBlock (old new : Taker) (header : BlockHeader) (block : Block) : Type 0 where
+  pub blocks : new.blocks.items
+      ≡ old.blocks.items ++ record { flags = header.flags; block = block } ∷ []
+  pub others : new ≡ record old {
+    blocks = new.blocks;
+    part = InHeader;
+    place = old.place + (10 + header.size);
+  }
+
+-- the block that the payload gave is added, or its refusal is answered
+abbrev pub AddsBlock : Taker → Taker → BlockHeader → Result Block PayloadRefusal
+    → Result (Unit {0}) ReadRefusal → Type 0
+AddsBlock old new header (Ok block) (Ok done) = HasBlock old new header block
+AddsBlock old new header (Ok block) (Err refusal) = refusal ≡ NoMemory
+AddsBlock old new header (Err why) (Ok done) = ⊥
+AddsBlock old new header (Err why) (Err refusal) = refusal ≡ payload_refusal old.place why
 
 -- these bytes are taken, and the image goes on or has ended
 abbrev pub RunsTo : List ℕ → Taker → Option ℕ → Type 0

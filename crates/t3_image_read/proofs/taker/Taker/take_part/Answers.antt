@@ -4,7 +4,7 @@ use Rattle.std.proofs.lemmas.Result.{err_from_is_err_and}
 use Rattle.t3_image_read.specs.Reader.{RefusesBy}
 use Rattle.t3_image_read.specs.Inner.Steps.{stream_of}
 use Rattle.t3_image_read.proofs.Steps.{stream_of-held, RefusesBy-append}
-use Rattle.t3_image_read.proofs.taker.Taker.take_run.Goals as goal
+use Rattle.t3_image_read.proofs.taker.Taker.take_part.Goals as goal
 
 pub returns-in_err-end-clause-refused : goal.returns-in_err-end-clause-refused
 returns-in_err-end-clause-refused c =
