@@ -5,10 +5,13 @@ ghost use Rattle.t3_pools.specs.Inner.Reading.{Fills, ReadsNumber, ReadsHolder, 
 use crate::paged::PagedPool;
 use t3_holder::{Holder, holder_of, read_raw, u16_at};
 
-/// No character has more bytes.
-const LONGEST_CHARACTER: usize = 4;
+/// How many bytes a length or a count has.
+const COUNT_SIZE: u32 = 2;
 
 const HOLDER_SIZE: u32 = 5;
+
+/// No character has more bytes.
+const LONGEST_CHARACTER: usize = 4;
 
 impl PagedPool {
     /// The address of the first byte of the constant string at an address, and how many it has.
@@ -17,7 +20,7 @@ impl PagedPool {
         ensures bounded { IfSome result (λ found. found.0 + found.1 ≤ 2 ^ 31) }
     {
         let length = self.count_at(address)?;
-        let first = address + 2;
+        let first = address + COUNT_SIZE;
         if self.is_text(first, length) {
             Some((first, length))
         } else {
@@ -31,7 +34,7 @@ impl PagedPool {
         ensures bounded { IfSome result (λ found. found.0 + 5 * found.1 ≤ 2 ^ 31) }
     {
         let count = self.count_at(address)?;
-        let first = address + 2;
+        let first = address + COUNT_SIZE;
         if self.has_holders(first, count) {
             Some((first, count))
         } else {
@@ -44,7 +47,7 @@ impl PagedPool {
         ensures reads { ReadsNumber 2 self.now.bytes address result }
         ensures bounded { IfSome result (λ _. address + 2 ≤ 2 ^ 31) }
     {
-        let mut bytes = [0; 2];
+        let mut bytes = [0; COUNT_SIZE as usize];
         if self.fill(address, &mut bytes) {
             Some(u16_at(&bytes, 0))
         } else {
