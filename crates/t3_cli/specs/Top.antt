@@ -20,7 +20,7 @@ abbrev pub IsInput : Option Session → List ℕ → Type 0
 IsInput None input = Unit {0}
 IsInput (Some session) input = input ≡ session.left
 
--- so much more was shown, and nothing of the input was taken; nothing is claimed of a console that doesn't tell
+-- so much more was shown, and nothing was read of the input; nothing is claimed of a console that doesn't tell
 abbrev pub ShowsMore : Option Session → Option Session → List ℕ → Type 0
 ShowsMore None after said = Unit {0}
 ShowsMore (Some before) after said = after ≡ Some (after_showing before said)

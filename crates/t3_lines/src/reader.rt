@@ -79,9 +79,9 @@ impl LineReader {
     }
 }
 
-/// What call after call of a reader goes by: of whichever input the reader has taken the first bytes at the
-/// last of them, it had taken the first bytes at each. A console that tells what it has left says which
-/// input that is.
+/// All calls of a reader give the lines of one input: an input whose first bytes the reader has taken after
+/// a call is one whose first bytes it had taken before. Where the console tells what it has left, that input
+/// is what was taken, and then what is left.
 pub fn one_input()
     ensures earlier { (old new : ReaderValue) (before after : Option Session) (input : List ℕ)
         → Takes old new before after → IsInputOf new input → IsInputOf old input }
