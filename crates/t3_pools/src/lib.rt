@@ -4,10 +4,12 @@
 //! let pools = Pools::build(alloc, &image)?;
 //! assert_eq!(pools.byte(1, 0), Some(84));
 //! assert_eq!(pools.run(1, 1), [242, 255].as_slice());
-//! assert_eq!(pools.byte(2, 0), None);
+//! assert_eq!(pools.byte(1, 3), None);
+//! // Of constants: the address of a text's first byte and its length.
+//! assert_eq!(pools.text_at(0), Some((2, 5)));
 //! ```
 //!
-//! The test `the_example_of_the_first_page` runs this on an image of one page of code.
+//! The test `the_example_of_the_first_page` runs this on an image of one page of code and one of constants.
 #![tactic(auto)]
 
 mod constants;

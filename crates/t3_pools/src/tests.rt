@@ -30,11 +30,17 @@ const PAGE: &[u8] = b"CPPG\x0A\x00\x00\x00\x01\x00\x01\x00\x00\x00\x00\x00\xFF\x
 #[test]
 fn the_example_of_the_first_page(rt: HostRuntime) -> Result<(), Fail> {
     let alloc = rt.alloc();
-    let blocks = [Vec::from_slice(alloc, PAGE)?, definition(alloc, 1, 1, 3)?];
+    let blocks = [
+        Vec::from_slice(alloc, PAGE)?,
+        definition(alloc, 1, 1, 3)?,
+        page(alloc, 2, 0, b"\x05\x00hallo")?,
+        definition(alloc, 2, 1, 7)?,
+    ];
     let pools = build(alloc, &blocks)??;
     assert_eq!(rt; pools.byte(1, 0), Some(84));
     assert_eq!(rt; pools.run(1, 1), [242, 255].as_slice());
-    assert_eq!(rt; pools.byte(2, 0), None);
+    assert_eq!(rt; pools.byte(1, 3), None);
+    assert_eq!(rt; pools.text_at(0), Some((2, 5)));
     Ok(())
 }
 
