@@ -60,6 +60,7 @@ fn play<C: Console>(alloc: Global, program: &Program, steps: u32, console: &mut 
 
 /// Makes the steps, and shows what each says. Gives whether anything was said, and how the run ended,
 /// if it did.
+#[inline(never)]
 fn play_on<C: Console>(
     alloc: Global,
     program: &Program,

@@ -43,6 +43,7 @@ impl PagedPool {
     }
 
     /// The bytes from an address to the end of its page. It is empty exactly where no byte stands there.
+    #[inline(always)]
     pub(crate) fn run(&self, address: u32) -> &[u8]
         ensures { Runs self.now.page_size self.now.bytes address result.now }
     {
@@ -69,6 +70,7 @@ fn copied(alloc: Global, pages: &[&[u8]]) -> Result<Vec<Bytes>, AllocError>
 }
 
 /// The bytes from an address to the end of its page.
+#[inline(always)]
 fn run_at(size: PageSize, pages: &[Bytes], address: u32) -> &[u8]
     ensures { result.now ≡ run_in size.size pages.now address }
 {
@@ -81,6 +83,7 @@ fn run_at(size: PageSize, pages: &[Bytes], address: u32) -> &[u8]
     }
 }
 
+#[inline(always)]
 fn from_place(page: &[u8], place: usize) -> &[u8]
     ensures { result.now ≡ drop place page.now }
 {

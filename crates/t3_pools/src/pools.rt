@@ -50,6 +50,7 @@ impl Pools {
 
     /// The bytes from an address of a pool to the end of its page: pool 1 is the code, 2 the constants.
     /// Empty exactly where no byte stands there. It takes one division and no memory.
+    #[inline(always)]
     pub fn run(&self, pool: u8, address: u32) -> &[u8]
         ensures stand { HasBytes (numbered self.now pool) address result.now }
         ensures empty { result.now ≡ [] → get (numbered self.now pool) address ≡ None }
