@@ -34,7 +34,7 @@ HasFarPage said = IsTrue (list_any (λ p. nat_le (count_by said.definitions) p.i
 abbrev pub HasPageTwice : Said → Type 0
 HasPageTwice said = (index : ℕ) × (2 ≤ length (pages_at index said.pages))
 
--- no page has an index below the count
+-- an index below the count has no page
 abbrev pub LacksPage : Said → Type 0
 LacksPage said = (index : ℕ) × ((index < count_by said.definitions) × (pages_at index said.pages ≡ []))
 
@@ -76,7 +76,8 @@ Keeps (rule ∷ rules) blocks = (¬ Breaks rule blocks) × Keeps rules blocks
 abbrev pub KeepsRules : List PlacedBlock → Type 0
 KeepsRules blocks = Keeps (before NoMemory) blocks
 
--- the first rule that an image breaks; memory is wanted for pages, when no definition breaks a rule
+-- the first rule that an image breaks; want of memory says only that the rules on definitions are kept, since to sort pages takes memory before
+-- their rules are tried
 abbrev pub Refuses : PoolRefusal → List PlacedBlock → Type 0
 Refuses NoMemory blocks = Keeps (before PageIndex) blocks
 Refuses why blocks = Breaks why blocks × Keeps (before why) blocks

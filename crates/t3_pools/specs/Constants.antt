@@ -72,7 +72,7 @@ unfoldable pub text_in : Pool → ℕ → Option (List ℕ)
 text_in pool address =
     option_and_then (λ count. option_and_then as_utf8 (bytes_in count pool (address + 2))) (number_in 2 pool address)
 
--- the holders of each type that these bits may be
+-- what these bits would be under each type
 abbrev pub holders_by : ℕ → List Holder
 holders_by bits =
     holders.Nil ∷ holders.True ∷ holders.Obj bits ∷ holders.Prop (bits % 2 ^ 16) ∷ holders.Int (cast_signed w32 bits)
@@ -84,7 +84,7 @@ is_good (holders.Obj number) = nat_lt 0 number
 is_good (holders.Prop number) = nat_lt 0 number
 is_good _ = true
 
--- what a type and bits mean: of what the bits may be, the good one of that type
+-- what a type and bits mean: what the bits are under this type, where that is good
 abbrev pub meaning_of : ℕ → ℕ → Option Holder
 meaning_of tag bits = find (λ holder. tag_of holder == tag && is_good holder) (holders_by bits)
 

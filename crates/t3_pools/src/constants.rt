@@ -17,7 +17,7 @@ impl PagedPool {
     /// The address of the first byte of the constant string at an address, and how many it has.
     pub(crate) fn text_at(&self, address: u32) -> Option<(u32, u16)>
         ensures answer { TextAnswer self.now.bytes address result }
-        ensures bounded { IfSome result (λ found. found.0 + found.1 ≤ 2 ^ 31) }
+        ensures bounded { IfSome result (λ found. found.0 + found.1 < 2 ^ 31) }
     {
         let length = self.count_at(address)?;
         let first = address + COUNT_SIZE;
@@ -31,7 +31,7 @@ impl PagedPool {
     /// The address of the first holder of the constant list at an address, and how many it has.
     pub(crate) fn list_at(&self, address: u32) -> Option<(u32, u16)>
         ensures answer { ListAnswer self.now.bytes address result }
-        ensures bounded { IfSome result (λ found. found.0 + 5 * found.1 ≤ 2 ^ 31) }
+        ensures bounded { IfSome result (λ found. found.0 + 5 * found.1 < 2 ^ 31) }
     {
         let count = self.count_at(address)?;
         let first = address + COUNT_SIZE;
@@ -45,7 +45,7 @@ impl PagedPool {
     /// The length or the count in the two bytes at an address.
     fn count_at(&self, address: u32) -> Option<u16>
         ensures reads { ReadsNumber 2 self.now.bytes address result }
-        ensures bounded { IfSome result (λ _. address + 2 ≤ 2 ^ 31) }
+        ensures bounded { IfSome result (λ _. address + 2 < 2 ^ 31) }
     {
         let mut bytes = [0; COUNT_SIZE as usize];
         if self.fill(address, &mut bytes) {
@@ -57,9 +57,9 @@ impl PagedPool {
 
     /// Whether so many bytes from an address on are there and are UTF-8.
     fn is_text(&self, first: u32, count: u16) -> bool
-        requires { first ≤ 2 ^ 31 }
+        requires { first < 2 ^ 31 }
         ensures reads { ReadsText count self.now.bytes first result }
-        ensures bounded { IsTrue result → first + count ≤ 2 ^ 31 }
+        ensures bounded { IsTrue result → first + count < 2 ^ 31 }
     {
         let mut address = first;
         let mut left = usize::from(count);
@@ -79,7 +79,7 @@ impl PagedPool {
     fn characters(&self, address: u32, left: usize) -> usize
         requires { 0 < left }
         ensures begins { BeginsText left self.now.bytes address result }
-        ensures bounded { 0 < result → address + result ≤ 2 ^ 31 }
+        ensures bounded { 0 < result → address + result < 2 ^ 31 }
     {
         let in_page = self.characters_in_page(address, left);
         if in_page > 0 {
@@ -99,7 +99,7 @@ impl PagedPool {
     fn characters_in_page(&self, address: u32, left: usize) -> usize
         ensures within { result ≤ left }
         ensures whole { HasCharacters result self.now.bytes address }
-        ensures bounded { 0 < result → address + result ≤ 2 ^ 31 }
+        ensures bounded { 0 < result → address + result < 2 ^ 31 }
     {
         let run = self.run(address);
         whole_characters(&run[..run.len().min(left)])
@@ -107,9 +107,9 @@ impl PagedPool {
 
     /// Whether so many good holders stand from an address on.
     fn has_holders(&self, first: u32, count: u16) -> bool
-        requires { first ≤ 2 ^ 31 }
+        requires { first < 2 ^ 31 }
         ensures reads { ReadsHolders count self.now.bytes first result }
-        ensures bounded { IsTrue result → first + 5 * count ≤ 2 ^ 31 }
+        ensures bounded { IsTrue result → first + 5 * count < 2 ^ 31 }
     {
         let mut address = first;
         for _ in 0..count {
@@ -124,7 +124,7 @@ impl PagedPool {
     /// The holder in the five bytes at an address.
     fn holder(&self, address: u32) -> Option<Holder>
         ensures reads { ReadsHolder self.now.bytes address result }
-        ensures bounded { IfSome result (λ _. address + 5 ≤ 2 ^ 31) }
+        ensures bounded { IfSome result (λ _. address + 5 < 2 ^ 31) }
     {
         let mut bytes = [0; HOLDER_SIZE as usize];
         if self.fill(address, &mut bytes) {
@@ -137,7 +137,7 @@ impl PagedPool {
     /// Fills a window with the bytes from an address on, where all of them are there.
     fn fill(&self, address: u32, window: &mut [u8]) -> bool
         ensures fills { Fills self.now.bytes address window.new result }
-        ensures bounded { IsTrue result → 0 < length window.new → address + length window.new ≤ 2 ^ 31 }
+        ensures bounded { IsTrue result → 0 < length window.new → address + length window.new < 2 ^ 31 }
     {
         let run = self.run(address);
         let size = window.len();
@@ -151,7 +151,7 @@ impl PagedPool {
     /// As `fill`, byte by byte, where a page may end within the window.
     fn fill_over(&self, address: u32, window: &mut [u8]) -> bool
         ensures fills { Fills self.now.bytes address window.new result }
-        ensures bounded { IsTrue result → 0 < length window.new → address + length window.new ≤ 2 ^ 31 }
+        ensures bounded { IsTrue result → 0 < length window.new → address + length window.new < 2 ^ 31 }
     {
         let mut next = address;
         for slot in window.iter_mut() {

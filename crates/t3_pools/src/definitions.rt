@@ -49,7 +49,7 @@ pub(crate) fn layouts(blocks: &[PlacedBlock]) -> Result<(Layout, Layout), Defini
     Ok((code, constants))
 }
 
-/// Whether the addresses of a pool go to 2^31 or beyond.
+/// Whether the page count times the page size is 2^31 or more.
 fn is_wide(layout: Layout) -> bool
     ensures { result ≡ nat_le (2 ^ 31) (layout.count * layout.size) }
 {

@@ -53,7 +53,7 @@ impl PagedPool {
     /// The byte at an address, where one stands there.
     pub(crate) fn byte(&self, address: u32) -> Option<u8>
         ensures byte { result ≡ get self.now.bytes address }
-        ensures bounded { IfSome result (λ _. address < 2 ^ 31) }
+        ensures bounded { IfSome result (λ _. address + 1 < 2 ^ 31) }
     {
         self.run(address).first().copied()
     }

@@ -49,12 +49,13 @@ impl Pools {
     }
 
     /// The bytes from an address of a pool to the end of its page: pool 1 is the code, 2 the constants.
-    /// Empty exactly where no byte stands there. It takes one division and no memory.
+    /// Empty exactly where no byte stands there. It takes a shift where the page size is a power of two,
+    /// else a division, and no memory.
     #[inline(always)]
     pub fn run(&self, pool: u8, address: u32) -> &[u8]
         ensures stand { HasBytes (numbered self.now pool) address result.now }
         ensures empty { result.now ≡ [] → get (numbered self.now pool) address ≡ None }
-        ensures bounded { result.now ≢ [] → address + length result.now ≤ 2 ^ 31 }
+        ensures bounded { result.now ≢ [] → address + length result.now < 2 ^ 31 }
         ensures whole { ReachesPageEnd (page_size_of self.now pool) (numbered self.now pool) address
             result.now }
     {
@@ -71,7 +72,7 @@ impl Pools {
     /// stands there.
     pub fn byte(&self, pool: u8, address: u32) -> Option<u8>
         ensures byte { result ≡ get (numbered self.now pool) address }
-        ensures bounded { IfSome result (λ _. address < 2 ^ 31) }
+        ensures bounded { IfSome result (λ _. address + 1 < 2 ^ 31) }
     {
         self.run(pool, address).first().copied()
     }
@@ -82,19 +83,19 @@ impl Pools {
     pub fn text_at(&self, address: u32) -> Option<(u32, u16)>
         ensures text { FindsText self.now.constants address result }
         ensures read { result ≡ extent_of address (text_in self.now.constants address) }
-        ensures bounded { IfSome result (λ found. found.0 + found.1 ≤ 2 ^ 31) }
+        ensures bounded { IfSome result (λ found. found.0 + found.1 < 2 ^ 31) }
     {
         self.constants.text_at(address)
     }
 
     /// The address of the first holder of the constant list at an address, and how many holders it has.
     /// `None` exactly where no constant list stands there: two bytes of its count, and then so many
-    /// holders of five bytes that each mean something. It may go over the borders of pages, and takes
+    /// holders of five bytes that `holder_of` takes. It may go over the borders of pages, and takes
     /// no memory.
     pub fn list_at(&self, address: u32) -> Option<(u32, u16)>
         ensures list { FindsList self.now.constants address result }
         ensures read { result ≡ extent_of address (list_in self.now.constants address) }
-        ensures bounded { IfSome result (λ found. found.0 + 5 * found.1 ≤ 2 ^ 31) }
+        ensures bounded { IfSome result (λ found. found.0 + 5 * found.1 < 2 ^ 31) }
     {
         self.constants.list_at(address)
     }

@@ -5,8 +5,8 @@ ghost use Rattle.t3_pools.specs.declared.refusal.PoolRefusal.TheVariants.{NoMemo
 use std::alloc::{AllocError, AllocFailed};
 use thiserror::Error;
 
-/// Why an image gives no pools: the first of these, over the code and the constants together. A page
-/// count is 0 where nothing defines the pool.
+/// Why an image gives no pools: the first of these, over the code and the constants together, but that
+/// want of memory may come before the rules on pages. A page count is 0 where nothing defines the pool.
 #[derive(Clone, Copy, Debug, PartialEq, Eq, Hash, Error)]
 pub enum PoolRefusal {
     /// Nothing defines the pool of code.

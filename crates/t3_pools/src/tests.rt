@@ -110,7 +110,7 @@ fn the_first_broken_rule_is_named(rt: HostRuntime) -> Result<(), Fail> {
         definition(alloc, 2, 1, 1)?,
         definition(alloc, 2, 1, 1)?,
         definition(alloc, 2, 0x8000_0000, 1)?,
-        page(alloc, 2, 4, b"")?,
+        page(alloc, 1, 3, b"")?,
         page(alloc, 1, 1, b"a")?,
         page(alloc, 1, 1, b"a")?,
         page(alloc, 1, 0, b"abc")?,
@@ -194,16 +194,59 @@ fn of_two_broken_rules_the_earlier_is_named(rt: HostRuntime) -> Result<(), Fail>
     Ok(())
 }
 
+/// Rules that are broken in one and the same pool.
+#[test]
+fn of_two_broken_rules_of_a_pool_the_earlier_is_named(rt: HostRuntime) -> Result<(), Fail> {
+    let alloc = rt.alloc();
+    let far = page(alloc, 1, 7, b"")?;
+    let long = page(alloc, 1, 0, b"abc")?;
+    let two = definition(alloc, 1, 2, 2)?;
+    let wide = definition(alloc, 1, 2, 0x4000_0000)?;
+    let rows = [
+        (
+            [two.clone()?, far.clone()?, two.clone()?],
+            PoolRefusal::TwoDefs,
+        ),
+        (
+            [wide.clone()?, far.clone()?, far.clone()?],
+            PoolRefusal::TooWide,
+        ),
+        (
+            [two.clone()?, far.clone()?, far.clone()?],
+            PoolRefusal::PageIndex,
+        ),
+        (
+            [two.clone()?, far.clone()?, long.clone()?],
+            PoolRefusal::PageIndex,
+        ),
+        (
+            [two.clone()?, long.clone()?, long.clone()?],
+            PoolRefusal::PageTwice,
+        ),
+        (
+            [two.clone()?, long, page(alloc, 9, 0, b"")?],
+            PoolRefusal::PageMissing,
+        ),
+    ];
+    for (blocks, want) in &rows {
+        assert_eq!(rt; build(alloc, blocks)?.err(), Some(*want));
+    }
+    Ok(())
+}
+
 #[test]
 fn sizes_at_their_bounds(rt: HostRuntime) -> Result<(), Fail> {
     let alloc = rt.alloc();
-    let rows: [(u32, u32, &[u8], Option<PoolRefusal>); 8] = [
+    let rows: [(u32, u32, &[u8], Option<PoolRefusal>); 10] = [
         (1, 0, b"", None),
         (1, 0, b"a", Some(PoolRefusal::PageLong)),
         (0, 0, b"a", Some(PoolRefusal::PageIndex)),
         (1, 0x7FFF_FFFF, b"a", None),
         (1, 0x8000_0000, b"a", Some(PoolRefusal::TooWide)),
         (0x8000, 0x1_0000, b"a", Some(PoolRefusal::TooWide)),
+        // Products that are 0 and 1 in 32 bits.
+        (0x1_0000, 0x1_0000, b"a", Some(PoolRefusal::TooWide)),
+        (u32::MAX, u32::MAX, b"a", Some(PoolRefusal::TooWide)),
         (0x7FFF_FFFF, 1, b"a", Some(PoolRefusal::PageMissing)),
         (u32::MAX, 0, b"", Some(PoolRefusal::PageMissing)),
     ];
@@ -214,6 +257,46 @@ fn sizes_at_their_bounds(rt: HostRuntime) -> Result<(), Fail> {
         ];
         let built = build(alloc, &blocks)?;
         assert_eq!(rt; built.err(), want, "{count} {size}");
+    }
+    Ok(())
+}
+
+#[test]
+fn a_page_size_of_0_has_no_bytes(rt: HostRuntime) -> Result<(), Fail> {
+    let alloc = rt.alloc();
+    let blocks = [
+        page(alloc, 1, 0, b"")?,
+        definition(alloc, 1, 1, 0)?,
+        page(alloc, 2, 0, b"")?,
+        definition(alloc, 2, 1, 0)?,
+    ];
+    let pools = build(alloc, &blocks)??;
+    for pool in [1, 2] {
+        assert_eq!(rt; pools.byte(pool, 0), None);
+        assert_eq!(rt; pools.run(pool, 0), b"".as_slice());
+    }
+    assert_eq!(rt; pools.text_at(0), None);
+    assert_eq!(rt; pools.list_at(0), None);
+    Ok(())
+}
+
+#[test]
+fn refusals_say_what_is_wrong(rt: HostRuntime) -> Result<(), Fail> {
+    let rows = [
+        (PoolRefusal::NoCode, "no definition of a code pool"),
+        (PoolRefusal::TwoDefs, "two definitions of one pool"),
+        (PoolRefusal::TooWide, "a pool of 2 GiB or more"),
+        (
+            PoolRefusal::PageIndex,
+            "a page's index isn't below the page count",
+        ),
+        (PoolRefusal::PageTwice, "two pages of one index"),
+        (PoolRefusal::PageMissing, "a page is missing"),
+        (PoolRefusal::PageLong, "a page is longer than the page size"),
+        (PoolRefusal::NoMemory, "out of memory"),
+    ];
+    for (refusal, text) in rows {
+        assert_eq!(rt; format!(in rt.alloc(); "{refusal}")?.as_str(), text);
     }
     Ok(())
 }
