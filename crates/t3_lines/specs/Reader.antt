@@ -1,6 +1,6 @@
 -- A reader of lines, by the bytes that it has taken and the lines that it has given.
 use Rattle.std.specs.Prelude.{◌≡◌, ℕ, ◌+◌, ◌-◌, ◌≤◌, ◌<◌, Bool, true, false, ◌||◌, Option, Some, None, List, [], ◌∷◌, ◌++◌, length, Result, Ok, Err}
-use Rattle.std.specs.List.{list_any, concat}
+use Rattle.std.specs.List.{list_any, concat, AllByRecursion}
 use Rattle.std.specs.Str.{IsUtf8}
 use Rattle.t3_io.specs.Session.{Session}
 use Rattle.t3_io.specs.declared.refusal.DeviceRefusal.{DeviceRefusal}
@@ -70,6 +70,29 @@ pub record Takes (old new : ReaderValue) (before after : Option Session) : Type 
   pub once : old.is_ended ≡ true → pieces ≡ []
   pub ended : new.is_ended ≡ (old.is_ended || list_any is_nothing pieces)
   pub told : TellsPieces before after pieces
+
+-- of an input, a read was made where so many bytes were left and so many shown: what had been taken of it ended so many lines and no more, and was
+-- below the limit
+pub record IsAskedWith (input : List ℕ) (given shown : ℕ) (asked : ℕ × ℕ) : Type 0 where
+  pub taken : List ℕ
+  pub left : List ℕ
+  pub is : input ≡ taken ++ left
+  pub left_is : asked.0 ≡ length left
+  pub shown_is : asked.1 ≡ shown
+  pub unended : ended_lines taken ≡ given
+  pub room : length taken < limit
+
+-- each read that a call added to those of a console was made so, while the line after so many was wanted
+pub record AsksFor (input : List ℕ) (given : ℕ) (before after : Session) : Type 0 where
+  pub added : List (ℕ × ℕ)
+  pub is : after.asked ≡ before.asked ++ added
+  pub each : AllByRecursion (IsAskedWith input given (length before.shown)) added
+
+-- only a reader that has come to the end answers that no line is left
+abbrev pub IsAtEnd : ReaderValue → WantedLine → Type 0
+IsAtEnd reader (Line line) = Unit {0}
+IsAtEnd reader EndOfInput = reader.is_ended ≡ true
+IsAtEnd reader PastLimit = Unit {0}
 
 -- one more line is given by who answers it, and by no other
 abbrev pub CountsLine : ℕ → ℕ → Result WantedLine DeviceRefusal → Type 0

@@ -1,7 +1,7 @@
 //! The lines of a console's input, taken only when one is wanted.
 //!
 //! A line ends before a newline, and one carriage return right before it is dropped. Bytes after the last
-//! newline are a line too. A line that isn't UTF-8 is given with `?` in place of each byte from 80 up. At
+//! newline are a line too. A line that isn't UTF-8 is given with `?` in place of each byte from 0x80 up. At
 //! most 16,777,216 bytes are taken in all.
 //!
 //! ```text

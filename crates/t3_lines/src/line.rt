@@ -14,7 +14,7 @@ const CARRIAGE_RETURN: u8 = b'\r';
 pub enum WantedLine {
     /// The line, which is UTF-8, without its newline.
     Line(Bytes),
-    /// No line is left.
+    /// No line is left, and the input has fewer than 16,777,216 bytes.
     EndOfInput,
     /// The first 16,777,216 bytes of the input don't end the line, and the input has so many.
     PastLimit,

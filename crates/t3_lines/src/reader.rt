@@ -3,7 +3,7 @@ ghost use Rattle.std.specs.Prelude.{◌≡◌, ◌-◌, ◌^◌, ◌<◌, ◌≤
 ghost use Rattle.t3_io.specs.Cause.{MovesFaults};
 ghost use Rattle.t3_lines.specs.Lines.{limit, wanted_line};
 ghost use Rattle.t3_io.specs.Session.{Session};
-ghost use Rattle.t3_lines.specs.Reader.{ReaderValue, new_reader, IsInputOf, IsReading, Takes, CountsLine, IsText};
+ghost use Rattle.t3_lines.specs.Reader.{ReaderValue, new_reader, IsInputOf, IsReading, Takes, AsksFor, CountsLine, IsText, IsAtEnd};
 
 use crate::line::{WantedLine, readable, without_return};
 use crate::taking::take_line_end;
@@ -60,6 +60,7 @@ impl LineReader {
         ensures line { IfOk result (λ line. (input : List ℕ) → IsInputOf self.new input
             → line ≡ wanted_line input self.old.given) }
         ensures text { IfOk result IsText }
+        ensures at_end { IfOk result (IsAtEnd self.new) }
         ensures given { CountsLine self.old.given self.new.given result }
         ensures takes { Takes self.old self.new (C.session console.old) (C.session console.new) }
         ensures limit { length self.new.taken ≤ limit }
@@ -81,13 +82,17 @@ impl LineReader {
 
 /// All calls of a reader give the lines of one input: an input whose first bytes the reader has taken after
 /// a call is one whose first bytes it had taken before. Where the console tells what it has left, that input
-/// is what was taken, and then what is left.
+/// is what was taken, and then what is left; and each read of it was made while the line was wanted that comes
+/// after those that were given, and before what was taken ended it.
 pub fn one_input()
     ensures earlier { (old new : ReaderValue) (before after : Option Session) (input : List ℕ)
         → Takes old new before after → IsInputOf new input → IsInputOf old input }
     ensures reading { (old new : ReaderValue) (before after : Session) (input : List ℕ)
         → Takes old new (Some before) (Some after) → IsReading input old before
         → IsReading input new after }
+    ensures asked { (old new : ReaderValue) (before after : Session) (input : List ℕ)
+        → Takes old new (Some before) (Some after) → IsReading input old before
+        → AsksFor input old.given before after }
     ensures told { (reader : ReaderValue) (session : Session) (input : List ℕ)
         → IsReading input reader session → IsInputOf reader input }
 {}

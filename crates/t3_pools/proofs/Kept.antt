@@ -119,7 +119,7 @@ there (page ∷ pages) (suc index) h = let rest = there pages index h in omega a
 record Reaches (size place : ℕ) (pool : Pool) (address : ℕ) (bytes : List ℕ) : Type 0 where
   pub stand : HasBytes pool address bytes
   pub empty : bytes ≡ [] → get pool address ≡ None
-  pub narrow : 0 < length bytes → address + length bytes ≤ 2 ^ 31
+  pub narrow : 0 < length bytes → address + length bytes < 2 ^ 31
   pub within : 0 < length bytes → place + length bytes ≤ size
   pub ends : (place + length bytes ≡ size) ⊎ (get pool (address + length bytes) ≡ None)
 

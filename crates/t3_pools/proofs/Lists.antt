@@ -101,14 +101,14 @@ pub record Passed (pool : Pool) (first address index : ℕ) : Type 0 where
   pub elements : List Holder
   pub long : length elements ≡ index
   pub at : address ≡ first + 5 * index
-  pub below : address ≤ 2 ^ 31
+  pub below : address < 2 ^ 31
   pub stands : HasHolders pool first elements
 
-pub passed-none : (pool : Pool) (first : ℕ) → first ≤ 2 ^ 31 → Passed pool first first 0
+pub passed-none : (pool : Pool) (first : ℕ) → first < 2 ^ 31 → Passed pool first first 0
 passed-none pool first below = record { elements = []; long = refl; at = omega arith; below = below; stands = tt }
 
 pub passed-more : (pool : Pool) (first address index : ℕ) (told : Option Holder) → Passed pool first address index
-    → ReadsHolder pool address told → is_some told ≡ true → IfSome told (λ _. address + 5 ≤ 2 ^ 31)
+    → ReadsHolder pool address told → is_some told ≡ true → IfSome told (λ _. address + 5 < 2 ^ 31)
     → Passed pool first (address + 5) (index + 1)
 passed-more pool first address index None passed reads some below = absurd cc
 passed-more pool first address index (Some holder) passed reads some below =

@@ -18,11 +18,11 @@ pub record Begun (pool : Pool) (first count address left : ℕ) : Type 0 where
   pub front : List ℕ
   pub long : length front + left ≡ count
   pub at : address ≡ first + length front
-  pub below : address ≤ 2 ^ 31
+  pub below : address < 2 ^ 31
   pub stands : HasBytes pool first front
   pub utf8 : IsUtf8 front
 
-pub begun-none : (pool : Pool) (first count : ℕ) → first ≤ 2 ^ 31 → Begun pool first count first count
+pub begun-none : (pool : Pool) (first count : ℕ) → first < 2 ^ 31 → Begun pool first count first count
 begun-none pool first count below = record {
   front = [];
   long = omega arith;
@@ -33,7 +33,7 @@ begun-none pool first count below = record {
 }
 
 pub begun-more : (pool : Pool) (first count address left found : ℕ) → Begun pool first count address left → found ≤ left
-    → HasCharacters found pool address → address + found ≤ 2 ^ 31
+    → HasCharacters found pool address → address + found < 2 ^ 31
     → Begun pool first count (address + found) (left - found)
 begun-more pool first count address left found begun within more below =
     let long = length-append begun.front more.0 in

@@ -39,7 +39,7 @@ const LAID_OUT: &[u8] = b"\
 fn constants_go_over_the_borders_of_pages(rt: HostRuntime) -> Result<(), Fail> {
     let alloc = rt.alloc();
     // An address, and the text and the list that stand there.
-    let rows: [(u32, Option<(u32, u16)>, Option<(u32, u16)>); 20] = [
+    let rows: [(u32, Option<(u32, u16)>, Option<(u32, u16)>); 21] = [
         (0, Some((2, 5)), None),
         (7, Some((9, 2)), None),
         // Nothing in it, so it is a text and a list.

@@ -6,6 +6,6 @@ use Rattle.t3_pools.proofs.paged.PagedPool.fill_over.Given as goal
 abbrev pub invariant-loop-slot : goal.invariant-loop-slot
 invariant-loop-slot l = record {
   at : l.next ≡ l.address + l.slot-index;
-  below : 0 < l.slot-index → l.next ≤ 2 ^ 31;
+  below : 0 < l.slot-index → l.next < 2 ^ 31;
   stands : HasBytes l.self.bytes l.address (take l.slot-index l.window);
 }
