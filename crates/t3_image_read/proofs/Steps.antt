@@ -255,7 +255,7 @@ module _ (t m new : Taker) (header : BlockHeader) (kind : BlockKind) (payload : 
   given_added (Ok block) done none spells added =
       let before_is : text_before (InPayload header kind) m ≡ text_before (InPayload header kind) t =
       ap (text_before (InPayload header kind)) others in
-      let at_m : AtPart (InPayload header kind) m = 
+      let at_m : AtPart (InPayload header kind) m =
       subst (λ v. AtPart (InPayload header kind) v) (sym others) (AtPart-held t header kind m.held at) in
       subst (λ s. RunsTo (s ++ payload) new None) before_is (block_added m new header kind block payload at_m none long spells added)
   given_added (Err why) done none gives added = absurd added

@@ -1,8 +1,7 @@
-use Rattle.std.proofs.Common.{◌≡◌, ◌++◌, length, subst, sym, ◌∙◌, arith}
+use Rattle.std.proofs.Common.{◌≡◌, length, subst, sym, ◌∙◌, arith}
 use Rattle.std.proofs.lemmas.Result.{err_from_is_err_and}
 use Rattle.t3_image_read.specs.declared.taker.Part.TheVariants.{InPayload}
 use Rattle.t3_image_read.specs.Reader.{RefusesBy}
-use Rattle.t3_image_read.specs.Inner.Steps.{stream_of, RunsTo}
 use Rattle.t3_image_read.proofs.Steps.{at_part, stream_of-at, within_part, given_added, given_refused}
 use Rattle.t3_image_read.proofs.taker.Taker.advance_from_payload.Goals as goal
 
