@@ -2,6 +2,7 @@ pub mod Blocks
 pub mod Existence
 pub mod Feeding
 pub mod Firsts
+pub mod Payloads
 pub mod Places
 pub mod Prefixes
 pub mod HeadFaults

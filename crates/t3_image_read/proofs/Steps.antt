@@ -1,6 +1,6 @@
 -- One step of the reader, over plain lists: a part that is whole, refused, or cut.
-use Rattle.std.proofs.Common.{◌≡◌, ℕ, ◌+◌, ◌<◌, ◌≤◌, List, [], ◌∷◌, ◌++◌, length, take, Some, None, Result, Ok, Err, refl, sym, ap, subst, ◌∙◌, inl, inr, append_assoc, arith}
-use Rattle.std.proofs.lemmas.List.{length-append, append-nil}
+use Rattle.std.proofs.Common.{◌≡◌, ℕ, ◌+◌, ◌<◌, ◌≤◌, List, [], ◌∷◌, ◌++◌, length, take, Some, Err, refl, sym, ap, subst, ◌∙◌, inl, inr, append_assoc, arith}
+use Rattle.std.proofs.lemmas.List.{length-append}
 use Rattle.std.specs.Global.{Vec}
 use Rattle.t3_blocks.specs.declared.block.Block.{Block}
 use Rattle.t3_blocks.specs.declared.kind.BlockKind.{BlockKind}
@@ -29,7 +29,7 @@ use Rattle.t3_image_read.specs.declared.header.HeaderFault.{HeaderFault}
 use Rattle.t3_image_read.specs.declared.header.HeaderFault.TheVariants as headers
 use Rattle.t3_image_read.specs.Inner.Faults.{head_why, header_why, payload_refusal, HasHeadFault, IsAllowed, HasHeaderFault}
 use Rattle.t3_image_read.specs.Reader.{RefusesBy}
-use Rattle.t3_image_read.specs.Inner.Steps.{size_of, text_before, stream_of, AtBlock, IsOpen, AtPart, HoldsGood, IsSound, image_of, Holds, BeginsWhole, HasBlock, AddsBlock, RunsTo}
+use Rattle.t3_image_read.specs.Inner.Steps.{size_of, text_before, stream_of, AtBlock, IsOpen, AtPart, HoldsGood, IsSound, image_of, Holds}
 use Rattle.t3_image_read.proofs.Headers.{length-header_text}
 use Rattle.t3_image_read.proofs.Heads.{length-head_text}
 use Rattle.t3_image_read.proofs.HeadFaults.{differs-append, good-append, other-append}
@@ -217,64 +217,6 @@ payload_advances head blocks block header kind place payload prefix place_is ope
       place_is = omega (arith, ap length pushed, length-append (prefix_text head blocks) (block_text placed));
       is = pushed ∙ ap (λ t. prefix_text head blocks ++ t) is ∙ sym (append_assoc (prefix_text head blocks) (header_text header) payload);
     }
-
--- ---- a payload that is taken, from what is held or from a piece
-
--- the block that a whole payload gave is added
-block_added : (m new : Taker) (header : BlockHeader) (kind : BlockKind) (block : Block) (payload : List ℕ)
-    → AtPart (InPayload header kind) m → m.held.items ≡ [] → length payload ≡ header.size → Spells block header.name payload
-    → HasBlock m new header block → RunsTo (text_before (InPayload header kind) m ++ payload) new None
-block_added m new header kind block payload at none long spells added =
-    let whole = payload_advances m.head m.blocks.items block header kind m.place payload at.0.prefix at.0.place_is at.1 long spells in
-    let stream = text_before (InPayload header kind) m ++ payload in
-    let on : Taker = record m { blocks = new.blocks; part = InHeader; place = m.place + (10 + header.size) } in
-    let runs : RunsTo stream on None = (
-      record {
-        at = record {
-          prefix = subst (λ bs. IsGoodPrefix m.head bs) (sym added.blocks) whole.prefix;
-          place_is = whole.place_is ∙ ap (λ bs. length (prefix_text m.head bs)) (sym added.blocks);
-        };
-        good = tt;
-        short = omega (arith, ap length none);
-      },
-      ap (λ h. prefix_text m.head new.blocks.items ++ h) none ∙ append-nil (prefix_text m.head new.blocks.items)
-          ∙ ap (prefix_text m.head) added.blocks ∙ whole.is,
-    ) in
-    subst (λ t. RunsTo stream t None) (sym added.others) runs
-
--- what is held says nothing of where a payload stands
-AtPart-held : (t : Taker) (header : BlockHeader) (kind : BlockKind) (held : Vec ℕ) → AtPart (InPayload header kind) t
-    → AtPart (InPayload header kind) (record t { held = held })
-AtPart-held t header kind held at = (record { prefix = at.0.prefix; place_is = at.0.place_is }, at.1)
-
--- between the first two of these only what is held changes
-module _ (t m new : Taker) (header : BlockHeader) (kind : BlockKind) (payload : List ℕ) (at : AtPart (InPayload header kind) t)
-    (others : m ≡ record t { held = m.held }) (long : length payload ≡ header.size) where
-  pub given_added : (given : Result Block PayloadRefusal) (done : Unit {0}) → m.held.items ≡ [] → Gives header.name payload given
-      → AddsBlock m new header given (Ok done) → RunsTo (text_before (InPayload header kind) t ++ payload) new None
-  given_added (Ok block) done none spells added =
-      let before_is : text_before (InPayload header kind) m ≡ text_before (InPayload header kind) t =
-      ap (text_before (InPayload header kind)) others in
-      let at_m : AtPart (InPayload header kind) m = 
-      subst (λ v. AtPart (InPayload header kind) v) (sym others) (AtPart-held t header kind m.held at) in
-      subst (λ s. RunsTo (s ++ payload) new None) before_is (block_added m new header kind block payload at_m none long spells added)
-  given_added (Err why) done none gives added = absurd added
-
-  pub given_refused : (given : Result Block PayloadRefusal) (refusal : ReadRefusal) → Gives header.name payload given
-      → AddsBlock m new header given (Err refusal) → RefusesBy (text_before (InPayload header kind) t ++ payload) refusal
-  given_refused (Ok block) refusal spells is =
-      subst (λ r. RefusesBy (text_before (InPayload header kind) t ++ payload) r) (sym is) tt
-  given_refused (Err why) refusal gives is =
-      let place_is : m.place ≡ t.place = ap (λ (v : Taker). v.place) others in
-      subst (λ r. RefusesBy (text_before (InPayload header kind) t ++ payload) r) (sym (is ∙ ap (λ p. payload_refusal p why) place_is))
-      (payload_refuses t.head t.blocks.items header kind t.place payload why at.0.prefix at.0.place_is at.1 long gives)
-
--- before a payload of which nothing is held
-pub stream_of-begins : (t : Taker) (rest : List ℕ) (header : BlockHeader) (kind : BlockKind) → BeginsWhole t rest (header, kind)
-    → stream_of t ≡ text_before (InPayload header kind) t
-stream_of-begins t rest header kind begins =
-    stream_of-at t (InPayload header kind) begins.part ∙ ap (λ h. text_before (InPayload header kind) t ++ h) begins.none
-    ∙ append-nil (text_before (InPayload header kind) t)
 
 -- ---- a stream that ends here
 
