@@ -3,7 +3,7 @@ ghost use Rattle.std.specs.Prelude.{◌≡◌, ◌↔◌, IsTrue, MatchOption};
 ghost use Rattle.std.specs.List.{list_any};
 ghost use Rattle.t3_pools.specs.Finding.{OnlyOf};
 ghost use Rattle.t3_interp.specs.Loading.{Loads, entries, is_later as is_later_block, HasBase, IsPlainMethod};
-ghost use Rattle.t3_interp.specs.Inner.Launching.{FindsEntry, FindsSets, FindsList, IsIoAlone, entry_value, refusal_by_pools};
+ghost use Rattle.t3_interp.specs.Inner.Launching.{FindsEntry, FindsSets, FindsNames, IsIoAlone, entry_value, refusal_by_pools};
 
 use std::alloc::Global;
 use t3_blocks::{Block, Names};
@@ -134,7 +134,7 @@ fn has_io_set(blocks: &[PlacedBlock]) -> Option<bool>
 
 /// The list of function sets of an image that has at most one.
 fn only_list(blocks: &[PlacedBlock]) -> Option<Option<&Names>>
-    ensures { FindsList blocks.now result }
+    ensures { FindsNames blocks.now result }
 {
     let mut found = None;
     for placed in blocks {

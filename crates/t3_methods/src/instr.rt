@@ -19,6 +19,7 @@ pub enum Instr {
     Local(LocalCode),
 }
 
+/// Opcodes 01 to 0F: what is pushed.
 #[derive(Clone, Copy, Debug, PartialEq, Eq, Hash)]
 pub enum PushCode {
     Push0,
@@ -31,12 +32,14 @@ pub enum PushCode {
     Pushtrue,
 }
 
+/// Opcodes 20 to 45: what is computed of the topmost operands.
 #[derive(Clone, Copy, Debug, PartialEq, Eq, Hash)]
 pub enum MathCode {
     Add,
     Sub,
 }
 
+/// Opcodes 50 to 77: what is called, and what is returned.
 #[derive(Clone, Copy, Debug, PartialEq, Eq, Hash)]
 pub enum CallCode {
     Retval,
@@ -45,12 +48,13 @@ pub enum CallCode {
     Ret,
 }
 
+/// Opcodes 80 to 8D: how values move on the stack.
 #[derive(Clone, Copy, Debug, PartialEq, Eq, Hash)]
 pub enum StackCode {
     Disc,
 }
 
-/// A jump's operand is the distance from that operand's own address.
+/// Opcodes 90 to 9D: where to go on. A jump's operand is the distance from that operand's own address.
 #[derive(Clone, Copy, Debug, PartialEq, Eq, Hash)]
 pub enum JumpCode {
     Jmp(i16),
@@ -60,12 +64,14 @@ pub enum JumpCode {
     Jf(i16),
 }
 
+/// Opcodes B0 to C3: what is said, thrown, made, and called of built-in functions.
 #[derive(Clone, Copy, Debug, PartialEq, Eq, Hash)]
 pub enum MakeCode {
     /// The count of arguments, and the index of a function in set 0.
     Builtina(u8, u8),
 }
 
+/// Opcodes D0 to F2: which local or property is set; the last does nothing.
 #[derive(Clone, Copy, Debug, PartialEq, Eq, Hash)]
 pub enum LocalCode {
     Nop,

@@ -31,10 +31,10 @@ FindsSets blocks None = (has_io : Bool) → ¬ HasSets has_io blocks
 FindsSets blocks (Some has_io) = HasSets has_io blocks
 
 -- the image has more than one list of function sets, or none, or this one
-abbrev pub FindsList : List PlacedBlock → Option (Option (Bor Names)) → Type 0
-FindsList blocks None = (name_lists blocks ≢ []) × ((names : List (List ℕ)) → name_lists blocks ≢ names ∷ [])
-FindsList blocks (Some None) = name_lists blocks ≡ []
-FindsList blocks (Some (Some names)) = name_lists blocks ≡ names.now ∷ []
+abbrev pub FindsNames : List PlacedBlock → Option (Option (Bor Names)) → Type 0
+FindsNames blocks None = (name_lists blocks ≢ []) × ((names : List (List ℕ)) → name_lists blocks ≢ names ∷ [])
+FindsNames blocks (Some None) = name_lists blocks ≡ []
+FindsNames blocks (Some (Some names)) = name_lists blocks ≡ names.now ∷ []
 
 -- a list names the set for input and output alone
 abbrev pub IsIoAlone : List (List ℕ) → Type 0
