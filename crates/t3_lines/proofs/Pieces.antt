@@ -58,7 +58,8 @@ asked_by-more : (left shown : ℕ) (pieces : List (List ℕ)) (piece : List ℕ)
     → asked_by left shown (pieces ++ piece ∷ []) ≡ asked_by left shown pieces ++ (left - length (concat pieces), shown) ∷ []
 asked_by-more left shown [] piece = let same : left ≡ left - 0 = omega arith in ap (λ (l : ℕ). (l, shown) ∷ []) same
 asked_by-more left shown (first ∷ pieces) piece =
-    let less : left - length first - length (concat pieces) ≡ left - length (first ++ concat pieces) = omega (arith, length-append first (concat pieces)) in
+    let less : left - length first - length (concat pieces) ≡ left - length (first ++ concat pieces) = omega
+    (arith, length-append first (concat pieces)) in
     ap (λ asked. (left, shown) ∷ asked) (asked_by-more (left - length first) shown pieces piece
     ∙ ap (λ (l : ℕ). asked_by (left - length first) shown pieces ++ (l, shown) ∷ []) less)
 
@@ -85,9 +86,12 @@ told_more (Some before) (Some mid) (Some after) pieces piece some first second =
       shown = second.shown ∙ first.shown;
       asked =
           second.asked ∙ ap (λ asked. asked ++ (length mid.left, length mid.shown) ∷ []) first.asked
-          ∙ append_assoc before.asked (asked_by (length before.left) (length before.shown) pieces) ((length mid.left, length mid.shown) ∷ [])
-          ∙ ap (λ asked. before.asked ++ asked) (ap (λ (l : ℕ). asked_by (length before.left) (length before.shown) pieces ++ (l, length mid.shown) ∷ []) left
-          ∙ ap (λ (s : List ℕ). asked_by (length before.left) (length before.shown) pieces ++ (length before.left - length (concat pieces), length s) ∷ []) first.shown
+          ∙ append_assoc before.asked (asked_by (length before.left) (length before.shown) pieces)
+          ((length mid.left, length mid.shown) ∷ [])
+          ∙ ap (λ asked. before.asked ++ asked) (ap (λ (l : ℕ). asked_by (length before.left) (length before.shown) pieces ++
+          (l, length mid.shown) ∷ []) left
+          ∙ ap (λ (s : List ℕ). asked_by (length before.left) (length before.shown) pieces ++
+          (length before.left - length (concat pieces), length s) ∷ []) first.shown
           ∙ sym (asked_by-more (length before.left) (length before.shown) pieces piece));
     }
 
@@ -112,7 +116,8 @@ wanted_more given taken (first ∷ pieces) piece wanted some unended room fits =
         fits = wanted.0.fits;
         last = λ nothing. absurd (is_some first nothing some);
       },
-      wanted_more given (taken ++ first) pieces piece wanted.1 (rest_some first some) (subst P same unended) (subst Q same room) (subst R same fits),
+      wanted_more given (taken ++ first) pieces piece wanted.1 (rest_some first some) (subst P same unended) (subst Q same room)
+          (subst R same fits),
     )
   where
     is_some : (first : List ℕ) → first ≡ [] → list_any is_nothing (first ∷ pieces) ≡ false → ⊥

@@ -43,7 +43,14 @@ sound_more given start wanted old new was is before after sound takes = record {
     nothing ended = ap concat (takes.once ended)
 
     short : (b : Bool) → was ≡ b → is ≡ true → length new < limit
-    short true ended now = omega (arith, sound.short ended, ap length takes.taken, length-append old (concat takes.pieces), ap length (nothing ended))
+    short true ended now = omega (
+      arith,
+      sound.short ended,
+      ap length takes.taken,
+      length-append old (concat takes.pieces),
+      ap length
+          (nothing ended),
+    )
     short false running now = takes.short running now
 
     last_of : (more : List ℕ) → (is ≡ true → more ≡ []) → was ≡ true → concat takes.pieces ++ more ≡ []
@@ -55,7 +62,8 @@ sound_more given start wanted old new was is before after sound takes = record {
         ap (drop start) takes.taken ∙ drop-append-le start old (concat takes.pieces) sound.within in
         ap (λ t. lines (t ++ more)) takes.taken ∙ ap lines (append_assoc old (concat takes.pieces) more)
         ∙ sound.cut (concat takes.pieces ++ more) (last_of more last)
-        ∙ ap (λ t. sound.before ++ lines t) (sym (append_assoc (drop start old) (concat takes.pieces) more) ∙ ap (λ d. d ++ more) (sym drops))
+        ∙ ap (λ t. sound.before ++ lines t) (sym (append_assoc (drop start old) (concat takes.pieces) more)
+        ∙ ap (λ d. d ++ more) (sym drops))
 
 -- what the line's end makes of the rest
 rest_of : (taken more : List ℕ) (start end : ℕ) → IsEndFrom start taken end
@@ -68,17 +76,21 @@ rest_of taken more start end is =
     ap (λ b. b ++ more) (rest_is rest (end - start) is.there)
     ∙ append_assoc line (10 ∷ drop (end - start + 1) rest) more ∙ ap (λ b. line ++ 10 ∷ (b ++ more)) behind
 
-lines_after : (taken more : List ℕ) (start given end : ℕ) (is_ended : Bool) (sound : IsSound taken start given is_ended) → IsEndFrom start taken end
+lines_after : (taken more : List ℕ) (start given end : ℕ) (is_ended : Bool) (sound : IsSound taken start given is_ended)
+    → IsEndFrom start taken end
     → (is_ended ≡ true → more ≡ [])
-    → lines (taken ++ more) ≡ sound.before ++ strip_carriage_return (take (end - start) (drop start taken)) ∷ lines (drop (end + 1) taken ++ more)
+    → lines (taken ++ more) ≡ sound.before ++ strip_carriage_return (take (end - start) (drop start taken)) ∷ lines
+    (drop (end + 1) taken ++ more)
 lines_after taken more start given end is_ended sound end_is last =
     sound.cut more last
-    ∙ ap (λ b. sound.before ++ b) (ap lines (rest_of taken more start end end_is) ∙ lines-ended (take (end - start) (drop start taken)) (drop (end + 1) taken ++ more) end_is.there.first)
+    ∙ ap (λ b. sound.before ++ b) (ap lines (rest_of taken more start end end_is)
+    ∙ lines-ended (take (end - start) (drop start taken)) (drop (end + 1) taken ++ more) end_is.there.first)
 
 end_within : (taken : List ℕ) (start end : ℕ) → start ≤ length taken → IsEndFrom start taken end → end + 1 ≤ length taken
 end_within taken start end within is = omega (arith, is.at_least, is.there.within, length-drop start taken)
 
-counted_through : (taken : List ℕ) (start end : ℕ) → IsEndFrom start taken end → ended_lines (take (end + 1) taken) ≡ ended_lines (take start taken) + 1
+counted_through : (taken : List ℕ) (start end : ℕ) → IsEndFrom start taken end
+    → ended_lines (take (end + 1) taken) ≡ ended_lines (take start taken) + 1
 counted_through taken start end is =
     let size : end + 1 ≡ start + (end - start + 1) = omega (arith, is.at_least) in
     ap ended_lines (ap (λ (n : ℕ). take n taken) size ∙ take-add start (end - start + 1) taken)
@@ -97,7 +109,8 @@ sound_next taken start given end is_ended sound is = record {
   before = sound.before ++ strip_carriage_return (take (end - start) (drop start taken)) ∷ [];
   many = length-append sound.before (strip_carriage_return (take (end - start) (drop start taken)) ∷ []) ∙ ap (λ (n : ℕ). n + 1) sound.many;
   cut = λ more last. lines_after taken more start given end is_ended sound is last
-      ∙ sym (append_assoc sound.before (strip_carriage_return (take (end - start) (drop start taken)) ∷ []) (lines (drop (end + 1) taken ++ more)));
+      ∙ sym (append_assoc sound.before (strip_carriage_return (take (end - start) (drop start taken)) ∷ [])
+      (lines (drop (end + 1) taken ++ more)));
 }
 
 below_limit : (input : List ℕ) (given : ℕ) → length input < limit → is_past_limit input given ≡ false
@@ -117,7 +130,8 @@ counted_prefix : (taken more : List ℕ) (size : ℕ) → length taken ≤ limit
     → ended_lines (take size taken) ≤ ended_lines (take limit (taken ++ more))
 counted_prefix taken more size limited within =
     let split : limit ≡ size + (limit - size) = omega (arith, limited, within) in
-    let is : ended_lines (take limit (taken ++ more)) ≡ ended_lines (take size taken) + ended_lines (take (limit - size) (drop size (taken ++ more))) =
+    let is : ended_lines (take limit (taken ++ more)) ≡ ended_lines (take size taken) + ended_lines
+    (take (limit - size) (drop size (taken ++ more))) =
     ap (λ (n : ℕ). ended_lines (take n (taken ++ more))) split
     ∙ ap ended_lines (take-add size (limit - size) (taken ++ more))
     ∙ ended-append (take size (taken ++ more)) (take (limit - size) (drop size (taken ++ more)))
@@ -134,25 +148,35 @@ line_there input given before line rest many is within =
     ap (λ past. if past then PastLimit else line_or_end (slice_get (lines_of input) given)) within ∙ ap line_or_end found
 
 -- the input isn't past the limit where a newline ends the line within what was taken
-within_limit : (taken more : List ℕ) (start given end : ℕ) (is_ended : Bool) → IsSound taken start given is_ended → IsEndFrom start taken end
+within_limit : (taken more : List ℕ) (start given end : ℕ) (is_ended : Bool) → IsSound taken start given is_ended
+    → IsEndFrom start taken end
     → (is_ended ≡ true → more ≡ []) → is_past_limit (taken ++ more) given ≡ false
 within_limit taken more start given end true sound is last =
     let short : length (taken ++ more) < limit = omega (arith, sound.short refl, length-append taken more, ap length (last refl)) in
     below_limit (taken ++ more) given short
 within_limit taken more start given end false sound is last =
     let enough : given < ended_lines (take limit (taken ++ more)) =
-    omega (arith, sound.counted refl, counted_through taken start end is, counted_prefix taken more (end + 1) sound.limited (end_within taken start end sound.within is)) in
+    omega (
+      arith,
+      sound.counted refl,
+      counted_through taken start end is,
+      counted_prefix taken more (end + 1) sound.limited
+          (end_within taken start end sound.within is),
+    ) in
     and_above (nat_le limit (length (taken ++ more))) (ended_lines (take limit (taken ++ more))) given enough
 
 -- a line that its newline ends
-pub line_given : (taken more : List ℕ) (start given end : ℕ) (is_ended : Bool) → IsSound taken start given is_ended → IsEndFrom start taken end
+pub line_given : (taken more : List ℕ) (start given end : ℕ) (is_ended : Bool) → IsSound taken start given is_ended
+    → IsEndFrom start taken end
     → (is_ended ≡ true → more ≡ [])
     → wanted_line (taken ++ more) given ≡ Line (readable (strip_carriage_return (take (end - start) (drop start taken))))
 line_given taken more start given end is_ended sound is last =
-    line_there (taken ++ more) given sound.before (strip_carriage_return (take (end - start) (drop start taken))) (lines (drop (end + 1) taken ++ more)) sound.many
+    line_there (taken ++ more) given sound.before (strip_carriage_return (take (end - start) (drop start taken)))
+    (lines (drop (end + 1) taken ++ more)) sound.many
     (lines_after taken more start given end is_ended sound is last) (within_limit taken more start given end is_ended sound is last)
 
-lines_last : (taken : List ℕ) (start given : ℕ) (sound : IsSound taken start given true) → lines taken ≡ sound.before ++ lines (drop start taken)
+lines_last : (taken : List ℕ) (start given : ℕ) (sound : IsSound taken start given true)
+    → lines taken ≡ sound.before ++ lines (drop start taken)
 lines_last taken start given sound =
     ap lines (sym (append-nil taken)) ∙ sound.cut [] (λ _. refl) ∙ ap (λ b. sound.before ++ lines b) (append-nil (drop start taken))
 
@@ -166,7 +190,8 @@ lines_to_end taken start given sound is some =
 pub last_given : (taken : List ℕ) (start given : ℕ) → IsSound taken start given true → IsOpen start taken true → start < length taken
     → wanted_line taken given ≡ Line (readable (drop start taken))
 last_given taken start given sound is some =
-    line_there taken given sound.before (drop start taken) [] sound.many (lines_to_end taken start given sound is some) (below_limit taken given (sound.short refl))
+    line_there taken given sound.before (drop start taken) [] sound.many (lines_to_end taken start given sound is some)
+    (below_limit taken given (sound.short refl))
 
 pub sound_last : (taken : List ℕ) (start given : ℕ) → IsSound taken start given true → IsOpen start taken true → start < length taken
     → IsSound taken (length taken) (given + 1) true
@@ -180,18 +205,22 @@ sound_last taken start given sound is some = record {
   many = length-append sound.before (drop start taken ∷ []) ∙ ap (λ (n : ℕ). n + 1) sound.many;
   cut = λ more last. ap (λ b. lines (taken ++ b)) (last refl) ∙ ap lines (append-nil taken) ∙ lines_to_end taken start given sound is some
       ∙ sym (append-nil (sound.before ++ drop start taken ∷ []))
-      ∙ ap (λ b. (sound.before ++ drop start taken ∷ []) ++ lines b) (sym ((λ i. drop_all (length taken) taken (omega arith) i ++ last refl i)));
+      ∙ ap (λ b. (sound.before ++ drop start taken ∷ []) ++ lines b)
+      (sym ((λ i. drop_all (length taken) taken (omega arith) i ++ last refl i)));
 }
 
 -- no line is left
-pub end_given : (taken : List ℕ) (start given : ℕ) → IsSound taken start given true → start ≡ length taken → wanted_line taken given ≡ EndOfInput
+pub end_given : (taken : List ℕ) (start given : ℕ) → IsSound taken start given true → start ≡ length taken
+    → wanted_line taken given ≡ EndOfInput
 end_given taken start given sound at =
     let none : lines taken ≡ sound.before =
-    lines_last taken start given sound ∙ ap (λ b. sound.before ++ lines b) (drop_all start taken (omega (arith, at))) ∙ append-nil sound.before in
+    lines_last taken start given sound ∙ ap (λ b. sound.before ++ lines b) (drop_all start taken (omega (arith, at)))
+    ∙ append-nil sound.before in
     let past : slice_get (lines_of taken) given ≡ None =
     slice_get-map readable (lines taken) given
     ∙ ap (option_map readable) (slice_get_past (lines taken) given (omega (arith, ap length none, sound.many))) in
-    ap (λ b. if b then PastLimit else line_or_end (slice_get (lines_of taken) given)) (below_limit taken given (sound.short refl)) ∙ ap line_or_end past
+    ap (λ b. if b then PastLimit else line_or_end (slice_get (lines_of taken) given)) (below_limit taken given (sound.short refl))
+    ∙ ap line_or_end past
 
 -- as much was taken as may be, and no newline ends the line
 pub past_given : (taken more : List ℕ) (start given : ℕ) → IsSound taken start given false → IsOpen start taken false
@@ -209,14 +238,17 @@ past_given taken more start given sound is =
     (and_below limit (length (taken ++ more)) (ended_lines (take limit (taken ++ more))) given long few)
 
 -- the same, as a call of the reader has them
-pub past_line : (taken input : List ℕ) (start given wanted : ℕ) (is_ended : Bool) → IsSound taken start given is_ended → FindsEnd start taken is_ended (Ok None)
-    → is_ended ≡ false → given ≡ wanted → IsInputOf (record { taken = taken; given = given; is_ended = is_ended }) input → PastLimit ≡ wanted_line input wanted
+pub past_line : (taken input : List ℕ) (start given wanted : ℕ) (is_ended : Bool) → IsSound taken start given is_ended
+    → FindsEnd start taken is_ended (Ok None)
+    → is_ended ≡ false → given ≡ wanted → IsInputOf (record { taken = taken; given = given; is_ended = is_ended }) input
+    → PastLimit ≡ wanted_line input wanted
 past_line taken input start given wanted true sound found running same is = absurd cc
 past_line taken input start given wanted false sound found running same is =
     sym ((λ i. wanted_line (is.is i) (sym same i)) ∙ past_given taken is.more start given sound found)
 
 pub end_line : (taken input : List ℕ) (start given wanted : ℕ) (is_ended : Bool) → IsSound taken start given is_ended
-    → is_ended ≡ true → start ≡ length taken → given ≡ wanted → IsInputOf (record { taken = taken; given = given; is_ended = is_ended }) input
+    → is_ended ≡ true → start ≡ length taken → given ≡ wanted
+    → IsInputOf (record { taken = taken; given = given; is_ended = is_ended }) input
     → EndOfInput ≡ wanted_line input wanted
 end_line taken input start given wanted false sound ended at same is = absurd cc
 end_line taken input start given wanted true sound ended at same is =
@@ -224,20 +256,25 @@ end_line taken input start given wanted true sound ended at same is =
     sym ((λ i. wanted_line (all i) (sym same i)) ∙ end_given taken start given sound at)
 
 pub ended_line : (taken input line : List ℕ) (start given wanted end now : ℕ) (is_ended : Bool) → IsSound taken start given is_ended
-    → FindsEnd start taken is_ended (Ok (Some end)) → given ≡ wanted → line ≡ readable (strip_carriage_return (take (end - start) (drop start taken)))
+    → FindsEnd start taken is_ended (Ok (Some end)) → given ≡ wanted
+    → line ≡ readable (strip_carriage_return (take (end - start) (drop start taken)))
     → IsInputOf (record { taken = taken; given = now; is_ended = is_ended }) input → Line line ≡ wanted_line input wanted
 ended_line taken input line start given wanted end now is_ended sound found same copy is =
-    sym ((λ i. wanted_line (is.is i) (sym same i)) ∙ line_given taken is.more start given end is_ended sound found is.ended ∙ ap Line (sym copy))
+    sym ((λ i. wanted_line (is.is i) (sym same i)) ∙ line_given taken is.more start given end is_ended sound found is.ended
+    ∙ ap Line (sym copy))
 
 pub last_line : (taken input line : List ℕ) (start given wanted now : ℕ) (is_ended : Bool) → IsSound taken start given is_ended
-    → FindsEnd start taken is_ended (Ok None) → is_ended ≡ true → ¬ (start ≡ length taken) → given ≡ wanted → line ≡ readable (drop start taken)
+    → FindsEnd start taken is_ended (Ok None) → is_ended ≡ true → ¬ (start ≡ length taken) → given ≡ wanted
+    → line ≡ readable (drop start taken)
     → IsInputOf (record { taken = taken; given = now; is_ended = is_ended }) input → Line line ≡ wanted_line input wanted
 last_line taken input line start given wanted now false sound found ended some same copy is = absurd cc
 last_line taken input line start given wanted now true sound found ended some same copy is =
     let all : input ≡ taken = is.is ∙ ap (λ b. taken ++ b) (is.ended refl) ∙ append-nil taken in
-    sym ((λ i. wanted_line (all i) (sym same i)) ∙ last_given taken start given sound found (omega (arith, sound.within, some)) ∙ ap Line (sym copy))
+    sym ((λ i. wanted_line (all i) (sym same i)) ∙ last_given taken start given sound found (omega (arith, sound.within, some))
+    ∙ ap Line (sym copy))
 
 pub sound_end : (taken : List ℕ) (start given : ℕ) (is_ended : Bool) → IsSound taken start given is_ended
-    → FindsEnd start taken is_ended (Ok None) → is_ended ≡ true → ¬ (start ≡ length taken) → IsSound taken (length taken) (given + 1) is_ended
+    → FindsEnd start taken is_ended (Ok None) → is_ended ≡ true → ¬ (start ≡ length taken)
+    → IsSound taken (length taken) (given + 1) is_ended
 sound_end taken start given false sound found ended some = absurd cc
 sound_end taken start given true sound found ended some = sound_last taken start given sound found (omega (arith, sound.within, some))

@@ -176,7 +176,8 @@ end_found old now new before mid after count start place is piece at end =
     let P : List ℕ → Type 0 = λ bytes. IsLineEnd bytes (start + place - length old) in
     record {
       at_least = omega (arith, at);
-      there = subst P (sym all) (end_after (drop (length old) now) piece.piece place (start + place - length old) is.none there (omega (arith, at, length-drop (length old) now)));
+      there = subst P (sym all) (end_after (drop (length old) now) piece.piece place (start + place - length old) is.none there
+          (omega (arith, at, length-drop (length old) now)));
     }
 
 -- the bytes before a line that isn't ended have all the newlines
@@ -198,7 +199,13 @@ found_from start old new was is before after (Ok None) within none takes found =
       none =
           ap ended_lines (ap (drop start) takes.taken ∙ drop-append-le start old (concat takes.pieces) within)
           ∙ ended-append (drop start old) (concat takes.pieces)
-          ∙ omega (arith, none, ap ended_lines (sym (ap (drop (length old)) takes.taken ∙ drop-append_seam old (concat takes.pieces))), found.none);
+          ∙ omega (
+            arith,
+            none,
+            ap ended_lines (sym (ap (drop (length old)) takes.taken
+                ∙ drop-append_seam old (concat takes.pieces))),
+            found.none,
+          );
       full = found.full;
     }
 found_from start old new was is before after (Ok (Some place)) within none takes found =
@@ -209,5 +216,6 @@ found_from start old new was is before after (Ok (Some place)) within none takes
     let there = subst P (ap (drop (length old)) takes.taken ∙ drop-append_seam old more) found.there in
     record {
       at_least = omega (arith, within, found.at_least);
-      there = subst Q (sym all) (end_after (drop start old) more (place - length old) (place - start) none there (omega (arith, within, found.at_least, length-drop start old)));
+      there = subst Q (sym all) (end_after (drop start old) more (place - length old) (place - start) none there
+          (omega (arith, within, found.at_least, length-drop start old)));
     }

@@ -16,7 +16,8 @@ plain byte = if nat_le 128 byte then 63 else byte
 abbrev pub readable : List ℕ → List ℕ
 readable line = if is_utf8 line then line else map plain line
 
--- the lines of an input: each ends before a newline, without the carriage return right before that one, and bytes after the last newline are a line too
+-- the lines of an input: each ends before a newline, without the carriage return right before that newline,
+-- and bytes after the last newline are a line too
 abbrev pub lines_of : List ℕ → List (List ℕ)
 lines_of input = map readable (lines input)
 

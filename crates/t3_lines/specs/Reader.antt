@@ -28,7 +28,8 @@ pub record IsReading (input : List ℕ) (reader : ReaderValue) (session : Sessio
   pub is : input ≡ reader.taken ++ session.left
   pub ended : reader.is_ended ≡ true → session.left ≡ []
 
--- a read was made when the bytes taken before it didn't end the line after so many, nor reached the limit; one that gave nothing was the last
+-- a read was made when the bytes taken before it didn't end the line after so many, nor reached the limit;
+-- one that gave nothing was the last
 pub record IsWanted (given : ℕ) (taken piece : List ℕ) (later : List (List ℕ)) : Type 0 where
   pub unended : ended_lines taken ≡ given
   pub room : length taken < limit

@@ -18,5 +18,6 @@ returns-in-None-clause-found g c =
     let P : List ℕ → Type 0 = λ bytes. ended_lines (take (length bytes - c.args.start) (drop c.args.start bytes)) ≡ 0 in
     let none = ap ended_lines (sym (take_rest old c.args.start)) ∙ subst P c.deref.ensures.value c.in-None.ensures in
     found_from c.args.start old c.take_to_newline.new.taken.items c.args.is_ended.now c.take_to_newline.new.is_ended
-    (g.C.Console.session c.args.console.now) (g.C.Console.session c.take_to_newline.new.console) c.take_to_newline.result c.requires.start none
+    (g.C.Console.session c.args.console.now) (g.C.Console.session c.take_to_newline.new.console) c.take_to_newline.result
+    c.requires.start none
     c.take_to_newline.ensures.takes c.take_to_newline.ensures.found
