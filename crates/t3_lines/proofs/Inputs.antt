@@ -44,9 +44,10 @@ asked_each input taken left rest given shown (piece ∷ pieces) is parts wanted 
     let here : left ≡ piece ++ others = parts ∙ append_assoc piece (concat pieces) rest in
     let size : length left - length piece ≡ length others = omega (arith, ap length here, length-append piece others) in
     let next : input ≡ (taken ++ piece) ++ others = is ∙ ap (λ b. taken ++ b) here ∙ sym (append_assoc taken piece others) in
-    let P : ℕ → Type 0 = λ n. AllByRecursion (IsAskedWith input given shown) (asked_by n shown pieces) in
-    (record { taken = taken; left = left; is = is; left_is = refl; shown_is = refl; unended = wanted.0.unended; room = wanted.0.room },
-      subst P (sym size) (asked_each input (taken ++ piece) others rest given shown pieces next refl wanted.1))
+    let P : ℕ → Type 0 = λ n. AllByRecursion (IsAskedWith input given shown) (asked_by n shown pieces) in (
+      record { taken = taken; left = left; is = is; left_is = refl; shown_is = refl; unended = wanted.0.unended; room = wanted.0.room },
+      subst P (sym size) (asked_each input (taken ++ piece) others rest given shown pieces next refl wanted.1),
+    )
 
 pub asked_for : (old new : ReaderValue) (before after : Session) (input : List ℕ) → Takes old new (Some before) (Some after)
     → IsReading input old before → AsksFor input old.given before after
