@@ -26,9 +26,6 @@ use t3_io::{Console, Depot};
 /// Unbuilt`. Each shows that the file isn't there, or why it is no image. Words that are no command show
 /// how the program is used.
 ///
-/// The memory of an image that `check` or `show` looked at isn't given back: the process ends after the
-/// call, which gives it back at once.
-///
 /// `DepotFault` and `ConsoleFault` come exactly where that device counted a fault. `NoMemory` is meant
 /// for refused allocations, though no clause ties it to them. Each other answer comes with its whole
 /// outcome, and exactly for its cause where the call wasn't cut short by one of these three. So where

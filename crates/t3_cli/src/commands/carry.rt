@@ -15,7 +15,6 @@ use crate::lines;
 use crate::status::Status;
 use crate::story::launch;
 use std::alloc::Global;
-use std::mem;
 use t3_image_read::Image;
 use t3_io::{Console, Depot, DeviceRefusal};
 
@@ -90,26 +89,12 @@ fn act<D: Depot, C: Console>(
             answer(console, line, Status::ImageRefused)
         }
         ReadImage::Image(image) => match command {
-            Command::Check { .. } => {
-                let line = check_line(alloc, &image);
-                leave(image);
-                answer(console, line, Status::Done)
-            }
-            Command::Show { .. } => {
-                let lines = image_lines(alloc, &image);
-                leave(image);
-                answer(console, lines, Status::Done)
-            }
+            Command::Check { .. } => answer(console, check_line(alloc, &image), Status::Done),
+            Command::Show { .. } => answer(console, image_lines(alloc, &image), Status::Done),
             Command::Run { options, .. } => launch(alloc, &image, options, console),
             Command::Rewrite { out, mask, .. } => rewrite(alloc, image, out, mask, depot, console),
         },
     }
-}
-
-/// Leaves an image that was looked at to the end of the process, which gives all memory back at once. To
-/// let go of its items one by one takes long.
-fn leave(image: Image) {
-    mem::forget(image);
 }
 
 /// Puts what is written of an image, and shows how many bytes that were.

@@ -31,13 +31,13 @@ returns-in-Refused-clause-follows g c =
 
 pub returns-in-Check-clause-follows : goal.returns-in-Check-clause-follows
 returns-in-Check-clause-follows g c =
-    line_matched (command_value c.args.command) (Check c.in-Check.image.now) c.args.read (read.Image c.in-Image.image) string_bytes (g.D.Depot.files c.args.depot.now) _ _ c.check_line-line.result
-    (check_text c.in-Image.image) Done _ (ap command_value c.in-Check.is) c.in-Image.is refl c.check_line-line.ensures c.answer-in-Check.ensures.shown
+    line_matched (command_value c.args.command) (Check c.in-Check.image.now) c.args.read (read.Image c.in-Image.image) string_bytes (g.D.Depot.files c.args.depot.now) _ _ c.check_line.result
+    (check_text c.in-Image.image) Done _ (ap command_value c.in-Check.is) c.in-Image.is refl c.check_line.ensures c.answer-in-Check.ensures.shown
 
 pub returns-in-Show-clause-follows : goal.returns-in-Show-clause-follows
 returns-in-Show-clause-follows g c =
-    line_matched (command_value c.args.command) (Show c.in-Show.image.now) c.args.read (read.Image c.in-Image.image) string_bytes (g.D.Depot.files c.args.depot.now) _ _ c.image_lines-lines.result
-    (show_text c.in-Image.image) Done _ (ap command_value c.in-Show.is) c.in-Image.is refl c.image_lines-lines.ensures c.answer-in-Show.ensures.shown
+    line_matched (command_value c.args.command) (Show c.in-Show.image.now) c.args.read (read.Image c.in-Image.image) string_bytes (g.D.Depot.files c.args.depot.now) _ _ c.image_lines.result
+    (show_text c.in-Image.image) Done _ (ap command_value c.in-Show.is) c.in-Image.is refl c.image_lines.ensures c.answer-in-Show.ensures.shown
 
 pub returns-in-Run-clause-follows : goal.returns-in-Run-clause-follows
 returns-in-Run-clause-follows g c =
