@@ -62,7 +62,10 @@ cause_name why.NoByte = codes "NoByte"
 cause_name (why.Opcode opcode) = codes "Opcode"
 cause_name why.Operand = codes "Operand"
 cause_name why.Header = codes "Header"
+cause_name why.Table = codes "Table"
 cause_name why.Underflow = codes "Underflow"
+cause_name why.Local = codes "Local"
+cause_name why.Argument = codes "Argument"
 cause_name why.Unbuilt = codes "Unbuilt"
 
 -- an object was thrown by a fault, and nothing caught it

@@ -117,7 +117,10 @@ fn cause_name(why: CodeWhy) -> &'static str
         CodeWhy::Opcode(_) => "Opcode",
         CodeWhy::Operand => "Operand",
         CodeWhy::Header => "Header",
+        CodeWhy::Table => "Table",
         CodeWhy::Underflow => "Underflow",
+        CodeWhy::Local => "Local",
+        CodeWhy::Argument => "Argument",
         CodeWhy::Unbuilt => "Unbuilt",
     }
 }

@@ -12,7 +12,7 @@ use Rattle.t3_pools.specs.Building.{KeepsRules, Refuses, count_by, pages_at}
 use Rattle.t3_methods.specs.declared.header.Header.{Header}
 use Rattle.t3_methods.specs.declared.refusal.CodeRefusal.{CodeRefusal}
 use Rattle.t3_methods.specs.MethodHeader.{HasHeader, parameters}
-use Rattle.t3_methods.specs.Answers.{FindsHeader}
+use Rattle.t3_methods.specs.MethodHeader.{FindsHeader}
 use Rattle.t3_methods.proofs.MethodHeaders.{one_header}
 use Rattle.t3_methods.proofs.Lookup.{some_header}
 use Rattle.t3_interp.specs.Machine.{ProgramValue}

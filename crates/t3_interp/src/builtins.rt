@@ -24,7 +24,9 @@ pub(crate) fn make(
     ensures { IfOk result
         (λ turn. Does (make_acts has_io code (stack_of operands.old)) turn (stack_of operands.new)) }
 {
-    let MakeCode::Builtina(count, index) = code;
+    let MakeCode::Builtina(count, index) = code else {
+        return Ok(Turn::Stops(CodeWhy::Unbuilt));
+    };
     if operands.len() < usize::from(count) {
         return Ok(Turn::Stops(CodeWhy::Underflow));
     }

@@ -1,7 +1,7 @@
 //! What each instruction asks for, and what it does to the operands.
 ghost use Rattle.std.specs.Prelude.{◌≡◌, IfOk, List, length};
 ghost use Rattle.t3_holder.specs.declared.holder.Holder.{Holder as AnyHolder};
-ghost use Rattle.t3_interp.specs.Instructions.{acts, push_value, push_acts, math_acts, call_acts, stack_acts, jump_acts, make_acts, local_acts, truth as is_true};
+ghost use Rattle.t3_interp.specs.Instructions.{acts, push_value, push_acts, math_acts, call_acts, stack_acts, jump_acts, make_acts, local_acts, operation_by, truth as is_true};
 ghost use Rattle.t3_interp.specs.Inner.Acting.{Changes, Does, Computes, jump_turn, stack as stack_of};
 
 use crate::builtins::make;
@@ -38,24 +38,28 @@ fn push(others: usize, operands: &mut Vec<Holder>, code: PushCode) -> Result<Tur
     ensures { IfOk result
         (λ turn. Does (push_acts others code (stack_of operands.old)) turn (stack_of operands.new)) }
 {
+    let Some(value) = pushed(code) else {
+        return Ok(Turn::Stops(CodeWhy::Unbuilt));
+    };
     if operands.len() >= VALUE_LIMIT.saturating_sub(others) {
         return Ok(Turn::Faults(Fault::StackFull));
     }
-    operands.push(pushed(code))?;
+    operands.push(value)?;
     Ok(Turn::Goes)
 }
 
-/// The value that an instruction pushes.
-fn pushed(code: PushCode) -> Holder
+/// The value that an instruction pushes, where that is built.
+fn pushed(code: PushCode) -> Option<Holder>
     ensures { result ≡ push_value code }
 {
     match code {
-        PushCode::Push0 => Holder::Int(0),
-        PushCode::Push1 => Holder::Int(1),
-        PushCode::Pushint8(number) => Holder::Int(i32::from(number)),
-        PushCode::Pushint(number) => Holder::Int(number),
-        PushCode::Pushnil => Holder::Nil,
-        PushCode::Pushtrue => Holder::True,
+        PushCode::Push0 => Some(Holder::Int(0)),
+        PushCode::Push1 => Some(Holder::Int(1)),
+        PushCode::Pushint8(number) => Some(Holder::Int(i32::from(number))),
+        PushCode::Pushint(number) => Some(Holder::Int(number)),
+        PushCode::Pushnil => Some(Holder::Nil),
+        PushCode::Pushtrue => Some(Holder::True),
+        _ => None,
     }
 }
 
@@ -64,13 +68,16 @@ fn math(operands: &mut Vec<Holder>, code: MathCode) -> Result<Turn, NoMemory>
     ensures { IfOk result
         (λ turn. Does (math_acts code (stack_of operands.old)) turn (stack_of operands.new)) }
 {
+    let Some(op) = operation(code) else {
+        return Ok(Turn::Stops(CodeWhy::Unbuilt));
+    };
     let Some(right) = operands.pop() else {
         return Ok(Turn::Stops(CodeWhy::Underflow));
     };
     let Some(left) = operands.pop() else {
         return Ok(Turn::Stops(CodeWhy::Underflow));
     };
-    match computed(code, left, right) {
+    match computed(op, left, right) {
         Ok(number) => {
             operands.push(Holder::Int(number))?;
             Ok(Turn::Goes)
@@ -79,15 +86,33 @@ fn math(operands: &mut Vec<Holder>, code: MathCode) -> Result<Turn, NoMemory>
     }
 }
 
+/// An operation on two integers.
+#[derive(Clone, Copy)]
+pub(crate) enum ArithOp {
+    Add,
+    Sub,
+}
+
+/// The operation of an instruction, where that is built.
+fn operation(code: MathCode) -> Option<ArithOp>
+    ensures { result ≡ operation_by code }
+{
+    match code {
+        MathCode::Add => Some(ArithOp::Add),
+        MathCode::Sub => Some(ArithOp::Sub),
+        _ => None,
+    }
+}
+
 /// The number that two integers give, where it has 32 bits.
-fn computed(code: MathCode, left: Holder, right: Holder) -> Result<i32, Fault>
-    ensures { Computes code left right result }
+fn computed(op: ArithOp, left: Holder, right: Holder) -> Result<i32, Fault>
+    ensures { Computes op left right result }
 {
     match (left, right) {
         (Holder::Int(left), Holder::Int(right)) => {
-            let number = match code {
-                MathCode::Add => left.checked_add(right),
-                MathCode::Sub => left.checked_sub(right),
+            let number = match op {
+                ArithOp::Add => left.checked_add(right),
+                ArithOp::Sub => left.checked_sub(right),
             };
             number.ok_or(Fault::Overflow)
         }
@@ -107,6 +132,7 @@ fn call(operands: &mut Vec<Holder>, code: CallCode) -> Turn
         CallCode::Retnil => Turn::Returns(Some(Holder::Nil)),
         CallCode::Rettrue => Turn::Returns(Some(Holder::True)),
         CallCode::Ret => Turn::Returns(None),
+        _ => Turn::Stops(CodeWhy::Unbuilt),
     }
 }
 
@@ -118,6 +144,7 @@ fn stack(operands: &mut Vec<Holder>, code: StackCode) -> Turn
             Some(_) => Turn::Goes,
             None => Turn::Stops(CodeWhy::Underflow),
         },
+        _ => Turn::Stops(CodeWhy::Unbuilt),
     }
 }
 
@@ -129,6 +156,7 @@ fn jump(operands: &mut Vec<Holder>, code: JumpCode) -> Turn
         JumpCode::Jmp(distance) => Turn::Jumps(distance),
         JumpCode::Jt(distance) => jump_if(operands.pop(), true, distance),
         JumpCode::Jf(distance) => jump_if(operands.pop(), false, distance),
+        _ => Turn::Stops(CodeWhy::Unbuilt),
     }
 }
 
@@ -159,5 +187,6 @@ fn local(code: LocalCode) -> Turn
 {
     match code {
         LocalCode::Nop => Turn::Goes,
+        _ => Turn::Stops(CodeWhy::Unbuilt),
     }
 }

@@ -2,7 +2,7 @@
 ghost use Rattle.std.specs.Prelude.{◌≡◌, None, IfOk};
 ghost use Rattle.std.specs.Option.{option_map};
 ghost use Rattle.t3_interp.specs.Machine.{initial};
-ghost use Rattle.t3_interp.specs.Step.{program_of, state_of, frame_of, why_of as why_from, TakesStep};
+ghost use Rattle.t3_interp.specs.Step.{program_of, state_of, frame_of, lack_of, why_of as why_from, TakesStep};
 ghost use Rattle.t3_interp.specs.Inner.Acting.{running};
 
 use crate::instructions::act;
@@ -11,7 +11,7 @@ use crate::settle::{call, settle, stop};
 use crate::turn::{CodeWhy, Event};
 use std::alloc::Global;
 use t3_holder::{Holder, NoMemory};
-use t3_methods::{CodeRefusal, header_at, instr_at};
+use t3_methods::{CodeRefusal, Slot, decode_at, header_at};
 
 /// A method that is being carried out.
 #[derive(Debug, Drop)]
@@ -82,12 +82,30 @@ fn carry_out(
     ensures { IfOk result (λ event. TakesStep (program_of program.now) (running frame.old
         register.old) event (running frame.new register.new)) }
 {
-    match instr_at(&program.pools, frame.place) {
-        Ok((instr, size)) => {
-            let turn = act(alloc, program.has_io, instr, frame)?;
-            Ok(settle(frame, register, size, turn))
-        }
-        Err(refusal) => Ok(stop(frame.place, why_of(refusal))),
+    let decoded = match decode_at(&program.pools, frame.place) {
+        Ok(decoded) => decoded,
+        Err(refusal) => return Ok(stop(frame.place, why_of(refusal))),
+    };
+    if let Some(why) = lack(frame, decoded.takes, decoded.slot) {
+        return Ok(stop(frame.place, why));
+    }
+    let turn = act(alloc, program.has_io, decoded.instr, frame)?;
+    Ok(settle(frame, register, decoded.size, turn))
+}
+
+/// What an instruction lacks: operands, so many of which it takes or looks at, or else the local or
+/// argument that it names. The entry method has no arguments.
+fn lack(frame: &Frame, takes: u32, slot: Slot) -> Option<CodeWhy>
+    ensures { result ≡ lack_of takes slot (frame_of frame.now) }
+{
+    if frame.operands.len() < takes as usize {
+        return Some(CodeWhy::Underflow);
+    }
+    match slot {
+        Slot::NoSlot => None,
+        Slot::LocalSlot(local) if usize::from(local) < frame.locals.len() => None,
+        Slot::LocalSlot(_) => Some(CodeWhy::Local),
+        Slot::ArgumentSlot(_) => Some(CodeWhy::Argument),
     }
 }
 
@@ -100,5 +118,6 @@ fn why_of(refusal: CodeRefusal) -> CodeWhy
         CodeRefusal::Opcode(opcode) => CodeWhy::Opcode(opcode),
         CodeRefusal::Operand => CodeWhy::Operand,
         CodeRefusal::Header => CodeWhy::Header,
+        CodeRefusal::Table => CodeWhy::Table,
     }
 }

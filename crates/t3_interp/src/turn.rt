@@ -42,8 +42,14 @@ pub enum CodeWhy {
     Operand,
     /// No method header stands there.
     Header,
+    /// The exception table that the method's header names isn't whole.
+    Table,
     /// The instruction takes more operands than there are.
     Underflow,
+    /// The instruction names a local that its method hasn't.
+    Local,
+    /// The instruction names an argument that its method hasn't got.
+    Argument,
     /// The instruction can't be carried out yet.
     Unbuilt,
 }
