@@ -94,7 +94,7 @@ impl Slots {
     }
 
     /// A slot for a cell that has none.
-    fn add(&mut self, cell: Cell, content: Content) -> Result<(), NoMemory>
+    pub fn add(&mut self, cell: Cell, content: Content) -> Result<(), NoMemory>
         requires new { list_any (eq_by_cmp cell_cmp cell) (keys_of self.old) ≡ false }
         requires form { IsTrue (is_form cell (shown content)) }
         ensures ok { OnOk result (self.new ≡ self.old ++ (cell, content) ∷ []) }
