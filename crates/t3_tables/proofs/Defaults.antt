@@ -1,6 +1,6 @@
 -- Entries and a default as cells: what is found there, and what a change of one does. Other crates may use these.
 use Rattle.std.proofs.Common.{◌≡◌, ◌≢◌, ◌∙◌, ap, sym, subst, refl, ℕ, ◌+◌, ◌<◌, ◌≤◌, max, Bool, true, false, cond, ◌||◌, Option, None, Some, is_some, true≢false, ◌⊎◌, inl, inr, map, arith}
-use Rattle.std.specs.FinMap.{get, get-empty, empty, entries as entries_of}
+use Rattle.std.specs.FinMap.{get, get-empty, empty, entries as all_entries}
 use Rattle.std.specs.FinSet as set
 use Rattle.std.specs.FinSet.{contains, contains-insert, contains-empty, len-insert, same_set}
 use Rattle.t3_holder.specs.declared.holder.Holder.{Holder}
@@ -11,9 +11,9 @@ use Rattle.t3_undo.specs.declared.cell.Cell.{Cell}
 use Rattle.t3_undo.specs.declared.cell.Cell.TheVariants as cells
 use Rattle.t3_undo.proofs.Maps.{get-set_at, set_at-again, set_at-apart}
 use Rattle.t3_undo.proofs.SlotLists.{same, same-is}
-use Rattle.t3_tables.specs.Table.{plain, with_default, is_cell, above, tick_after, AreBelow, pair_of, rows_of}
+use Rattle.t3_tables.specs.Table.{plain, with_default, is_cell, above, tick_after, AreBelow, pair_of, entries_of}
 use Rattle.t3_tables.specs.Inner.Slots.{IsEntry}
-use Rattle.t3_tables.proofs.OrderedRows.{ordered-Default}
+use Rattle.t3_tables.proofs.OrderedEntries.{ordered-Default}
 
 -- what stands in a cell
 pub get-default : (entries : Parts) (default : Holder) → get (with_default entries default) cells.Default ≡ Some (plain default)
@@ -82,9 +82,9 @@ len-default places only = by (contains places cells.Default) refl
     by false e = len-insert cell_cmp_total places cells.Default ∙ ap (λ b. cond b (set.len places) (set.len places + 1)) e
 
 -- the entries don't have the default's row
-pub rows-default : (entries : Parts) (default : Holder) → rows_of (with_default entries default) ≡ rows_of entries
-unfolding rows_of
-rows-default entries default = ap (λ m. map pair_of (entries_of m)) (ordered-Default entries (Some (plain default)))
+pub entries-default : (entries : Parts) (default : Holder) → entries_of (with_default entries default) ≡ entries_of entries
+unfolding entries_of
+entries-default entries default = ap (λ m. map pair_of (all_entries m)) (ordered-Default entries (Some (plain default)))
 
 -- ticks below the next one
 pub below-default : (next : ℕ) (entries : Parts) (default : Holder) → AreBelow next entries → AreBelow next (with_default entries default)

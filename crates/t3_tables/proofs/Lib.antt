@@ -1,5 +1,5 @@
-pub mod OrderedRows
+pub mod OrderedEntries
 pub mod NumberedSlots
 pub mod Defaults
 pub mod TableLists
-pub mod RowOrder
+pub mod EntryOrder

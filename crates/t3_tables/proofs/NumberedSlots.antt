@@ -11,7 +11,7 @@ use Rattle.t3_undo.specs.declared.content.Content.{Content}
 use Rattle.t3_undo.proofs.SlotLists.{same}
 use Rattle.t3_tables.specs.declared.pair.Pair.{Pair}
 use Rattle.t3_tables.specs.Table.{numbered}
-use Rattle.t3_tables.proofs.OrderedRows.{same_key}
+use Rattle.t3_tables.proofs.OrderedEntries.{same_key}
 
 -- none of the cells before one of distinct cells is the same
 new-among : (slots : List (Cell × Content)) (cell : Cell) (content : Content) (rest : List (Cell × Content))

@@ -24,11 +24,11 @@ use Rattle.t3_undo.specs.declared.content.Content.TheVariants.{Slot}
 use Rattle.t3_undo.proofs.Maps.{get-set_at}
 use Rattle.t3_undo.proofs.SlotLists.{same, same-is, seen, get-parts_of, contains-places_of, lookup-none}
 use Rattle.t3_tables.specs.declared.pair.Pair.{Pair}
-use Rattle.t3_tables.specs.Table.{tick_after, place_cmp, ordered, pair_of, rows_of, plain, with_default, numbered, filled}
+use Rattle.t3_tables.specs.Table.{tick_after, place_cmp, ordered, pair_of, entries_of, plain, with_default, numbered, filled}
 use Rattle.t3_tables.specs.Inner.Slots.{IsEntry, IsTable}
-use Rattle.t3_tables.proofs.OrderedRows.{Place, place_cmp_total, same_key, value_at, at_tick, get-ordered, ordered-new, all-found, no-entries, first, second}
-use Rattle.t3_tables.proofs.NumberedSlots.{distinct-numbered, length-numbered}
-use Rattle.t3_tables.proofs.Defaults.{only-empty, only-insert, below-empty, below-set, rows-default}
+use Rattle.t3_tables.proofs.OrderedEntries.{Place, place_cmp_total, same_key, value_at, at_tick, get-ordered, ordered-new, all-found, no-entries, first, second}
+use Rattle.t3_tables.proofs.NumberedSlots.{distinct-numbered}
+use Rattle.t3_tables.proofs.Defaults.{only-empty, only-insert, below-empty, below-set, entries-default}
 
 -- a new table
 pub table-new : IsTable [] 1
@@ -112,8 +112,8 @@ module _ (tick_at : Key → Option ℕ) where
     distinct_keys es all.1 (second (below_all place_cmp e.0 es) (is_sorted place_cmp es) sorted),
   )
 
-pub distinct-rows : (parts : Parts) → IsDistinct same_key (map (λ pair. pair.key) (map pair_of (entries (ordered parts))))
-distinct-rows parts =
+pub distinct-gathered : (parts : Parts) → IsDistinct same_key (map (λ pair. pair.key) (map pair_of (entries (ordered parts))))
+distinct-gathered parts =
     distinct_keys (λ key. tick_of (get parts (cells.Key key))) (entries (ordered parts)) (ticked parts) (entries_sorted (ordered parts))
 
 -- the entries of slots with the ticks from one on
@@ -152,11 +152,11 @@ pairs-timed tick [] = refl
 pairs-timed tick (pair ∷ pairs) = ap (λ xs. pair ∷ xs) (pairs-timed (suc tick) pairs)
 
 -- the entries of a table that has just these
-pub rows-filled : (default : Holder) (pairs : List Pair) → IsDistinct same_key (map (λ pair. pair.key) pairs)
-    → rows_of (filled default pairs) ≡ pairs
-unfolding rows_of
-rows-filled default pairs apart =
-    rows-default (parts_of (numbered 1 pairs)) default
+pub entries-filled : (default : Holder) (pairs : List Pair) → IsDistinct same_key (map (λ pair. pair.key) pairs)
+    → entries_of (filled default pairs) ≡ pairs
+unfolding entries_of
+entries-filled default pairs apart =
+    entries-default (parts_of (numbered 1 pairs)) default
     ∙ ap (map pair_of) (entries-numbered 1 pairs (distinct-numbered 1 pairs apart))
     ∙ pairs-timed 1 pairs
 
@@ -230,15 +230,10 @@ places-filled default pairs =
     by false o = refl
 
 -- the entries as they are gathered
-pub gathered-rows : (parts : Parts) (default : Holder) → map pair_of (entries (ordered parts)) ≡ rows_of (with_default parts default)
-unfolding rows_of
-gathered-rows parts default = sym (rows-default parts default)
+pub gathered-entries : (parts : Parts) (default : Holder) → map pair_of (entries (ordered parts)) ≡ entries_of (with_default parts default)
+unfolding entries_of
+gathered-entries parts default = sym (entries-default parts default)
 
-pub distinct-rows_of : (parts : Parts) → IsDistinct same_key (map (λ pair. pair.key) (rows_of parts))
-unfolding rows_of
-distinct-rows_of parts = distinct-rows parts
-
-pub table-copied : (pairs : List Pair) → IsTable (numbered 1 pairs) (length (numbered 1 pairs) + 1)
-table-copied pairs =
-    let P : ℕ → Type 0 = λ n. IsTable (numbered 1 pairs) (n + 1) in
-    subst P (sym (length-numbered 1 pairs)) (table-numbered pairs)
+pub distinct-entries_of : (parts : Parts) → IsDistinct same_key (map (λ pair. pair.key) (entries_of parts))
+unfolding entries_of
+distinct-entries_of parts = distinct-gathered parts

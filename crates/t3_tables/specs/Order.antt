@@ -10,7 +10,7 @@ use Rattle.t3_undo.specs.declared.key.Key.{Key}
 use Rattle.t3_undo.specs.declared.cell.Cell.{Cell}
 use Rattle.t3_undo.specs.declared.cell.Cell.TheVariants as cells
 use Rattle.t3_tables.specs.declared.pair.Pair.{Pair}
-use Rattle.t3_tables.specs.Table.{rows_of, AreBelow, plain}
+use Rattle.t3_tables.specs.Table.{entries_of, AreBelow, plain}
 
 -- the value of an entry with its tick
 abbrev pub slot : ℕ → Holder → Present
@@ -24,26 +24,26 @@ with_value key value pair = if eq_by_cmp key_cmp key pair.key then record { key 
 abbrev pub NewComesLast : Type 0
 NewComesLast =
     (parts : Parts) (key : Key) (tick : ℕ) (value : Holder) → get parts (cells.Key key) ≡ None → AreBelow tick parts
-    → rows_of (set_at parts (cells.Key key) (Some (slot tick value))) ≡ rows_of parts ++ record { key = key; value = value } ∷ []
+    → entries_of (set_at parts (cells.Key key) (Some (slot tick value))) ≡ entries_of parts ++ record { key = key; value = value } ∷ []
 
 -- a key that is present, and is set with the tick that it has, keeps its place
 abbrev pub PresentKeepsPlace : Type 0
 PresentKeepsPlace =
     (parts : Parts) (key : Key) (tick : ℕ) (old value : Holder) → get parts (cells.Key key) ≡ Some (slot tick old)
-    → rows_of (set_at parts (cells.Key key) (Some (slot tick value))) ≡ map (with_value key value) (rows_of parts)
+    → entries_of (set_at parts (cells.Key key) (Some (slot tick value))) ≡ map (with_value key value) (entries_of parts)
 
 -- a key that is taken away leaves the others in their order
 abbrev pub OthersStay : Type 0
 OthersStay =
     (parts : Parts) (key : Key)
-    → rows_of (set_at parts (cells.Key key) None) ≡ filter (λ pair. not (eq_by_cmp key_cmp key pair.key)) (rows_of parts)
+    → entries_of (set_at parts (cells.Key key) None) ≡ filter (λ pair. not (eq_by_cmp key_cmp key pair.key)) (entries_of parts)
 
 -- whatever is put in a cell, the content that stood there puts every entry back where it stood
 abbrev pub OldStandsWhereItStood : Type 0
 OldStandsWhereItStood =
-    (parts : Parts) (cell : Cell) (content : Option Present) → rows_of (set_at (set_at parts cell content) cell (get parts cell)) ≡ rows_of parts
+    (parts : Parts) (cell : Cell) (content : Option Present) → entries_of (set_at (set_at parts cell content) cell (get parts cell)) ≡ entries_of parts
 
 -- the default has no place among the entries
 abbrev pub DefaultIsApart : Type 0
 DefaultIsApart =
-    (parts : Parts) (value : Holder) → rows_of (set_at parts cells.Default (Some (plain value))) ≡ rows_of parts
+    (parts : Parts) (value : Holder) → entries_of (set_at parts cells.Default (Some (plain value))) ≡ entries_of parts

@@ -95,8 +95,8 @@ abbrev pub pair_of : (ℕ × Key) × Holder → Pair
 pair_of entry = record { key = entry.0.1; value = entry.1 }
 
 -- the entries in the order of their ticks
-unfoldable pub rows_of : Parts → List Pair
-rows_of parts = map pair_of (entries (ordered parts))
+unfoldable pub entries_of : Parts → List Pair
+entries_of parts = map pair_of (entries (ordered parts))
 
 -- entries in their cells, with ticks from this one on
 abbrev pub numbered : ℕ → List Pair → List (Cell × Content)

@@ -15,10 +15,10 @@
 //! back, the tick is the old one, and the entry stands where it stood. [`entry_order`] says so.
 #![tactic(auto)]
 
-mod entries;
+mod cells;
 mod law;
+mod ordered;
 mod pair;
-mod rows;
 mod table;
 
 pub use law::entry_order;

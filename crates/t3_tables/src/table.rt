@@ -3,11 +3,11 @@ ghost use Rattle.std.specs.FinMap.{get};
 ghost use Rattle.std.specs.FinSet as set;
 ghost use Rattle.t3_undo.specs.Content.{shown, is_form, places_for};
 ghost use Rattle.t3_undo.specs.Objects.{set_at};
-ghost use Rattle.t3_tables.specs.Table.{parts_of, places_of, rows_of, filled, new_table, is_cell, tick_after, AreBelow};
+ghost use Rattle.t3_tables.specs.Table.{parts_of, places_of, entries_of, filled, new_table, is_cell, tick_after, AreBelow};
 
-use crate::entries::{exchange_default, tick_after};
+use crate::cells::{exchange_default, tick_after};
+use crate::ordered::{entries_by_tick, pairs_of, slots_anew};
 use crate::pair::Entries;
-use crate::rows::{numbered_slots, ordered_rows, pairs_of};
 use std::alloc::Global;
 use std::marker::Model;
 use t3_holder::{Holder, NoMemory};
@@ -57,13 +57,13 @@ impl Table {
     /// cell alone. Its ticks are 1, 2 and so on.
     pub fn copy(&self, alloc: Global) -> Result<Table, NoMemory>
         ensures parts { IfOk result (λ copy. parts_of copy
-            ≡ filled self.now.default (rows_of (parts_of self.now))) }
-        ensures rows { IfOk result (λ copy. rows_of (parts_of copy) ≡ rows_of (parts_of self.now)) }
+            ≡ filled self.now.default (entries_of (parts_of self.now))) }
+        ensures entries { IfOk result (λ copy. entries_of (parts_of copy) ≡ entries_of (parts_of self.now)) }
         ensures places { IfOk result (λ copy. places_of copy ≡ places_for (parts_of copy)) }
         ensures next { IfOk result (λ copy. copy.next_tick
-            ≡ 1 + length (rows_of (parts_of self.now))) }
+            ≡ 1 + length (entries_of (parts_of self.now))) }
     {
-        let slots = numbered_slots(alloc, ordered_rows(alloc, &self.slots)?)?;
+        let slots = slots_anew(alloc, &self.slots)?;
         let next_tick = slots.places() + 1;
         Ok(Table {
             slots,
@@ -74,10 +74,10 @@ impl Table {
 
     /// The entries in the order of their ticks.
     pub fn entries(&self, alloc: Global) -> Result<Entries, NoMemory>
-        ensures { IfOk result (λ entries. entries ≡ rows_of (parts_of self.now)) }
+        ensures { IfOk result (λ entries. entries ≡ entries_of (parts_of self.now)) }
     {
-        let ordered = ordered_rows(alloc, &self.slots)?;
-        Ok(Entries(pairs_of(alloc, ordered)?))
+        let by_tick = entries_by_tick(alloc, &self.slots)?;
+        Ok(Entries(pairs_of(alloc, by_tick)?))
     }
 
     /// A tick above those of all entries. Takes no memory.

@@ -1,5 +1,5 @@
-use Rattle.t3_tables.proofs.RowOrder.{rows-last, rows-kept, rows-away, rows-back, rows-apart}
+use Rattle.t3_tables.proofs.EntryOrder.{entries-last, entries-kept, entries-away, entries-back, entries-apart}
 use Rattle.t3_tables.proofs.law.entry_order.Goals as goal
 
 pub returns : goal.returns
-returns c = record { last = rows-last; kept = rows-kept; away = rows-away; back = rows-back; default = rows-apart }
+returns c = record { last = entries-last; kept = entries-kept; away = entries-away; back = entries-back; default = entries-apart }

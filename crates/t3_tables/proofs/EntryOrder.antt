@@ -16,15 +16,15 @@ use Rattle.t3_undo.specs.declared.key.Key.{Key}
 use Rattle.t3_undo.specs.declared.cell.Cell.TheVariants as cells
 use Rattle.t3_undo.proofs.Maps.{get-set_at, get-tied, set_at-back}
 use Rattle.t3_tables.specs.declared.pair.Pair.{Pair}
-use Rattle.t3_tables.specs.Table.{place_cmp, ordered, pair_of, rows_of, plain}
+use Rattle.t3_tables.specs.Table.{place_cmp, ordered, pair_of, entries_of, plain}
 use Rattle.t3_tables.specs.Order.{slot, with_value, NewComesLast, PresentKeepsPlace, OthersStay, OldStandsWhereItStood, DefaultIsApart}
-use Rattle.t3_tables.proofs.OrderedRows.{Place, place_cmp_total, place_cmp-IsAntisymmetric, same_key, value_at, at_tick, get-ordered, ordered-new, ordered-Default, all-found, first, second}
+use Rattle.t3_tables.proofs.OrderedEntries.{Place, place_cmp_total, place_cmp-IsAntisymmetric, same_key, value_at, at_tick, get-ordered, ordered-new, ordered-Default, all-found, first, second}
 
-abbrev Rows : Type 0
-Rows = List (Place × Holder)
+abbrev Entries : Type 0
+Entries = List (Place × Holder)
 
 -- ordered entries are known by what is found among them
-known : (parts : Parts) (es : Rows) → T (is_sorted place_cmp es)
+known : (parts : Parts) (es : Entries) → T (is_sorted place_cmp es)
     → ((t : ℕ) (k : Key) → value_at t (get parts (cells.Key k)) ≡ find place_cmp (t, k) es) → entries (ordered parts) ≡ es
 known parts es sorted alike =
     same_entries place_cmp place_cmp_total place_cmp-IsAntisymmetric (entries (ordered parts)) es (entries_sorted (ordered parts)) sorted
@@ -35,21 +35,21 @@ found-before parts t k = sym (get-entries (ordered parts) (t, k)) ∙ get-ordere
 
 -- values changed by their keys
 module _ (g : Key → Holder → Holder) where
-  changed : Rows → Rows
+  changed : Entries → Entries
   changed [] = []
   changed (e ∷ es) = (e.0, g e.0.1 e.1) ∷ changed es
 
-  below-changed : (q : Place) (es : Rows) → below_all place_cmp q (changed es) ≡ below_all place_cmp q es
+  below-changed : (q : Place) (es : Entries) → below_all place_cmp q (changed es) ≡ below_all place_cmp q es
   unfolding changed
   below-changed q [] = refl
   below-changed q (e ∷ es) = ap (λ b. is_lt (place_cmp q e.0) && b) (below-changed q es)
 
-  sorted-changed : (es : Rows) → is_sorted place_cmp (changed es) ≡ is_sorted place_cmp es
+  sorted-changed : (es : Entries) → is_sorted place_cmp (changed es) ≡ is_sorted place_cmp es
   unfolding changed
   sorted-changed [] = refl
   sorted-changed (e ∷ es) = λ i. below-changed e.0 es i && sorted-changed es i
 
-  find-changed : (q : Place) (es : Rows) → find place_cmp q (changed es) ≡ option_map (g q.1) (find place_cmp q es)
+  find-changed : (q : Place) (es : Entries) → find place_cmp q (changed es) ≡ option_map (g q.1) (find place_cmp q es)
   unfolding changed
   find-changed q [] = refl
   find-changed q (e ∷ es) = by (find-changed q es) (eq_by_cmp place_cmp q e.0) refl
@@ -84,7 +84,7 @@ kept-value s t key l old value o false e is = by (value_at s o)
     by None = refl
     by (Some v) = ap (λ b. Some (cond b value v)) (sym (key-symm key l ∙ e))
 
-pairs-changed : (key : Key) (value : Holder) (es : Rows) → map pair_of (changed (renewed key value) es) ≡ map (with_value key value) (map pair_of es)
+pairs-changed : (key : Key) (value : Holder) (es : Entries) → map pair_of (changed (renewed key value) es) ≡ map (with_value key value) (map pair_of es)
 unfolding changed renewed
 pairs-changed key value [] = refl
 pairs-changed key value (e ∷ es) = λ i. by (same_key key e.0.1) i ∷ pairs-changed key value es i
@@ -94,9 +94,9 @@ pairs-changed key value (e ∷ es) = λ i. by (same_key key e.0.1) i ∷ pairs-c
     by true = refl
     by false = refl
 
-pub rows-kept : PresentKeepsPlace
-unfolding rows_of
-rows-kept parts key tick old value stands =
+pub entries-kept : PresentKeepsPlace
+unfolding entries_of
+entries-kept parts key tick old value stands =
     ap (map pair_of) (known (set_at parts (cells.Key key) (Some (slot tick value))) (changed (renewed key value) (entries (ordered parts)))
     (subst T (sym (sorted-changed (renewed key value) (entries (ordered parts)))) (entries_sorted (ordered parts)))
     (λ s l.
@@ -108,7 +108,7 @@ rows-kept parts key tick old value stands =
     ∙ pairs-changed key value (entries (ordered parts))
 
 -- a key taken away leaves the others in their order
-pairs-filter : (key : Key) (es : Rows) → map pair_of (where_key place_cmp (λ q. not (same_key key q.1)) es)
+pairs-filter : (key : Key) (es : Entries) → map pair_of (where_key place_cmp (λ q. not (same_key key q.1)) es)
     ≡ filter (λ pair. not (same_key key pair.key)) (map pair_of es)
 pairs-filter key [] = refl
 pairs-filter key (e ∷ es) = by (not (same_key key e.0.1)) (pairs-filter key es)
@@ -123,9 +123,9 @@ away-value : (s : ℕ) (key l : Key) (o : Option Present) (b : Bool) → value_a
 away-value s key l o true = refl
 away-value s key l o false = refl
 
-pub rows-away : OthersStay
-unfolding rows_of
-rows-away parts key =
+pub entries-away : OthersStay
+unfolding entries_of
+entries-away parts key =
     ap (map pair_of) (known (set_at parts (cells.Key key) None) (where_key place_cmp (λ q. not (same_key key q.1)) (entries (ordered parts)))
     (is_sorted-where_key place_cmp (λ q. not (same_key key q.1)) (entries (ordered parts)) (entries_sorted (ordered parts)))
     (λ s l.
@@ -138,7 +138,7 @@ rows-away parts key =
     ∙ pairs-filter key (entries (ordered parts))
 
 -- a new key comes last
-below-last : (q last : Place) (v : Holder) (es : Rows) → T (below_all place_cmp q es) → T (is_lt (place_cmp q last))
+below-last : (q last : Place) (v : Holder) (es : Entries) → T (below_all place_cmp q es) → T (is_lt (place_cmp q last))
     → T (below_all place_cmp q (es ++ (last, v) ∷ []))
 below-last q last v [] below less = by (is_lt (place_cmp q last)) less
   where
@@ -153,7 +153,7 @@ below-last q last v (e ∷ es) below less =
     both true b h g = g
     both false b h g = h
 
-sorted-last : (last : Place) (v : Holder) (es : Rows) → T (is_sorted place_cmp es) → AllByRecursion (λ (e : Place × Holder). T (is_lt (place_cmp e.0 last))) es
+sorted-last : (last : Place) (v : Holder) (es : Entries) → T (is_sorted place_cmp es) → AllByRecursion (λ (e : Place × Holder). T (is_lt (place_cmp e.0 last))) es
     → T (is_sorted place_cmp (es ++ (last, v) ∷ []))
 sorted-last last v [] sorted all = tt
 sorted-last last v (e ∷ es) sorted all =
@@ -165,7 +165,7 @@ sorted-last last v (e ∷ es) sorted all =
     both true b h g = g
     both false b h g = h
 
-pairs-push : (es : Rows) (e : Place × Holder) → map pair_of (es ++ e ∷ []) ≡ map pair_of es ++ pair_of e ∷ []
+pairs-push : (es : Entries) (e : Place × Holder) → map pair_of (es ++ e ∷ []) ≡ map pair_of es ++ pair_of e ∷ []
 pairs-push [] e = refl
 pairs-push (f ∷ es) e = ap (λ xs. pair_of f ∷ xs) (pairs-push es e)
 
@@ -188,9 +188,9 @@ value-below s tick (Some present) v below e = by present.tick refl e
 less-last : (q last : Place) → q.0 < last.0 → T (is_lt (place_cmp q last))
 less-last q last h = subst (λ r. T (is_lt (ordering_then r (key_cmp q.1 last.1)))) (nat_cmp_is q.0 last.0 Less h) tt
 
-pub rows-last : NewComesLast
-unfolding rows_of
-rows-last parts key tick value none below =
+pub entries-last : NewComesLast
+unfolding entries_of
+entries-last parts key tick value none below =
     ap (map pair_of) (known (set_at parts (cells.Key key) (Some (slot tick value))) (entries (ordered parts) ++ ((tick, key), value) ∷ [])
     (sorted-last (tick, key) value (entries (ordered parts)) (entries_sorted (ordered parts))
     (all-found place_cmp_total (λ (q : Place) (v : Holder). T (is_lt (place_cmp q (tick, key)))) (entries (ordered parts)) (entries_sorted (ordered parts))
@@ -206,9 +206,9 @@ rows-last parts key tick value none below =
     ∙ pairs-push (entries (ordered parts)) ((tick, key), value)
 
 -- old contents put back, and the default
-pub rows-back : OldStandsWhereItStood
-rows-back parts cell content = ap rows_of (set_at-back cell_cmp_total cell_cmp-IsAntisymmetric parts cell content)
+pub entries-back : OldStandsWhereItStood
+entries-back parts cell content = ap entries_of (set_at-back cell_cmp_total cell_cmp-IsAntisymmetric parts cell content)
 
-pub rows-apart : DefaultIsApart
-unfolding rows_of
-rows-apart parts value = ap (λ m. map pair_of (entries m)) (ordered-Default parts (Some (plain value)))
+pub entries-apart : DefaultIsApart
+unfolding entries_of
+entries-apart parts value = ap (λ m. map pair_of (entries m)) (ordered-Default parts (Some (plain value)))

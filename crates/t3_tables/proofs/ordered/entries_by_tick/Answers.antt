@@ -8,11 +8,11 @@ use Rattle.t3_undo.specs.Slots.{parts_of}
 use Rattle.t3_undo.proofs.SlotLists.{parts_of-at, get-at}
 use Rattle.t3_tables.specs.Table.{ordered}
 use Rattle.t3_tables.specs.Inner.Slots.{with_entry}
-use Rattle.t3_tables.proofs.OrderedRows.{entries-with_entry, no-entries}
-use Rattle.t3_tables.proofs.rows.ordered_rows.Goals as goal
+use Rattle.t3_tables.proofs.OrderedEntries.{entries-with_entry, no-entries}
+use Rattle.t3_tables.proofs.ordered.entries_by_tick.Goals as goal
 
 pub loop-index-init : goal.loop-index-init
-loop-index-init c = c.new-rows.ensures.empty ∙ sym no-entries
+loop-index-init c = c.new-by_tick.ensures.empty ∙ sym no-entries
 
 pub loop-index-preserved : goal.loop-index-preserved
 loop-index-preserved c =
