@@ -1,23 +1,23 @@
 -- The items of a vector: the values of its present elements. Other crates may use these.
-use Rattle.std.proofs.Common.{◌≡◌, ◌∙◌, ap, sym, subst, refl, ℕ, zero, suc, ◌+◌, ◌<◌, ◌≤◌, slice_get, set as slice_set, Bool, true, false, cond, List, [], ◌∷◌, ◌++◌, length, filter, filter_map, map, Option, None, Some, is_some, count_by, arith}
+use Rattle.std.proofs.Common.{◌≡◌, ◌∙◌, ap, sym, refl, ℕ, zero, suc, ◌+◌, ◌<◌, ◌≤◌, slice_get, set as slice_set, true, cond, List, [], ◌∷◌, ◌++◌, length, filter, filter_map, map, Option, None, Some, is_some, count_by, arith}
 use Rattle.std.specs.Ordering.{ordering_then}
 use Rattle.std.specs.declared.cmp.Ordering.TheVariants.{Less, Equal}
 use Rattle.std.specs.Cmp.{nat_cmp_is}
 use Rattle.std.proofs.lemmas.List.Sums.{sum_by-cons, length-filter, count_by-le-length}
-use Rattle.std.specs.FinMap.{get, entries, empty, put, same_map, len-empty, len-entries, entries-insert}
+use Rattle.std.specs.FinMap.{get, entries, put, entries-insert}
 use Rattle.std.specs.FinMap.Entries.{by_order}
 use Rattle.std.specs.FinSet.{contains}
 use Rattle.std.proofs.lemmas.Option.{slice_get_past}
 use Rattle.t3_holder.specs.declared.holder.Holder.{Holder}
 use Rattle.t3_undo.specs.Cell.{cell_cmp, cell_cmp_total, cell_cmp-IsAntisymmetric}
-use Rattle.t3_undo.specs.Content.{Present, Parts, shown, places_for}
+use Rattle.t3_undo.specs.Content.{Present, shown, places_for}
 use Rattle.t3_undo.specs.Objects.{set_at}
 use Rattle.t3_undo.specs.Slots as slots
 use Rattle.t3_undo.specs.declared.cell.Cell.{Cell}
 use Rattle.t3_undo.specs.declared.cell.Cell.TheVariants as cells
 use Rattle.t3_undo.specs.declared.content.Content.TheVariants.{Held}
-use Rattle.t3_undo.proofs.Maps.{get-set_at, set_at-back}
-use Rattle.t3_undo.proofs.SlotLists.{same, same-is, seen, get-parts_of, parts_of-add, places_of-filter}
+use Rattle.t3_undo.proofs.Maps.{set_at-absent, set_at-back, entries-empty}
+use Rattle.t3_undo.proofs.SlotLists.{seen, get-parts_of, parts_of-add, places_of-filter}
 use Rattle.t3_lists.specs.Vector.{content_of, numbered, parts_of, places_of, item_in, items_of, filled, HasPlaceBelow}
 use Rattle.t3_lists.specs.Inner.Elements.{content_found, AreCounted}
 use Rattle.t3_lists.proofs.ElementLists.{lookup-below, distinct-numbered, numbered-push, new-cell, parts-exchanged, is-found, get-parts, contains-places, placed}
@@ -26,20 +26,10 @@ abbrev Elements : Type 0
 Elements = List (Option Holder)
 
 -- the present elements in their cells
-abbrev held : Holder → Present
-held value = record { tick = None; value = value }
-
 abbrev present_from : ℕ → Elements → List (Cell × Present)
 present_from number [] = []
 present_from number (None ∷ elements) = present_from (suc number) elements
-present_from number (Some value ∷ elements) = (cells.Elem number, held value) ∷ present_from (suc number) elements
-
-no_length : {X : Type 0} (xs : List X) → length xs ≡ 0 → xs ≡ []
-no_length [] e = refl
-no_length (x ∷ xs) e = absurd (omega arith)
-
-entries-empty : entries (empty {K = Cell} {X = Present} {R = cell_cmp}) ≡ []
-entries-empty = no_length _ (sym (len-entries (empty {K = Cell} {X = Present} {R = cell_cmp})) ∙ len-empty cell_cmp Present)
+present_from number (Some value ∷ elements) = (cells.Elem number, record { tick = None; value = value }) ∷ present_from (suc number) elements
 
 -- a lower element comes first
 put-first : (n number : ℕ) (p : Present) (elements : Elements) → n < number
@@ -47,32 +37,23 @@ put-first : (n number : ℕ) (p : Present) (elements : Elements) → n < number
 put-first n number p [] h = refl
 put-first n number p (None ∷ elements) h = put-first n (suc number) p elements (omega arith)
 put-first n number p (Some value ∷ elements) h =
-    ap (λ r. by_order (ordering_then r Equal) ((cells.Elem n, p) ∷ (cells.Elem number, held value) ∷ present_from (suc number) elements)
+    ap (λ r. by_order (ordering_then r Equal) ((cells.Elem n, p) ∷ (cells.Elem number, record { tick = None; value = value }) ∷ present_from (suc number) elements)
     ((cells.Elem number, p) ∷ present_from (suc number) elements)
-    ((cells.Elem number, held value) ∷ put cell_cmp (cells.Elem n) p (present_from (suc number) elements)))
+    ((cells.Elem number, record { tick = None; value = value }) ∷ put cell_cmp (cells.Elem n) p (present_from (suc number) elements)))
     (sym (nat_cmp_is n number Less h))
-
--- what is absent may be taken away
-without : (parts : Parts) (cell : Cell) → get parts cell ≡ None → set_at parts cell None ≡ parts
-without parts cell none =
-    same_map cell_cmp_total cell_cmp-IsAntisymmetric _ _ (λ q. get-set_at cell_cmp_total parts cell None q ∙ by q (same q cell) refl)
-  where
-    by : (q : Cell) (b : Bool) → same q cell ≡ b → cond b None (get parts q) ≡ get parts q
-    by q true t = let P : Cell → Type 0 = λ c. get parts c ≡ None in sym (subst P (sym (same-is q cell t)) none)
-    by q false t = refl
 
 entries-numbered : (number : ℕ) (elements : Elements) → entries (slots.parts_of (numbered number elements)) ≡ present_from number elements
 unfolding slots.parts_of set_at
-entries-numbered number [] = entries-empty
+entries-numbered number [] = entries-empty cell_cmp
 entries-numbered number (None ∷ elements) =
-    ap entries (without (slots.parts_of (numbered (suc number) elements)) (cells.Elem number)
+    ap entries (set_at-absent cell_cmp_total cell_cmp-IsAntisymmetric (slots.parts_of (numbered (suc number) elements)) (cells.Elem number)
     (get-parts_of (numbered (suc number) elements) (cells.Elem number)
     ∙ ap seen (lookup-below (suc number) number elements (omega arith))))
     ∙ entries-numbered (suc number) elements
 entries-numbered number (Some value ∷ elements) =
-    entries-insert cell_cmp_total (slots.parts_of (numbered (suc number) elements)) (cells.Elem number) (held value)
-    ∙ ap (put cell_cmp (cells.Elem number) (held value)) (entries-numbered (suc number) elements)
-    ∙ put-first number (suc number) (held value) elements (omega arith)
+    entries-insert cell_cmp_total (slots.parts_of (numbered (suc number) elements)) (cells.Elem number) (record { tick = None; value = value })
+    ∙ ap (put cell_cmp (cells.Elem number) (record { tick = None; value = value })) (entries-numbered (suc number) elements)
+    ∙ put-first number (suc number) (record { tick = None; value = value }) elements (omega arith)
 
 -- the values of the present elements
 abbrev pub values : Elements → List Holder
@@ -157,14 +138,14 @@ length-map [] = refl
 length-map (item ∷ items) = ap (λ n. suc n) (length-map items)
 
 pub filled-push : (items : List Holder) (item : Holder)
-    → filled (items ++ item ∷ []) ≡ set_at (filled items) (cells.Elem (1 + length items)) (Some (held item))
+    → filled (items ++ item ∷ []) ≡ set_at (filled items) (cells.Elem (1 + length items)) (shown (Held item))
 unfolding parts_of
 filled-push items item =
     ap (λ elements. slots.parts_of (numbered 1 elements)) (numbered-items 1 items item)
     ∙ ap slots.parts_of (numbered-push 1 (map (λ x. Some x) items) (Some item))
     ∙ parts_of-add (numbered 1 (map (λ x. Some x) items)) (cells.Elem (1 + length (map (λ x. Some x) items))) (content_of (Some item))
     (new-cell (map (λ x. Some x) items))
-    ∙ ap (λ n. set_at (slots.parts_of (numbered 1 (map (λ x. Some x) items))) (cells.Elem (1 + n)) (Some (held item))) (length-map items)
+    ∙ ap (λ n. set_at (slots.parts_of (numbered 1 (map (λ x. Some x) items))) (cells.Elem (1 + n)) (shown (Held item))) (length-map items)
 
 -- an item set anew
 set-map : (items : List Holder) (index : ℕ) (item : Holder)
@@ -174,21 +155,21 @@ set-map (first ∷ items) zero item = refl
 set-map (first ∷ items) (suc index) item = ap (λ xs. Some first ∷ xs) (set-map items index item)
 
 pub filled-set : (items : List Holder) (index : ℕ) (item : Holder) → index < length items
-    → filled (slice_set items index item) ≡ set_at (filled items) (cells.Elem (1 + index)) (Some (held item))
+    → filled (slice_set items index item) ≡ set_at (filled items) (cells.Elem (1 + index)) (shown (Held item))
 filled-set items index item h =
     ap parts_of (set-map items index item)
     ∙ parts-exchanged (map (λ x. Some x) items) (Held item) (cells.Elem (suc index))
     (is-found (map (λ x. Some x) items) index (let same = length-map items in omega (arith, same))) refl
-    ∙ ap (λ n. set_at (filled items) (cells.Elem n) (Some (held item))) (omega arith)
+    ∙ ap (λ n. set_at (filled items) (cells.Elem n) (shown (Held item))) (omega arith)
 
 -- the last item taken away
 pub filled-pop : (items : List Holder) (item : Holder)
     → set_at (filled (items ++ item ∷ [])) (cells.Elem (1 + length items)) None ≡ filled items
 filled-pop items item =
     ap (λ parts. set_at parts (cells.Elem (1 + length items)) None) (filled-push items item)
-    ∙ ap (set_at (set_at (filled items) (cells.Elem (1 + length items)) (Some (held item))) (cells.Elem (1 + length items)))
+    ∙ ap (set_at (set_at (filled items) (cells.Elem (1 + length items)) (shown (Held item))) (cells.Elem (1 + length items)))
     (sym (past items))
-    ∙ set_at-back cell_cmp_total cell_cmp-IsAntisymmetric (filled items) (cells.Elem (1 + length items)) (Some (held item))
+    ∙ set_at-back cell_cmp_total cell_cmp-IsAntisymmetric (filled items) (cells.Elem (1 + length items)) (shown (Held item))
   where
     past : (items : List Holder) → get (filled items) (cells.Elem (1 + length items)) ≡ None
     past items =

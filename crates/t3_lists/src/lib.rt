@@ -10,16 +10,19 @@
 //! vector.length();                                            // 1
 //! ```
 //!
-//! Where old contents are put back one after another, elements may be missing below others in between.
+//! Where old contents are put back one after another, elements may be missing below others in between. Where
+//! none is, [`item_law`] says what each change does to the items.
 #![tactic(auto)]
 
 mod elements;
 mod holders;
+mod law;
 mod list;
 mod text;
 mod vector;
 
 pub use holders::Holders;
+pub use law::item_law;
 pub use list::List;
 pub use text::Text;
 pub use vector::Vector;

@@ -5,25 +5,26 @@ use Rattle.std.specs.FinSet as set
 use Rattle.std.specs.FinSet.{contains, contains-insert, contains-empty, len-insert, same_set}
 use Rattle.t3_holder.specs.declared.holder.Holder.{Holder}
 use Rattle.t3_undo.specs.Cell.{cell_cmp, cell_cmp_total, cell_cmp-IsAntisymmetric}
-use Rattle.t3_undo.specs.Content.{Present, Parts, Places}
+use Rattle.t3_undo.specs.Content.{Present, Parts, Places, shown}
 use Rattle.t3_undo.specs.Objects.{set_at}
 use Rattle.t3_undo.specs.declared.cell.Cell.{Cell}
 use Rattle.t3_undo.specs.declared.cell.Cell.TheVariants as cells
+use Rattle.t3_undo.specs.declared.content.Content.TheVariants.{Held}
 use Rattle.t3_undo.proofs.Maps.{get-set_at, set_at-again, set_at-apart}
 use Rattle.t3_undo.proofs.SlotLists.{same, same-is}
-use Rattle.t3_tables.specs.Table.{plain, with_default, is_cell, above, tick_after, AreBelow, pair_of, entries_of}
+use Rattle.t3_tables.specs.Table.{with_default, is_cell, above, tick_after, AreBelow, pair_of, entries_of}
 use Rattle.t3_tables.specs.Inner.Slots.{IsEntry}
 use Rattle.t3_tables.proofs.OrderedEntries.{ordered-Default}
 
 -- what stands in a cell
-pub get-default : (entries : Parts) (default : Holder) → get (with_default entries default) cells.Default ≡ Some (plain default)
-get-default entries default = get-set_at cell_cmp_total entries cells.Default (Some (plain default)) cells.Default
+pub get-default : (entries : Parts) (default : Holder) → get (with_default entries default) cells.Default ≡ shown (Held default)
+get-default entries default = get-set_at cell_cmp_total entries cells.Default (shown (Held default)) cells.Default
 
 pub get-other : (entries : Parts) (default : Holder) (cell : Cell) → same cell cells.Default ≡ false
     → get (with_default entries default) cell ≡ get entries cell
 get-other entries default cell apart =
-    get-set_at cell_cmp_total entries cells.Default (Some (plain default)) cell
-    ∙ ap (λ b. cond b (Some (plain default)) (get entries cell)) apart
+    get-set_at cell_cmp_total entries cells.Default (shown (Held default)) cell
+    ∙ ap (λ b. cond b (shown (Held default)) (get entries cell)) apart
 
 -- and whether it has a place
 pub contains-default : (places : Places) → contains (set.insert places cells.Default) cells.Default ≡ true
@@ -36,14 +37,14 @@ contains-other places cell apart =
 
 -- a cell that is set
 pub default-set : (entries : Parts) (default value : Holder)
-    → with_default entries value ≡ set_at (with_default entries default) cells.Default (Some (plain value))
+    → with_default entries value ≡ set_at (with_default entries default) cells.Default (shown (Held value))
 default-set entries default value =
-    sym (set_at-again cell_cmp_total cell_cmp-IsAntisymmetric entries cells.Default (Some (plain default)) (Some (plain value)))
+    sym (set_at-again cell_cmp_total cell_cmp-IsAntisymmetric entries cells.Default (shown (Held default)) (shown (Held value)))
 
 pub other-set : (entries : Parts) (default : Holder) (cell : Cell) (o : Option Present) → same cell cells.Default ≡ false
     → with_default (set_at entries cell o) default ≡ set_at (with_default entries default) cell o
 other-set entries default cell o apart =
-    set_at-apart cell_cmp_total cell_cmp-IsAntisymmetric entries cell cells.Default o (Some (plain default)) apart
+    set_at-apart cell_cmp_total cell_cmp-IsAntisymmetric entries cell cells.Default o (shown (Held default)) apart
 
 -- a place that is made
 or-again : (a b : Bool) → (a || b) ≡ (a || (a || b))
@@ -84,7 +85,7 @@ len-default places only = by (contains places cells.Default) refl
 -- the entries don't have the default's row
 pub entries-default : (entries : Parts) (default : Holder) → entries_of (with_default entries default) ≡ entries_of entries
 unfolding entries_of
-entries-default entries default = ap (λ m. map pair_of (all_entries m)) (ordered-Default entries (Some (plain default)))
+entries-default entries default = ap (λ m. map pair_of (all_entries m)) (ordered-Default entries (shown (Held default)))
 
 -- ticks below the next one
 pub below-default : (next : ℕ) (entries : Parts) (default : Holder) → AreBelow next entries → AreBelow next (with_default entries default)

@@ -9,15 +9,16 @@ use Rattle.std.specs.FinMap.{nat_cmp-IsAntisymmetric, get, get-insert, entries, 
 use Rattle.std.specs.FinMap.Entries.{find, below_all, is_sorted, where_key, is_sorted-where_key, find-where_key, find-append, same_entries}
 use Rattle.t3_holder.specs.declared.holder.Holder.{Holder}
 use Rattle.t3_undo.specs.Cell.{cell_cmp_total, cell_cmp-IsAntisymmetric}
-use Rattle.t3_undo.specs.Content.{Present, Parts}
+use Rattle.t3_undo.specs.Content.{Present, Parts, shown}
 use Rattle.t3_undo.specs.Key.{key_cmp, key_cmp_total}
 use Rattle.t3_undo.specs.Objects.{set_at}
 use Rattle.t3_undo.specs.declared.key.Key.{Key}
 use Rattle.t3_undo.specs.declared.cell.Cell.TheVariants as cells
+use Rattle.t3_undo.specs.declared.content.Content.TheVariants.{Held, Slot}
 use Rattle.t3_undo.proofs.Maps.{get-set_at, get-tied, set_at-back}
 use Rattle.t3_tables.specs.declared.pair.Pair.{Pair}
-use Rattle.t3_tables.specs.Table.{place_cmp, ordered, pair_of, entries_of, plain}
-use Rattle.t3_tables.specs.Order.{slot, with_value, NewComesLast, PresentKeepsPlace, OthersStay, OldStandsWhereItStood, DefaultIsApart}
+use Rattle.t3_tables.specs.Table.{place_cmp, ordered, pair_of, entries_of}
+use Rattle.t3_tables.specs.Order.{with_value, NewComesLast, PresentKeepsPlace, OthersStay, OldStandsWhereItStood, DefaultIsApart}
 use Rattle.t3_tables.proofs.OrderedEntries.{Place, place_cmp_total, place_cmp-IsAntisymmetric, same_key, value_at, at_tick, get-ordered, ordered-new, ordered-Default, all-found, first, second}
 
 abbrev Entries : Type 0
@@ -69,8 +70,8 @@ renewed : Key → Holder → Key → Holder → Holder
 renewed key value k old = cond (same_key key k) value old
 
 kept-value : (s t : ℕ) (key l : Key) (old value : Holder) (o : Option Present) → (b : Bool) → same_key l key ≡ b
-    → (b ≡ true → o ≡ Some (slot t old))
-    → value_at s (cond b (Some (slot t value)) o) ≡ option_map (renewed key value l) (value_at s o)
+    → (b ≡ true → o ≡ shown (Slot t old))
+    → value_at s (cond b (shown (Slot t value)) o) ≡ option_map (renewed key value l) (value_at s o)
 unfolding renewed
 kept-value s t key l old value o true e is =
     by (eq_by_cmp nat_cmp s t) ∙ ap (λ o. option_map (λ old. cond (same_key key l) value old) (value_at s o)) (sym (is refl))
@@ -97,10 +98,10 @@ pairs-changed key value (e ∷ es) = λ i. by (same_key key e.0.1) i ∷ pairs-c
 pub entries-kept : PresentKeepsPlace
 unfolding entries_of
 entries-kept parts key tick old value stands =
-    ap (map pair_of) (known (set_at parts (cells.Key key) (Some (slot tick value))) (changed (renewed key value) (entries (ordered parts)))
+    ap (map pair_of) (known (set_at parts (cells.Key key) (shown (Slot tick value))) (changed (renewed key value) (entries (ordered parts)))
     (subst T (sym (sorted-changed (renewed key value) (entries (ordered parts)))) (entries_sorted (ordered parts)))
     (λ s l.
-    ap (value_at s) (get-set_at cell_cmp_total parts (cells.Key key) (Some (slot tick value)) (cells.Key l))
+    ap (value_at s) (get-set_at cell_cmp_total parts (cells.Key key) (shown (Slot tick value)) (cells.Key l))
     ∙ kept-value s tick key l old value (get parts (cells.Key l)) (same_key l key) refl
     (λ e. sym (get-tied cell_cmp_total parts (cells.Key l) (cells.Key key) e) ∙ stands)
     ∙ ap (option_map (renewed key value l)) (sym (found-before parts s l))
@@ -191,13 +192,13 @@ less-last q last h = subst (λ r. T (is_lt (ordering_then r (key_cmp q.1 last.1)
 pub entries-last : NewComesLast
 unfolding entries_of
 entries-last parts key tick value none below =
-    ap (map pair_of) (known (set_at parts (cells.Key key) (Some (slot tick value))) (entries (ordered parts) ++ ((tick, key), value) ∷ [])
+    ap (map pair_of) (known (set_at parts (cells.Key key) (shown (Slot tick value))) (entries (ordered parts) ++ ((tick, key), value) ∷ [])
     (sorted-last (tick, key) value (entries (ordered parts)) (entries_sorted (ordered parts))
     (all-found place_cmp_total (λ (q : Place) (v : Holder). T (is_lt (place_cmp q (tick, key)))) (entries (ordered parts)) (entries_sorted (ordered parts))
     (λ q v found. less-last q (tick, key) (value-below q.0 tick (get parts (cells.Key q.1)) v (below (cells.Key q.1))
     (sym (found-before parts q.0 q.1) ∙ found)))))
     (λ s l.
-    sym (get-ordered (set_at parts (cells.Key key) (Some (slot tick value))) s l)
+    sym (get-ordered (set_at parts (cells.Key key) (shown (Slot tick value))) s l)
     ∙ ap (λ m. get m (s, l)) (ordered-new parts tick key value none)
     ∙ get-insert place_cmp_total (ordered parts) (tick, key) value (s, l)
     ∙ ap (cond (eq_by_cmp place_cmp (s, l) (tick, key)) (Some value)) (get-entries (ordered parts) (s, l))
@@ -211,4 +212,4 @@ entries-back parts cell content = ap entries_of (set_at-back cell_cmp_total cell
 
 pub entries-apart : DefaultIsApart
 unfolding entries_of
-entries-apart parts value = ap (λ m. map pair_of (entries m)) (ordered-Default parts (Some (plain value)))
+entries-apart parts value = ap (λ m. map pair_of (entries m)) (ordered-Default parts (shown (Held value)))

@@ -1,5 +1,5 @@
 -- The entries among parts, ordered: what is found there, and how a change of one cell changes them. Other crates may use these.
-use Rattle.std.proofs.Common.{◌≡◌, ◌∙◌, ap, sym, subst, refl, ℕ, Bool, true, false, cond, ◌&&◌, T, List, [], ◌∷◌, length, filter_map, Option, None, Some, is_some, true≢false, arith}
+use Rattle.std.proofs.Common.{◌≡◌, ◌∙◌, ap, sym, subst, refl, ℕ, Bool, true, false, cond, ◌&&◌, T, List, [], ◌∷◌, filter_map, Option, None, Some, is_some, true≢false}
 use Rattle.std.specs.Option.{option_map, option_or}
 use Rattle.std.specs.List.{cons_option}
 use Rattle.std.specs.declared.cmp.Ordering.{Ordering}
@@ -9,7 +9,7 @@ use Rattle.std.specs.Cmp.{IsTotalOrder, Equal-is, eq_by_cmp_equiv, nat_cmp_total
 use Rattle.std.proofs.lemmas.Cmp.{on_total, then_total}
 use Rattle.std.specs.List.{AllByRecursion}
 use Rattle.std.specs.BTreeMap.{insert_entry}
-use Rattle.std.specs.FinMap.{FinMap, IsAntisymmetric, empty, len-empty, len-entries, get, insert, entries, entries_sorted, from_entries, put, same_map, get-insert, get-entries, get-from_entries, entries-insert, nat_cmp-IsAntisymmetric}
+use Rattle.std.specs.FinMap.{FinMap, IsAntisymmetric, get, insert, entries, entries_sorted, from_entries, put, same_map, get-insert, get-entries, get-from_entries, entries-insert, nat_cmp-IsAntisymmetric}
 use Rattle.std.specs.FinMap.Entries.{find, by_order, below_all, is_sorted, find_tied}
 use Rattle.t3_holder.specs.declared.holder.Holder.{Holder}
 use Rattle.t3_undo.specs.Cell.{cell_cmp, cell_cmp_total, cell_cmp-IsAntisymmetric}
@@ -20,7 +20,7 @@ use Rattle.t3_undo.specs.Slots.{parts_of}
 use Rattle.t3_undo.specs.declared.key.Key.{Key}
 use Rattle.t3_undo.specs.declared.cell.Cell.{Cell}
 use Rattle.t3_undo.specs.declared.cell.Cell.TheVariants as cells
-use Rattle.t3_undo.proofs.Maps.{get-set_at, get-tied, set_at-absent}
+use Rattle.t3_undo.proofs.Maps.{get-set_at, get-tied, set_at-absent, entries-empty}
 use Rattle.t3_undo.proofs.SlotLists.{same}
 use Rattle.t3_tables.specs.Table.{place_cmp, entry_in, ordered}
 use Rattle.t3_tables.specs.Inner.Slots.{with_entry}
@@ -268,13 +268,6 @@ all-found {R = R} total P (e ∷ es) sorted each = (
     by q v found false t = refl
 
 -- no slots, no entries
-no_length : {X : Type 0} (xs : List X) → length xs ≡ 0 → xs ≡ []
-no_length [] e = refl
-no_length (x ∷ xs) e = absurd (omega arith)
-
-entries-empty : {K X : Type 0} (R : K → K → Ordering) → entries (empty {K = K} {X = X} {R = R}) ≡ []
-entries-empty {K} {X} R = no_length _ (sym (len-entries (empty {K = K} {X = X} {R = R})) ∙ len-empty R X)
-
 pub no-entries : entries (ordered (parts_of [])) ≡ []
 unfolding parts_of ordered
 no-entries = (λ i. entries (from_entries {R = place_cmp} (gathered (entries-empty cell_cmp i)))) ∙ entries-empty place_cmp

@@ -20,11 +20,11 @@ use Rattle.t3_undo.specs.declared.key.Key.{Key}
 use Rattle.t3_undo.specs.declared.cell.Cell.{Cell}
 use Rattle.t3_undo.specs.declared.cell.Cell.TheVariants as cells
 use Rattle.t3_undo.specs.declared.content.Content.{Content}
-use Rattle.t3_undo.specs.declared.content.Content.TheVariants.{Slot}
+use Rattle.t3_undo.specs.declared.content.Content.TheVariants.{Held, Slot}
 use Rattle.t3_undo.proofs.Maps.{get-set_at}
 use Rattle.t3_undo.proofs.SlotLists.{same, same-is, seen, get-parts_of, contains-places_of, lookup-none}
 use Rattle.t3_tables.specs.declared.pair.Pair.{Pair}
-use Rattle.t3_tables.specs.Table.{tick_after, place_cmp, ordered, pair_of, entries_of, plain, with_default, numbered, filled}
+use Rattle.t3_tables.specs.Table.{tick_after, place_cmp, ordered, pair_of, entries_of, with_default, numbered, filled}
 use Rattle.t3_tables.specs.Inner.Slots.{IsEntry, IsTable}
 use Rattle.t3_tables.proofs.OrderedEntries.{Place, place_cmp_total, same_key, value_at, at_tick, get-ordered, ordered-new, all-found, no-entries, first, second}
 use Rattle.t3_tables.proofs.NumberedSlots.{distinct-numbered}
@@ -221,11 +221,11 @@ places-filled default pairs =
     ∙ ap (λ b. same q cells.Default || b) (contains-places_of (numbered 1 pairs) q ∙ shows-numbered 1 pairs q
     ∙ ap is_some (sym (get-parts_of (numbered 1 pairs) q)))
     ∙ by (same q cells.Default) (get (parts_of (numbered 1 pairs)) q)
-    ∙ ap is_some (sym (get-set_at cell_cmp_total (parts_of (numbered 1 pairs)) cells.Default (Some (plain default)) q))
+    ∙ ap is_some (sym (get-set_at cell_cmp_total (parts_of (numbered 1 pairs)) cells.Default (shown (Held default)) q))
     ∙ contains_key-keys (filled default pairs) q
     ∙ sym (contains-from_list cell_cmp_total (keys (filled default pairs)) q))
   where
-    by : (b : Bool) (o : Option Present) → (b || is_some o) ≡ is_some (cond b (Some (plain default)) o)
+    by : (b : Bool) (o : Option Present) → (b || is_some o) ≡ is_some (cond b (shown (Held default)) o)
     by true o = refl
     by false o = refl
 

@@ -10,7 +10,7 @@ use Rattle.std.specs.FinSet as set
 use Rattle.std.specs.Coded.{Coded, code_by, coded×, coded_ℕ}
 use Rattle.t3_holder.specs.declared.holder.Holder.{Holder}
 use Rattle.t3_holder.specs.declared.holder.Holder.TheVariants as holders
-use Rattle.t3_undo.specs.Content.{Present, Parts, Places, coded_parts, coded_places, coded_holder}
+use Rattle.t3_undo.specs.Content.{Present, Parts, Places, shown, coded_parts, coded_places, coded_holder}
 use Rattle.t3_undo.specs.Key.{key_cmp}
 use Rattle.t3_undo.specs.Objects.{set_at}
 use Rattle.t3_undo.specs.Slots as slots
@@ -38,13 +38,9 @@ coded_table =
 abbrev pub new_table : TableValue
 new_table = record { entries = finite.empty; places = set.empty; default = holders.Nil; next_tick = 1 }
 
--- a value without a tick
-abbrev pub plain : Holder → Present
-plain value = record { tick = None; value = value }
-
 -- entries and a default as cells
 abbrev pub with_default : Parts → Holder → Parts
-with_default entries default = set_at entries cells.Default (Some (plain default))
+with_default entries default = set_at entries cells.Default (shown (contents.Held default))
 
 -- the present cells: the entries', and the default
 abbrev pub parts_of : TableValue → Parts

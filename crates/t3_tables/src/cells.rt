@@ -1,9 +1,9 @@
 //! One cell of a table.
-ghost use Rattle.std.specs.Prelude.{◌≡◌, IsTrue, Some};
+ghost use Rattle.std.specs.Prelude.{◌≡◌, IsTrue};
 ghost use Rattle.t3_undo.specs.Content.{shown, is_form};
 ghost use Rattle.t3_undo.specs.declared.cell.Cell.TheVariants.{Default};
 ghost use Rattle.t3_undo.specs.declared.content.Content.TheVariants.{Held};
-ghost use Rattle.t3_tables.specs.Table.{plain, tick_after};
+ghost use Rattle.t3_tables.specs.Table.{tick_after};
 
 use std::mem;
 use t3_holder::Holder;
@@ -12,7 +12,7 @@ use t3_undo::{Cell, Content};
 /// Sets a default, and hands out what stood there.
 pub(crate) fn exchange_default(default: &mut Holder, content: Content) -> Content
     requires { IsTrue (is_form Default (shown content)) }
-    ensures new { Some (plain default.new) ≡ shown content }
+    ensures new { shown (Held default.new) ≡ shown content }
     ensures old { result ≡ Held default.old }
 {
     match content {

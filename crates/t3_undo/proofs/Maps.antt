@@ -1,10 +1,10 @@
 -- What a finite map answers after a key was set or its value changed. Other crates may use these.
-use Rattle.std.proofs.Common.{◌≡◌, ◌∙◌, ap, sym, refl, Bool, true, false, cond, Option, None, Some, true≢false}
+use Rattle.std.proofs.Common.{◌≡◌, ◌∙◌, ap, sym, refl, Bool, true, false, cond, List, [], ◌∷◌, length, Option, None, Some, true≢false, arith}
 use Rattle.std.specs.declared.cmp.Ordering.{Ordering}
 use Rattle.std.specs.Ordering.{eq_by_cmp}
 use Rattle.std.specs.Option.{option_map}
 use Rattle.std.specs.Cmp.{IsTotalOrder, Equal-is, eq_by_cmp_equiv}
-use Rattle.std.specs.FinMap.{FinMap, get, get-insert, get-remove, get_tied, IsAntisymmetric, same_map}
+use Rattle.std.specs.FinMap.{FinMap, empty, entries, len-empty, len-entries, get, get-insert, get-remove, get_tied, IsAntisymmetric, same_map}
 use Rattle.t3_undo.specs.Objects.{set_at, adjust, adjusted}
 
 module _ {K X : Type 0} {R : K → K → Ordering} (total : IsTotalOrder R) where
@@ -70,3 +70,11 @@ module _ {K X : Type 0} {R : K → K → Ordering} (total : IsTotalOrder R) wher
       by q true s false t = refl
       by q false s true t = refl
       by q false s false t = refl
+
+-- a map without keys has no entries
+no_length : {X : Type 0} (xs : List X) → length xs ≡ 0 → xs ≡ []
+no_length [] e = refl
+no_length (x ∷ xs) e = absurd (omega arith)
+
+pub entries-empty : {K X : Type 0} (R : K → K → Ordering) → entries (empty {K = K} {X = X} {R = R}) ≡ []
+entries-empty {K} {X} R = no_length _ (sym (len-entries (empty {K = K} {X = X} {R = R})) ∙ len-empty R X)
