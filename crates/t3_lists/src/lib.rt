@@ -18,6 +18,8 @@ mod elements;
 mod holders;
 mod law;
 mod list;
+#[cfg(test)]
+mod tests;
 mod text;
 mod vector;
 
