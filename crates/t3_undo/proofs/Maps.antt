@@ -1,10 +1,10 @@
 -- What a finite map answers after a key was set or its value changed. Other crates may use these.
-use Rattle.std.proofs.Common.{◌≡◌, ◌∙◌, ap, sym, refl, Bool, true, false, cond, Option, None, Some}
+use Rattle.std.proofs.Common.{◌≡◌, ◌∙◌, ap, sym, refl, Bool, true, false, cond, List, [], ◌∷◌, length, Option, None, Some, true≢false, arith}
 use Rattle.std.specs.declared.cmp.Ordering.{Ordering}
 use Rattle.std.specs.Ordering.{eq_by_cmp}
 use Rattle.std.specs.Option.{option_map}
-use Rattle.std.specs.Cmp.{IsTotalOrder, Equal-is}
-use Rattle.std.specs.FinMap.{FinMap, get, get-insert, get-remove, get_tied, IsAntisymmetric, same_map}
+use Rattle.std.specs.Cmp.{IsTotalOrder, Equal-is, eq_by_cmp_equiv}
+use Rattle.std.specs.FinMap.{FinMap, empty, entries, len-empty, len-entries, get, get-insert, get-remove, get_tied, IsAntisymmetric, same_map}
 use Rattle.t3_undo.specs.Objects.{set_at, adjust, adjusted}
 
 module _ {K X : Type 0} {R : K → K → Ordering} (total : IsTotalOrder R) where
@@ -37,3 +37,44 @@ module _ {K X : Type 0} {R : K → K → Ordering} (total : IsTotalOrder R) wher
       by : (q : K) (b : Bool) → eq_by_cmp R q k ≡ b → cond b (get m k) (get (set_at m k o) q) ≡ get m q
       by q true t = get-tied m q k t
       by q false t = get-set_at m k o q ∙ ap (λ b. cond b o (get m q)) t
+
+  -- what is absent, taken away
+  pub set_at-absent : IsAntisymmetric R → (m : FinMap R X) (k : K) → get m k ≡ None → set_at m k None ≡ m
+  set_at-absent same m k none = same_map total same _ m (λ q. get-set_at m k None q ∙ by q (eq_by_cmp R q k) refl)
+    where
+      by : (q : K) (b : Bool) → eq_by_cmp R q k ≡ b → cond b None (get m q) ≡ get m q
+      by q true t = sym none ∙ get-tied m q k t
+      by q false t = refl
+
+  -- a key set twice, and two keys in either order
+  pub set_at-again : IsAntisymmetric R → (m : FinMap R X) (k : K) (o p : Option X) → set_at (set_at m k o) k p ≡ set_at m k p
+  set_at-again same m k o p =
+      same_map total same _ _ (λ q. get-set_at (set_at m k o) k p q ∙ by q (eq_by_cmp R q k) refl ∙ sym (get-set_at m k p q))
+    where
+      by : (q : K) (b : Bool) → eq_by_cmp R q k ≡ b → cond b p (get (set_at m k o) q) ≡ cond b p (get m q)
+      by q true t = refl
+      by q false t = get-set_at m k o q ∙ ap (λ b. cond b o (get m q)) t
+
+  pub set_at-apart : IsAntisymmetric R → (m : FinMap R X) (k l : K) (o p : Option X) → eq_by_cmp R k l ≡ false
+      → set_at (set_at m k o) l p ≡ set_at (set_at m l p) k o
+  set_at-apart same m k l o p apart =
+      same_map total same _ _ (λ q.
+      get-set_at (set_at m k o) l p q
+      ∙ ap (cond (eq_by_cmp R q l) p) (get-set_at m k o q)
+      ∙ by q (eq_by_cmp R q k) refl (eq_by_cmp R q l) refl
+      ∙ sym (get-set_at (set_at m l p) k o q ∙ ap (cond (eq_by_cmp R q k) o) (get-set_at m l p q)))
+    where
+      by : (q : K) (a : Bool) → eq_by_cmp R q k ≡ a → (b : Bool) → eq_by_cmp R q l ≡ b
+          → cond b p (cond a o (get m q)) ≡ cond a o (cond b p (get m q))
+      by q true s true t = absurd (true≢false (sym t ∙ (eq_by_cmp_equiv total).congr q k l s ∙ apart))
+      by q true s false t = refl
+      by q false s true t = refl
+      by q false s false t = refl
+
+-- a map without keys has no entries
+no_length : {X : Type 0} (xs : List X) → length xs ≡ 0 → xs ≡ []
+no_length [] e = refl
+no_length (x ∷ xs) e = absurd (omega arith)
+
+pub entries-empty : {K X : Type 0} (R : K → K → Ordering) → entries (empty {K = K} {X = X} {R = R}) ≡ []
+entries-empty {K} {X} R = no_length _ (sym (len-entries (empty {K = K} {X = X} {R = R})) ∙ len-empty R X)

@@ -1,2 +1,3 @@
 -- What only private functions' contracts cite.
 pub mod Rows
+pub mod KeyOrder

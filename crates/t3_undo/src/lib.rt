@@ -21,6 +21,7 @@ mod content;
 mod journal;
 mod kept;
 mod key;
+mod key_order;
 mod law;
 mod mark;
 mod metaclass;

@@ -1,4 +1,4 @@
-ghost use Rattle.std.specs.Prelude.{◌≡◌, ◌<◌, ◌↔◌, ◌++◌, [], ◌∷◌, false, None, Some, IsTrue, IsSome, OnOk, OnErr, IfOk, filter, length, slice_get};
+ghost use Rattle.std.specs.Prelude.{◌≡◌, ◌<◌, ◌^◌, ◌↔◌, ◌++◌, [], ◌∷◌, false, None, Some, IsTrue, IsSome, OnOk, OnErr, IfOk, filter, length, slice_get};
 ghost use Rattle.std.specs.FinMap.{get};
 ghost use Rattle.std.specs.FinSet as set;
 ghost use Rattle.std.specs.List.{IsDistinct, list_any};
@@ -94,7 +94,7 @@ impl Slots {
     }
 
     /// A slot for a cell that has none.
-    fn add(&mut self, cell: Cell, content: Content) -> Result<(), NoMemory>
+    pub fn add(&mut self, cell: Cell, content: Content) -> Result<(), NoMemory>
         requires new { list_any (eq_by_cmp cell_cmp cell) (keys_of self.old) ≡ false }
         requires form { IsTrue (is_form cell (shown content)) }
         ensures ok { OnOk result (self.new ≡ self.old ++ (cell, content) ∷ []) }
@@ -133,6 +133,7 @@ impl Slots {
     pub fn places(&self) -> u64
         ensures places { result ≡ set.len (places_of self.now) }
         ensures slots { result ≡ length self.now }
+        ensures bound { result < 2 ^ 63 }
         ensures distinct { IsDistinct (eq_by_cmp cell_cmp) (keys_of self.now) }
     {
         self.cells.len() as u64

@@ -1,0 +1,2 @@
+pub mod ElementLists
+pub mod Items

@@ -1,0 +1,11 @@
+use Rattle.std.proofs.Common.{sym, true≢false, ◌∙◌}
+use Rattle.std.specs.FinMap.{get-empty}
+use Rattle.std.specs.FinSet.{contains-empty}
+use Rattle.t3_undo.specs.Cell.{cell_cmp}
+use Rattle.t3_lists.proofs.text.TextMetaclass.get.Goals as goal
+
+pub returns-clause-content : goal.returns-clause-content
+returns-clause-content c = sym (get-empty cell_cmp c.args._cell.now)
+
+pub returns-clause-formed : goal.returns-clause-formed
+returns-clause-formed c placed = absurd (true≢false (sym placed ∙ contains-empty cell_cmp c.args._cell.now))

@@ -1,0 +1,3 @@
+pub mod Vector
+pub mod ItemLaw
+pub mod Inner

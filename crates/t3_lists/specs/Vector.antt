@@ -1,0 +1,57 @@
+-- Vectors: elements that have a place, each with its value or missing; as cells, and as a list of items.
+use Rattle.std.specs.Prelude.{◌≡◌, ℕ, suc, ◌<◌, List, [], ◌∷◌, map, Option, None, Some, IsTrue}
+use Rattle.std.specs.List.{filter_map}
+use Rattle.std.specs.FinMap.{entries}
+use Rattle.std.specs.FinSet as set
+use Rattle.t3_holder.specs.declared.holder.Holder.{Holder}
+use Rattle.t3_undo.specs.Content.{Present, Parts, Places}
+use Rattle.t3_undo.specs.Slots as slots
+use Rattle.t3_undo.specs.declared.cell.Cell.{Cell}
+use Rattle.t3_undo.specs.declared.cell.Cell.TheVariants as cells
+use Rattle.t3_undo.specs.declared.content.Content.{Content}
+use Rattle.t3_undo.specs.declared.content.Content.TheVariants as contents
+
+-- what stands in the cell of an element
+abbrev pub content_of : Option Holder → Content
+content_of None = contents.Absent
+content_of (Some value) = contents.Held value
+
+-- elements in their cells, the first under this number
+abbrev pub numbered : ℕ → List (Option Holder) → List (Cell × Content)
+numbered number [] = []
+numbered number (element ∷ elements) = (cells.Elem number, content_of element) ∷ numbered (suc number) elements
+
+-- the present elements as cells, of which the first is number 1
+unfoldable pub parts_of : List (Option Holder) → Parts
+parts_of elements = slots.parts_of (numbered 1 elements)
+
+-- the cells of all elements
+unfoldable pub places_of : List (Option Holder) → Places
+places_of elements = slots.places_of (numbered 1 elements)
+
+-- the value of an element
+abbrev pub item_in : Cell → Present → Option Holder
+item_in (cells.Elem number) present = Some present.value
+item_in (cells.Prop _) present = None
+item_in (cells.Key _) present = None
+item_in cells.Default present = None
+
+-- the values of the present elements, by rising number
+unfoldable pub items_of : Parts → List Holder
+items_of parts = filter_map (λ e. item_in e.0 e.1) (entries parts)
+
+-- the parts of a vector of these items
+abbrev pub filled : List Holder → Parts
+filled items = parts_of (map (λ item. Some item) items)
+
+-- no element is missing below another: there are items of which these are the parts
+abbrev pub IsWhole : Parts → Type 0
+IsWhole parts = (items : List Holder) × (parts ≡ filled items)
+
+-- the cell is an element, from number 1 on, and all lower elements have a place
+abbrev pub HasPlaceBelow : Places → Cell → Type 0
+HasPlaceBelow places (cells.Elem number) =
+    (0 < number) × ((lower : ℕ) → 0 < lower → lower < number → IsTrue (set.contains places (cells.Elem lower)))
+HasPlaceBelow places (cells.Prop _) = ⊥
+HasPlaceBelow places (cells.Key _) = ⊥
+HasPlaceBelow places cells.Default = ⊥

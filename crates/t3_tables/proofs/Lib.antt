@@ -1,0 +1,5 @@
+pub mod OrderedEntries
+pub mod NumberedSlots
+pub mod Defaults
+pub mod TableLists
+pub mod EntryOrder

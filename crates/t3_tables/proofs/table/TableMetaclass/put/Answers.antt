@@ -1,0 +1,56 @@
+use Rattle.std.proofs.Common.{◌≡◌, ◌∙◌, ap, sym, false}
+use Rattle.std.specs.FinMap.{get}
+use Rattle.std.specs.FinSet.{contains, insert}
+use Rattle.t3_undo.specs.Content.{Parts, Places, shown}
+use Rattle.t3_undo.specs.Objects.{set_at}
+use Rattle.t3_undo.specs.Slots as slots
+use Rattle.t3_undo.specs.declared.cell.Cell.TheVariants as cells
+use Rattle.t3_undo.proofs.SlotLists.{same}
+use Rattle.t3_tables.specs.Table.{parts_of, places_of, with_default, tick_after}
+use Rattle.t3_tables.proofs.Defaults.{get-default, get-other, contains-other, default-set, other-set, apart-default}
+use Rattle.t3_tables.proofs.TableLists.{table-put}
+use Rattle.t3_tables.proofs.table.TableMetaclass.put.Goals as goal
+
+pub put-requires : goal.put-requires
+put-requires c = record {
+  place =
+      sym (contains-other (slots.places_of c.self.inside.slots) c.args.cell.now (apart-default c.args.cell.now c.in_default.not-Default))
+      ∙ ap (λ t. contains (places_of t) c.args.cell.now) c.self.view_is ∙ c.requires.place;
+  form = c.requires.form;
+}
+
+pub invariant_of-self-in_default : goal.invariant_of-self-in_default
+invariant_of-self-in_default c =
+    table-put c.self.inside.slots c.put.new.self c.args.cell.now (shown c.args.content) c.self.inside.next_tick c.tick_after-self-inside.result
+    c.self.invariant c.put.ensures.parts c.put.ensures.places c.tick_after-self-inside.ensures
+
+pub returns-in-Default-clause-parts : goal.returns-in-Default-clause-parts
+returns-in-Default-clause-parts c =
+    default-set (slots.parts_of c.self.inside.slots) c.self.inside.default c.exchange_default.new.default
+    ∙ ap (set_at (with_default (slots.parts_of c.self.inside.slots) c.self.inside.default) cells.Default) c.exchange_default.ensures.new
+    ∙ ap (λ t. set_at (parts_of t) cells.Default (shown c.args.content)) c.self.view_is
+    ∙ ap (λ cell. set_at (parts_of c.args.self.now) cell (shown c.args.content)) (sym c.in-Default.is)
+
+pub returns-in-Default-clause-old : goal.returns-in-Default-clause-old
+returns-in-Default-clause-old c =
+    ap shown c.exchange_default.ensures.old
+    ∙ sym (get-default (slots.parts_of c.self.inside.slots) c.self.inside.default)
+    ∙ ap (λ t. get (parts_of t) cells.Default) c.self.view_is
+    ∙ ap (get (parts_of c.args.self.now)) (sym c.in-Default.is)
+
+pub returns-in_default : goal.returns-in_default
+returns-in_default c =
+    let apart : same c.args.cell.now cells.Default ≡ false = apart-default c.args.cell.now c.in_default.not-Default in
+    record {
+      parts =
+          ap (λ (p : Parts). with_default p c.self.inside.default) c.put.ensures.parts
+          ∙ other-set (slots.parts_of c.self.inside.slots) c.self.inside.default c.args.cell.now (shown c.args.content) apart
+          ∙ ap (λ t. set_at (parts_of t) c.args.cell.now (shown c.args.content)) c.self.view_is;
+      places = ap (λ (p : Places). insert p cells.Default) c.put.ensures.places ∙ ap places_of c.self.view_is;
+      next = c.tick_after-self-inside.ensures ∙ ap (λ t. tick_after t.next_tick (shown c.args.content)) c.self.view_is;
+      old =
+          c.put.ensures.old
+          ∙ sym (get-other (slots.parts_of c.self.inside.slots) c.self.inside.default c.args.cell.now apart)
+          ∙ ap (λ t. get (parts_of t) c.args.cell.now) c.self.view_is;
+      formed = c.put.ensures.formed;
+    }
