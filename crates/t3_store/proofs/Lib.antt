@@ -1,0 +1,4 @@
+pub mod KindValues
+pub mod Rows
+pub mod MapValues
+pub mod Outcomes

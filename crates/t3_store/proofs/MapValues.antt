@@ -1,0 +1,202 @@
+-- The values of objects, as finite maps: what changes of the objects do to them, and to the units that they count.
+use Rattle.std.proofs.Common.{◌≡◌, ◌∙◌, ap, sym, subst, refl, ℕ, ◌+◌, ◌<◌, Bool, true, false, cond, ◌&&◌, T, IsTrue, IsSome, length, List, [], ◌∷◌, map, Option, None, Some, is_some, true≢false, nat_lt, arith}
+use Rattle.std.specs.declared.cmp.Ordering.{Ordering}
+use Rattle.std.specs.declared.cmp.Ordering.TheVariants.{Less, Equal, Greater}
+use Rattle.std.specs.Ordering.{nat_cmp, eq_by_cmp, is_eq, is_lt}
+use Rattle.std.specs.Option.{option_map}
+use Rattle.std.specs.Cmp.{nat_cmp_total, ranked}
+use Rattle.std.specs.List.{AllByRecursion, sum_by}
+use Rattle.std.proofs.lemmas.List.Sums.{sum_by-cons}
+use Rattle.std.specs.FinMap.{FinMap, get, empty, len-empty, len-entries, insert, entries, from_entries, entries_sorted, same_map, get-insert, get-from_entries, get-entries, get-retain_keys, retain_keys, entries-insert, nat_cmp-IsAntisymmetric}
+use Rattle.std.specs.FinMap.Entries.{find, put, by_order, below_all, is_sorted}
+use Rattle.t3_undo.specs.Content.{Parts}
+use Rattle.t3_undo.specs.Objects.{Objects, adjust, adjusted, below, part_of, part_at}
+use Rattle.t3_undo.specs.declared.cell.Cell.{Cell}
+use Rattle.t3_holder.specs.declared.holder.Holder.{Holder}
+use Rattle.t3_undo.proofs.Maps.{get-adjust}
+use Rattle.t3_undo.proofs.PuttingBack.{get-below}
+use Rattle.t3_store.specs.Value.{Value, units_of, units_in, cell_units, holder_in, holder_at, can_have_at, with_cell, without_cell}
+use Rattle.t3_store.specs.Inner.Shapes.{Shape, value_of, values}
+use Rattle.t3_store.proofs.KindValues.{held-value, present-can, units_of-with, units_of-without}
+use Rattle.t3_store.proofs.Rows.{same, same-is, differs}
+
+-- the value of an object among others
+find-map : {X Y : Type 0} (f : X → Y) (es : List (ℕ × X)) (q : ℕ) → find nat_cmp q (map (λ e. (e.0, f e.1)) es)
+    ≡ option_map f (find nat_cmp q es)
+find-map f [] q = refl
+find-map {X} {Y} f (e ∷ es) q = ap (cond (same q e.0) (Some (f e.1))) (find-map f es q) ∙ by (same q e.0)
+  where
+    by : (b : Bool) → ◌≡◌ {A = Option Y} (cond b (Some (f e.1)) (option_map f (find nat_cmp q es))) (option_map f (cond b (Some e.1) (find nat_cmp q es)))
+    by true = refl
+    by false = refl
+
+pub get-values : (things : Objects Shape) (q : ℕ) → get (values things) q ≡ option_map value_of (get things q)
+unfolding values
+get-values things q =
+    get-from_entries nat_cmp_total (map (λ e. (e.0, value_of e.1)) (entries things)) q
+    ∙ find-map value_of (entries things) q ∙ ap (option_map value_of) (sym (get-entries things q))
+
+same_values : (things : Objects Shape) (m : FinMap nat_cmp Value) → ((q : ℕ) → option_map value_of (get things q) ≡ get m q) → values things ≡ m
+same_values things m alike = same_map nat_cmp_total nat_cmp-IsAntisymmetric _ _ (λ q. get-values things q ∙ alike q)
+
+-- an object changed
+pub values-adjust : (things : Objects Shape) (n : ℕ) (f : Shape × Parts → Shape × Parts) (g : Value → Value)
+    → ((x : Shape × Parts) → get things n ≡ Some x → value_of (f x) ≡ g (value_of x))
+    → values (adjust things n f) ≡ adjust (values things) n g
+values-adjust things n f g alike =
+    same_values _ _ (λ q.
+    ap (option_map value_of) (get-adjust nat_cmp_total things n f q) ∙ by q (same q n) refl (get things q) refl
+    ∙ (let back = sym (get-values things q) in λ i. cond (same q n) (option_map g (back i)) (back i))
+    ∙ sym (get-adjust nat_cmp_total (values things) n g q))
+  where
+    by : (q : ℕ) (b : Bool) → same q n ≡ b → (o : Option (Shape × Parts)) → get things q ≡ o
+        → option_map value_of (cond b (option_map f o) o) ≡ cond b (option_map g (option_map value_of o)) (option_map value_of o)
+    by q true t None e = refl
+    by q true t (Some x) e = ap Some (alike x (ap (get things) (sym (same-is q n t)) ∙ e))
+    by q false t o e = refl
+
+option_map-cond : (b : Bool) (x : Shape × Parts) (o : Option (Shape × Parts))
+    → option_map value_of (cond b (Some x) o) ≡ cond b (Some (value_of x)) (option_map value_of o)
+option_map-cond true x o = refl
+option_map-cond false x o = refl
+
+-- an object more
+pub values-insert : (things : Objects Shape) (n : ℕ) (x : Shape × Parts) → values (insert things n x) ≡ insert (values things) n (value_of x)
+values-insert things n x =
+    same_values _ _ (λ q.
+    ap (option_map value_of) (get-insert nat_cmp_total things n x q) ∙ option_map-cond (same q n) x (get things q)
+    ∙ ap (cond (same q n) (Some (value_of x))) (sym (get-values things q))
+    ∙ sym (get-insert nat_cmp_total (values things) n (value_of x) q))
+
+-- how much is counted
+pub amount : {X : Type 0} → (X → ℕ) → Option X → ℕ
+amount f None = 0
+amount f (Some x) = f x
+
+abbrev Rise : {X : Type 0} → List (ℕ × X) → Type 0
+Rise [] = Unit {0}
+Rise (e ∷ es) = AllByRecursion (λ later. e.0 < later.0) es × Rise es
+
+first : (a b : Bool) → T (a && b) → T a
+first true b p = tt
+first false b p = absurd p
+
+second : (a b : Bool) → T (a && b) → T b
+second true b p = p
+second false b p = absurd p
+
+less : (a b : ℕ) → T (is_lt (nat_cmp a b)) → a < b
+less a b = by (nat_cmp a b) refl
+  where
+    by : (r : Ordering) → r ≡ nat_cmp a b → T (is_lt r) → a < b
+    by Less e h = ranked a b Less e
+    by Equal e h = absurd h
+    by Greater e h = absurd h
+
+below-all : {X : Type 0} (k : ℕ) (es : List (ℕ × X)) → T (below_all nat_cmp k es) → AllByRecursion (λ later. k < later.0) es
+below-all k [] h = tt
+below-all k (e ∷ es) h = (less k e.0 (first _ _ h), below-all k es (second _ _ h))
+
+rise : {X : Type 0} (es : List (ℕ × X)) → T (is_sorted nat_cmp es) → Rise es
+rise [] h = tt
+rise (e ∷ es) h = (below-all e.0 es (first _ _ h), rise es (second _ _ h))
+
+find-below : {X : Type 0} (j k : ℕ) (es : List (ℕ × X)) → j < k → AllByRecursion (λ later. k < later.0) es → find nat_cmp j es ≡ None
+find-below j k [] h all = refl
+find-below j k (e ∷ es) h all =
+    ap (λ b. cond b (Some e.1) (find nat_cmp j es)) (differs j e.0 (λ is. omega (arith, all.0))) ∙ find-below j k es h all.1
+
+module _ {X : Type 0} (f : X → ℕ) where
+  total : List (ℕ × X) → ℕ
+  total es = sum_by (λ e. f e.1) es
+
+  total-cons : (e : ℕ × X) (es : List (ℕ × X)) → total (e ∷ es) ≡ f e.1 + total es
+  unfolding total
+  total-cons e es = sum_by-cons (λ e. f e.1) e es
+
+  total-none : total [] ≡ 0
+  unfolding total
+  total-none = refl
+
+  total-put : (k : ℕ) (v : X) (es : List (ℕ × X)) → Rise es → amount f (find nat_cmp k es) + total (put nat_cmp k v es) ≡ f v + total es
+  unfolding amount
+  total-put k v [] rises = omega (arith, total-cons (k, v) [], total-none)
+  total-put k v (e ∷ es) rises = by (total-put k v es rises.1) (nat_cmp k e.0) refl
+    where
+      by : amount f (find nat_cmp k es) + total (put nat_cmp k v es) ≡ f v + total es → (r : Ordering) → r ≡ nat_cmp k e.0
+          → amount f (cond (is_eq r) (Some e.1) (find nat_cmp k es)) + total (by_order r ((k, v) ∷ e ∷ es) ((e.0, v) ∷ es) (e ∷ put nat_cmp k v es))
+          ≡ f v + total (e ∷ es)
+      by rest Less is =
+          let none : amount f (find nat_cmp k es) ≡ 0 = ap (amount f) (find-below k e.0 es (ranked k e.0 Less is) rises.0) in
+          omega (arith, total-cons (k, v) (e ∷ es), total-cons e es, none)
+      by rest Equal is = omega (arith, total-cons (e.0, v) es, total-cons e es)
+      by rest Greater is = omega (arith, total-cons e (put nat_cmp k v es), total-cons e es, rest)
+
+-- the units of objects, of which one is set
+pub units_in-insert : (m : FinMap nat_cmp Value) (k : ℕ) (v : Value) → amount units_of (get m k) + units_in (insert m k v) ≡ units_of v + units_in m
+unfolding total
+units_in-insert m k v =
+    (λ i. amount units_of (get-entries m k i) + total units_of (entries-insert nat_cmp_total m k v i))
+    ∙ total-put units_of k v (entries m) (rise (entries m) (entries_sorted m))
+
+pub units_in-new : (m : FinMap nat_cmp Value) (k : ℕ) (v : Value) → get m k ≡ None → units_in (insert m k v) ≡ units_in m + units_of v
+unfolding amount
+units_in-new m k v e = let none : amount units_of (get m k) ≡ 0 = ap (amount units_of) e in omega (arith, units_in-insert m k v, none)
+
+pub units_in-adjust : (m : FinMap nat_cmp Value) (k : ℕ) (g : Value → Value) (v : Value) → get m k ≡ Some v
+    → units_of v + units_in (adjust m k g) ≡ units_of (g v) + units_in m
+unfolding adjust amount
+units_in-adjust m k g v e =
+    (λ i. amount units_of (sym e i) + units_in (adjusted m k g (e i))) ∙ units_in-insert m k (g v)
+
+-- what stands in a cell that the object can have
+pub held-at : (things : Objects Shape) (n : ℕ) (cell : Cell) → IsTrue (can_have_at (get (values things) n) cell)
+    → option_map (λ present. present.value) (part_at things n cell) ≡ holder_at (get (values things) n) cell
+held-at things n cell can =
+    by (get things n) (sym (ap (λ o. can_have_at o cell) (get-values things n)) ∙ can) ∙ sym (ap (λ o. holder_at o cell) (get-values things n))
+  where
+    by : (o : Option (Shape × Parts)) → IsTrue (can_have_at (option_map value_of o) cell)
+        → option_map (λ present. present.value) (part_of o cell) ≡ holder_at (option_map value_of o) cell
+    by None can = refl
+    by (Some x) can = held-value x cell can
+
+pub present-can_at : (o : Option Value) (cell : Cell) → IsSome (holder_at o cell) → IsTrue (can_have_at o cell)
+present-can_at None cell some = absurd (true≢false (sym some))
+present-can_at (Some value) cell some = present-can value cell some
+
+-- the units with one cell set, and with one taken away
+pub units_in-with : (m : FinMap nat_cmp Value) (n : ℕ) (cell : Cell) (holder : Holder) → IsTrue (can_have_at (get m n) cell)
+    → units_in (adjust m n (with_cell cell holder))
+    ≡ cond (is_some (holder_at (get m n) cell)) (units_in m) (units_in m + cell_units cell)
+units_in-with m n cell holder can = by (get m n) refl can
+  where
+    more : (b : Bool) (u v a k : ℕ) → v ≡ cond b u (u + 1) → u + a ≡ v + k → a ≡ cond b k (k + 1)
+    more true u v a k e f = omega arith
+    more false u v a k e f = omega arith
+
+    by : (o : Option Value) → get m n ≡ o → IsTrue (can_have_at o cell)
+        → units_in (adjust m n (with_cell cell holder)) ≡ cond (is_some (holder_at o cell)) (units_in m) (units_in m + cell_units cell)
+    by None e can = absurd (true≢false (sym can))
+    by (Some value) e can =
+        more (is_some (holder_in value cell)) _ _ _ _ (units_of-with value cell holder can) (units_in-adjust m n (with_cell cell holder) value e)
+
+pub units_in-without : (m : FinMap nat_cmp Value) (n : ℕ) (cell : Cell) → IsSome (holder_at (get m n) cell)
+    → units_in (adjust m n (without_cell cell)) + cell_units cell ≡ units_in m
+units_in-without m n cell some = by (get m n) refl some
+  where
+    by : (o : Option Value) → get m n ≡ o → IsSome (holder_at o cell) → units_in (adjust m n (without_cell cell)) + cell_units cell ≡ units_in m
+    by None e some = absurd (true≢false (sym some))
+    by (Some value) e some = omega (arith, units_of-without value cell some, units_in-adjust m n (without_cell cell) value e)
+
+no_length : {X : Type 0} (xs : List X) → length xs ≡ 0 → xs ≡ []
+no_length [] e = refl
+no_length (x ∷ xs) e = absurd (omega arith)
+
+entries-empty : {X : Type 0} → entries (empty {K = ℕ} {X = X} {R = nat_cmp}) ≡ []
+entries-empty {X} = no_length _ (sym (len-entries (empty {K = ℕ} {X = X} {R = nat_cmp})) ∙ len-empty nat_cmp X)
+
+pub units_in-none : units_in (values empty) ≡ 0
+unfolding values
+units_in-none =
+    (λ i. units_in (from_entries (map (λ (e : ℕ × (Shape × Parts)). (e.0, value_of e.1)) (entries-empty i))))
+    ∙ ap (sum_by (λ (e : ℕ × Value). units_of e.1)) entries-empty

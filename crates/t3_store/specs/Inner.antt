@@ -1,0 +1,3 @@
+-- What only private functions' contracts cite.
+pub mod Shapes
+pub mod Entries
