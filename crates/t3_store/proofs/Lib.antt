@@ -2,3 +2,4 @@ pub mod KindValues
 pub mod Rows
 pub mod MapValues
 pub mod Outcomes
+pub mod Counting

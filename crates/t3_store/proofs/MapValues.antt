@@ -9,15 +9,15 @@ use Rattle.std.specs.List.{AllByRecursion, sum_by}
 use Rattle.std.proofs.lemmas.List.Sums.{sum_by-cons}
 use Rattle.std.specs.FinMap.{FinMap, get, empty, len-empty, len-entries, insert, entries, from_entries, entries_sorted, same_map, get-insert, get-from_entries, get-entries, get-retain_keys, retain_keys, entries-insert, nat_cmp-IsAntisymmetric}
 use Rattle.std.specs.FinMap.Entries.{find, put, by_order, below_all, is_sorted}
-use Rattle.t3_undo.specs.Content.{Parts}
-use Rattle.t3_undo.specs.Objects.{Objects, adjust, adjusted, below, part_of, part_at}
+use Rattle.t3_undo.specs.Content.{Present, Parts}
+use Rattle.t3_undo.specs.Objects.{Objects, adjust, adjusted, below, part_of, part_at, with_part, set_cell}
 use Rattle.t3_undo.specs.declared.cell.Cell.{Cell}
 use Rattle.t3_holder.specs.declared.holder.Holder.{Holder}
 use Rattle.t3_undo.proofs.Maps.{get-adjust}
 use Rattle.t3_undo.proofs.PuttingBack.{get-below}
 use Rattle.t3_store.specs.Value.{Value, units_of, units_in, cell_units, holder_in, holder_at, can_have_at, with_cell, without_cell}
 use Rattle.t3_store.specs.Inner.Shapes.{Shape, value_of, values}
-use Rattle.t3_store.proofs.KindValues.{held-value, present-can, units_of-with, units_of-without}
+use Rattle.t3_store.proofs.KindValues.{held-value, value-without, present-can, units_of-with, units_of-without}
 use Rattle.t3_store.proofs.Rows.{same, same-is, differs}
 
 -- the value of an object among others
@@ -200,3 +200,42 @@ unfolding values
 units_in-none =
     (λ i. units_in (from_entries (map (λ (e : ℕ × (Shape × Parts)). (e.0, value_of e.1)) (entries-empty i))))
     ∙ ap (sum_by (λ (e : ℕ × Value). units_of e.1)) entries-empty
+
+some-map : {X Y : Type 0} (f : X → Y) (o : Option X) → is_some (option_map f o) ≡ is_some o
+some-map f None = refl
+some-map f (Some x) = refl
+
+-- a cell that had nothing counts from now on
+pub counted-set : (things new : Objects Shape) (n : ℕ) (cell : Cell) (holder : Holder) (old : Option Present) (units : ℕ)
+    → values new ≡ adjust (values things) n (with_cell cell holder) → IsTrue (can_have_at (get (values things) n) cell)
+    → old ≡ part_at things n cell → units ≡ units_in (values things)
+    → cond (is_some old) units (units + cell_units cell) ≡ units_in (values new)
+counted-set things new n cell holder old units set can is counted =
+    (λ i. cond (there i) (counted i) (counted i + cell_units cell)) ∙ sym (units_in-with (values things) n cell holder can) ∙ ap units_in (sym set)
+  where
+    there : is_some old ≡ is_some (holder_at (get (values things) n) cell)
+    there = ap is_some is ∙ sym (some-map (λ present. present.value) (part_at things n cell)) ∙ ap is_some (held-at things n cell can)
+
+none-of : {X : Type 0} (o : Option X) → is_some o ≡ false → o ≡ None
+none-of None e = refl
+none-of (Some x) e = absurd (true≢false e)
+
+pub absent : (things : Objects Shape) (n : ℕ) (cell : Cell) (old : Option Present) → IsTrue (can_have_at (get (values things) n) cell)
+    → old ≡ part_at things n cell → is_some old ≡ false → holder_at (get (values things) n) cell ≡ None
+absent things n cell old can is none =
+    sym (held-at things n cell can) ∙ ap (option_map (λ present. present.value)) (sym is ∙ none-of old none)
+
+-- a cell taken away
+pub values-without : (things : Objects Shape) (n : ℕ) (cell : Cell) → IsSome (holder_at (get (values things) n) cell)
+    → values (set_cell things n cell None) ≡ adjust (values things) n (without_cell cell)
+values-without things n cell some =
+    values-adjust things n (with_part cell None) (without_cell cell) (λ x e.
+    value-without x cell (present-can (value_of x) cell
+    (sym (ap (λ o. is_some (holder_at o cell)) (get-values things n ∙ ap (option_map value_of) e)) ∙ some)))
+
+pub counted-without : (things new : Objects Shape) (n : ℕ) (cell : Cell) (units : ℕ)
+    → new ≡ set_cell things n cell None → IsSome (holder_at (get (values things) n) cell) → units ≡ units_in (values things)
+    → units_in (values new) + cell_units cell ≡ units
+counted-without things new n cell units is some counted =
+    ap (λ m. units_in m + cell_units cell) (ap values is ∙ values-without things n cell some) ∙ units_in-without (values things) n cell some
+    ∙ sym counted
