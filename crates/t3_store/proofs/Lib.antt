@@ -3,3 +3,4 @@ pub mod Rows
 pub mod MapValues
 pub mod Outcomes
 pub mod Counting
+pub mod Places

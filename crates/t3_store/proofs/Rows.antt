@@ -426,3 +426,10 @@ no-entry n es part r same found none = ap (index_of n) (sym same) ∙ sym found 
 pub by_number-none : {X : Type 0} (read : Object → X) → by_number read [] ≡ empty
 unfolding by_number
 by_number-none read = refl
+
+pub get-changed : {X : Type 0} (read : Object → X) (n : ℕ) (es : List Entry) (i : ℕ) (old : Entry) (object : Object) → IsAt n es i old
+    → get (by_number read (set es i (record { number = old.number; object = object }))) n ≡ Some (read object)
+get-changed read n es i old object a =
+    get-by_number read (set es i (record { number = old.number; object = object })) n
+    ∙ ap (option_map read) (object_at-set n es i (record { number = old.number; object = object }) n a.at (number-at n es i old a)
+    ∙ ap (λ b. cond b (Some object) (object_at n es)) (same-itself n))

@@ -1,3 +1,4 @@
 -- What only private functions' contracts cite.
 pub mod Shapes
 pub mod Entries
+pub mod Store

@@ -36,6 +36,24 @@ coded_value =
     code_by Coding (coded× (coded_list coded_ℕ) (coded× coded_bool (coded_map coded_ℕ coded_holder))) to_code
     (λ c. Tads c.0 c.1.0 c.1.1) from_code-to_code
 
+-- the values of objects, by their numbers
+abbrev pub Objects : Type 0
+Objects = FinMap nat_cmp Value
+
+abbrev pub coded_objects : Coded Objects
+coded_objects = coded_map coded_ℕ coded_value
+
+-- the superclasses of a tads-object
+abbrev pub supers_of : Value → Option (List ℕ)
+supers_of (Tads supers class props) = Some supers
+
+abbrev pub is_class_of : Value → Bool
+is_class_of (Tads supers class props) = class
+
+-- the properties of a tads-object
+abbrev pub props_in : Value → PropMap
+props_in (Tads supers class props) = props
+
 abbrev pub kind_of : Value → Kind
 kind_of (Tads supers class props) = kinds.Tads
 
@@ -79,7 +97,7 @@ abbrev pub units_of : Value → ℕ
 units_of (Tads supers class props) = length supers + len props
 
 -- how many units objects count together
-abbrev pub units_in : FinMap nat_cmp Value → ℕ
+abbrev pub units_in : Objects → ℕ
 units_in objects = sum_by (λ e. units_of e.1) (entries objects)
 
 -- what stands in a cell of an object, if there is one

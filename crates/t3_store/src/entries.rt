@@ -114,6 +114,7 @@ pub(crate) fn make_place(entries: &mut Vec<Entry>, number: u32, cell: Cell) -> R
     ensures rising { IsRising entries.new.items }
     ensures things { things_of entries.new.items ≡ things_of entries.old.items }
     ensures ok { OnOk result (places_in entries.new.items ≡ with_place number cell (places_in entries.old.items)) }
+    ensures placed { OnOk result (IsTrue (has_place (places_in entries.new.items) number cell)) }
     ensures err { OnErr result (places_in entries.new.items ≡ places_in entries.old.items) }
 {
     match index_of(entries, number) {

@@ -7,7 +7,10 @@ mod limits;
 mod new_object;
 mod object;
 mod object_map;
+mod store;
+mod writing;
 
 pub use kind::Kind;
 pub use limits::{StoreLimits, StoreRefusal};
 pub use new_object::NewObject;
+pub use store::Store;

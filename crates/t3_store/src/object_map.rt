@@ -108,6 +108,7 @@ impl ObjectMap {
     pub(crate) fn make_place(&mut self, number: u32, cell: Cell) -> Result<(), NoMemory>
         requires { IsTrue (can_have_at (get (values self.old.objects) number) cell) }
         ensures ok { OnOk result (self.new ≡ record self.old { places = with_place number cell self.old.places }) }
+        ensures placed { OnOk result (IsTrue (has_place self.new.places number cell)) }
         ensures err { OnErr result (self.new ≡ self.old) }
     {
         make_place(&mut self.entries, number, cell)?;
