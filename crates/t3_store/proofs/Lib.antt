@@ -4,3 +4,6 @@ pub mod MapValues
 pub mod Outcomes
 pub mod Counting
 pub mod Places
+pub mod Marks
+pub mod Keeping
+pub mod Changes

@@ -7,7 +7,7 @@ use Rattle.std.specs.Option.{option_map}
 use Rattle.std.specs.Cmp.{nat_cmp_total, ranked}
 use Rattle.std.specs.List.{AllByRecursion, sum_by}
 use Rattle.std.proofs.lemmas.List.Sums.{sum_by-cons}
-use Rattle.std.specs.FinMap.{FinMap, get, empty, len-empty, len-entries, insert, entries, from_entries, entries_sorted, same_map, get-insert, get-from_entries, get-entries, get-retain_keys, retain_keys, entries-insert, nat_cmp-IsAntisymmetric}
+use Rattle.std.specs.FinMap.{FinMap, get, empty, len, len-insert, len-empty, len-entries, insert, entries, from_entries, entries_sorted, same_map, get-insert, get-from_entries, get-entries, get-retain_keys, retain_keys, entries-insert, nat_cmp-IsAntisymmetric}
 use Rattle.std.specs.FinMap.Entries.{find, put, by_order, below_all, is_sorted}
 use Rattle.t3_undo.specs.Content.{Present, Parts}
 use Rattle.t3_undo.specs.Objects.{Objects, adjust, adjusted, below, part_of, part_at, with_part, set_cell}
@@ -16,9 +16,11 @@ use Rattle.t3_holder.specs.declared.holder.Holder.{Holder}
 use Rattle.t3_undo.proofs.Maps.{get-adjust}
 use Rattle.t3_undo.proofs.PuttingBack.{get-below}
 use Rattle.t3_store.specs.Value.{Value, units_of, units_in, cell_units, holder_in, holder_at, can_have_at, with_cell, without_cell}
-use Rattle.t3_store.specs.Inner.Shapes.{Shape, value_of, values}
+use Rattle.t3_store.specs.Inner.Shapes.{Shape, thing_of, value_of, values}
+use Rattle.t3_store.specs.Inner.Entries.{IsRising, by_number, object_at, things_of}
+use Rattle.t3_store.specs.declared.entries.Entry.{Entry}
 use Rattle.t3_store.proofs.KindValues.{held-value, value-without, present-can, units_of-with, units_of-without}
-use Rattle.t3_store.proofs.Rows.{same, same-is, differs}
+use Rattle.t3_store.proofs.Rows.{same, same-is, differs, get-by_number, len-by_number}
 
 -- the value of an object among others
 find-map : {X Y : Type 0} (f : X → Y) (es : List (ℕ × X)) (q : ℕ) → find nat_cmp q (map (λ e. (e.0, f e.1)) es)
@@ -201,7 +203,7 @@ units_in-none =
     (λ i. units_in (from_entries (map (λ (e : ℕ × (Shape × Parts)). (e.0, value_of e.1)) (entries-empty i))))
     ∙ ap (sum_by (λ (e : ℕ × Value). units_of e.1)) entries-empty
 
-some-map : {X Y : Type 0} (f : X → Y) (o : Option X) → is_some (option_map f o) ≡ is_some o
+pub some-map : {X Y : Type 0} (f : X → Y) (o : Option X) → is_some (option_map f o) ≡ is_some o
 some-map f None = refl
 some-map f (Some x) = refl
 
@@ -239,3 +241,26 @@ pub counted-without : (things new : Objects Shape) (n : ℕ) (cell : Cell) (unit
 counted-without things new n cell units is some counted =
     ap (λ m. units_in m + cell_units cell) (ap values is ∙ values-without things n cell some) ∙ units_in-without (values things) n cell some
     ∙ sym counted
+
+pub some-values : (things : Objects Shape) (q : ℕ) → is_some (get (values things) q) ≡ is_some (get things q)
+some-values things q = ap is_some (get-values things q) ∙ some-map value_of (get things q)
+
+option_map-twice : {X Y Z : Type 0} (f : X → Y) (g : Y → Z) (o : Option X) → option_map g (option_map f o) ≡ option_map (λ x. g (f x)) o
+option_map-twice f g None = refl
+option_map-twice f g (Some x) = refl
+
+pub len-values : (es : List Entry) → IsRising es → len (values (things_of es)) ≡ length es
+len-values es rises =
+    ap len (same_values (things_of es) (by_number (λ o. value_of (thing_of o)) es) (λ q.
+    ap (option_map value_of) (get-by_number thing_of es q) ∙ option_map-twice thing_of value_of (object_at q es)
+    ∙ sym (get-by_number (λ o. value_of (thing_of o)) es q)))
+    ∙ len-by_number (λ o. value_of (thing_of o)) es rises
+
+-- a change makes no object more or less
+pub len-adjust : (m : FinMap nat_cmp Value) (n : ℕ) (g : Value → Value) → len (adjust m n g) ≡ len m
+unfolding adjust
+len-adjust m n g = by (get m n) refl
+  where
+    by : (o : Option Value) → get m n ≡ o → len (adjusted m n g o) ≡ len m
+    by None e = refl
+    by (Some v) e = len-insert nat_cmp_total m n (g v) ∙ ap (λ o. cond (is_some o) (len m) (len m + 1)) e

@@ -55,7 +55,8 @@ impl ObjectMap {
 
     /// Whether there is an object of that number.
     pub(crate) fn has(&self, number: u32) -> bool
-        ensures { result ≡ is_some (get self.now.objects number) }
+        ensures thing { result ≡ is_some (get self.now.objects number) }
+        ensures value { result ≡ is_some (get (values self.now.objects) number) }
     {
         self.object(number).is_some()
     }
@@ -133,7 +134,7 @@ impl ObjectMap {
 
     /// How many objects there are.
     pub(crate) fn len(&self) -> u64
-        ensures { result ≡ map.len self.now.objects }
+        ensures { result ≡ map.len (values self.now.objects) }
     {
         self.entries.len() as u64
     }

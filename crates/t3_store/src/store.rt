@@ -65,9 +65,10 @@ impl Store {
         if self.persistent.has(number) {
             let old = writing::overwrite(&mut self.persistent, number, &cell, value);
             self.journal.note(number, cell, old);
-        } else {
-            let _old = writing::overwrite(&mut self.transient, number, &cell, value);
+            self.writes += 1;
+            return;
         }
+        let _old = writing::overwrite(&mut self.transient, number, &cell, value);
         self.writes += 1;
     }
 

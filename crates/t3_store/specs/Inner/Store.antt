@@ -12,11 +12,15 @@ use Rattle.t3_store.specs.Store.{Mark, StoreValue, AreLimits}
 use Rattle.t3_store.specs.Inner.Shapes.{Shape, Stored, values, has_place}
 use Rattle.t3_store.specs.declared.limits.StoreLimits.{StoreLimits}
 
+-- which cell of which object a record is of
+abbrev pub change_of : OldPart → ℕ × Cell
+change_of part = (part.number, part.cell)
+
 -- the held savepoints as whole copies, each from the next newer one: old contents are put back, segment after segment
 unfoldable pub marks_of : Objects Shape → List Segment → List Mark
 marks_of things [] = []
 marks_of things (segment ∷ segments) =
-    record { copy = values (before things segment); next = segment.next; changed = map (λ part. (part.number, part.cell)) segment.records }
+    record { copy = values (before things segment); next = segment.next; changed = map change_of segment.records }
     ∷ marks_of (before things segment) segments
 
 -- the store that the halves, the next numbers, the limits and the journal's segments are
@@ -89,7 +93,7 @@ saved_units marks = map (λ mark. units_in mark.copy) marks
 -- the sums are within the limits, each half's by itself and each savepoint's too; and the units of the savepoints are
 -- kept, the newest last
 pub record AreCounted (persistent transient : Objects Shape) (limits : StoreLimits) (marks : List Mark) (units : List ℕ) (room : ℕ) : Type 0 where
-  pub objects : len persistent + len transient ≤ limits.objects
+  pub objects : len (values persistent) + len (values transient) ≤ limits.objects
   pub persistent_units : units_in (values persistent) ≤ limits.units
   pub transient_units : units_in (values transient) ≤ limits.units
   pub copies : IsFront (saved_units marks) (reverse units)
