@@ -7,3 +7,4 @@ pub mod Places
 pub mod Marks
 pub mod Keeping
 pub mod Changes
+pub mod PuttingBack

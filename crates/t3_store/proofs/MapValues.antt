@@ -1,5 +1,5 @@
 -- The values of objects, as finite maps: what changes of the objects do to them, and to the units that they count.
-use Rattle.std.proofs.Common.{◌≡◌, ◌∙◌, ap, sym, subst, refl, ℕ, ◌+◌, ◌<◌, Bool, true, false, cond, ◌&&◌, T, IsTrue, IsSome, length, List, [], ◌∷◌, map, Option, None, Some, is_some, true≢false, nat_lt, arith}
+use Rattle.std.proofs.Common.{◌≡◌, ◌∙◌, ap, sym, subst, refl, ℕ, ◌+◌, ◌<◌, ◌≤◌, Bool, true, false, cond, ◌&&◌, T, IsTrue, IsSome, length, List, [], ◌∷◌, map, Option, None, Some, is_some, true≢false, nat_lt, arith}
 use Rattle.std.specs.declared.cmp.Ordering.{Ordering}
 use Rattle.std.specs.declared.cmp.Ordering.TheVariants.{Less, Equal, Greater}
 use Rattle.std.specs.Ordering.{nat_cmp, eq_by_cmp, is_eq, is_lt}
@@ -15,9 +15,9 @@ use Rattle.t3_undo.specs.declared.cell.Cell.{Cell}
 use Rattle.t3_holder.specs.declared.holder.Holder.{Holder}
 use Rattle.t3_undo.proofs.Maps.{get-adjust}
 use Rattle.t3_undo.proofs.PuttingBack.{get-below}
-use Rattle.t3_store.specs.Value.{Value, units_of, units_in, cell_units, holder_in, holder_at, can_have_at, with_cell, without_cell}
+use Rattle.t3_store.specs.Value.{Value, units_of, units_in, cell_units, holder_in, holder_at, can_have_at, with_cell, without_cell, IsNextAbove}
 use Rattle.t3_store.specs.Inner.Shapes.{Shape, thing_of, value_of, values}
-use Rattle.t3_store.specs.Inner.Entries.{IsRising, by_number, object_at, things_of}
+use Rattle.t3_store.specs.Inner.Entries.{IsRising, by_number, object_at, things_of, IsFirstFrom}
 use Rattle.t3_store.specs.declared.entries.Entry.{Entry}
 use Rattle.t3_store.proofs.KindValues.{held-value, value-without, present-can, units_of-with, units_of-without}
 use Rattle.t3_store.proofs.Rows.{same, same-is, differs, get-by_number, len-by_number}
@@ -194,7 +194,7 @@ no_length : {X : Type 0} (xs : List X) → length xs ≡ 0 → xs ≡ []
 no_length [] e = refl
 no_length (x ∷ xs) e = absurd (omega arith)
 
-entries-empty : {X : Type 0} → entries (empty {K = ℕ} {X = X} {R = nat_cmp}) ≡ []
+pub entries-empty : {X : Type 0} → entries (empty {K = ℕ} {X = X} {R = nat_cmp}) ≡ []
 entries-empty {X} = no_length _ (sym (len-entries (empty {K = ℕ} {X = X} {R = nat_cmp})) ∙ len-empty nat_cmp X)
 
 pub units_in-none : units_in (values empty) ≡ 0
@@ -264,3 +264,22 @@ len-adjust m n g = by (get m n) refl
     by : (o : Option Value) → get m n ≡ o → len (adjusted m n g o) ≡ len m
     by None e = refl
     by (Some v) e = len-insert nat_cmp_total m n (g v) ∙ ap (λ o. cond (is_some o) (len m) (len m + 1)) e
+
+-- the value of what was found, and of what wasn't
+pub found-value : (things : Objects Shape) (n : ℕ) (thing : Shape × Parts) → Some thing ≡ get things n → Some (value_of thing) ≡ get (values things) n
+found-value things n thing e = ap (option_map value_of) e ∙ sym (get-values things n)
+
+pub no-value : (things : Objects Shape) (n : ℕ) → None ≡ get things n → None ≡ get (values things) n
+no-value things n e = ap (option_map value_of) e ∙ sym (get-values things n)
+
+-- what is next in the one is next in the other
+none-value : (things : Objects Shape) (q : ℕ) → get things q ≡ None → get (values things) q ≡ None
+none-value things q e = get-values things q ∙ ap (option_map value_of) e
+
+pub next-above : (things : Objects Shape) (n least : ℕ) (r : Option ℕ) → least ≡ n + 1 → IsFirstFrom things least r → IsNextAbove (values things) n r
+next-above things n least None e first = λ q h. none-value things q (first q (omega arith))
+next-above things n least (Some next) e first = (
+  omega (arith, first.0),
+  some-values things next ∙ first.1,
+  λ q h l. none-value things q (first.2 q (omega arith) l),
+)

@@ -1,7 +1,7 @@
 -- The values of objects, by kind: what stands in their cells, how a cell is set, and how much they count.
-use Rattle.std.specs.Prelude.{◌≡◌, ℕ, ◌+◌, Bool, false, List, Option, None, Some, map, length, sum_by, refl}
+use Rattle.std.specs.Prelude.{◌≡◌, ◌<◌, ℕ, ◌+◌, Bool, false, List, Option, None, Some, map, length, sum_by, MatchOption, IsSome, refl}
 use Rattle.std.specs.Ordering.{nat_cmp}
-use Rattle.std.specs.FinMap.{FinMap, get, insert, remove, len, entries, from_entries, code as coded_map}
+use Rattle.std.specs.FinMap.{FinMap, empty, get, insert, remove, len, entries, from_entries, code as coded_map}
 use Rattle.std.specs.Coded.{Coded, code_by, coded×, coded_ℕ, coded_bool, coded_list}
 use Rattle.t3_holder.specs.declared.holder.Holder.{Holder}
 use Rattle.t3_undo.specs.Content.{coded_holder}
@@ -104,6 +104,20 @@ units_in objects = sum_by (λ e. units_of e.1) (entries objects)
 abbrev pub holder_at : Option Value → Cell → Option Holder
 holder_at None cell = None
 holder_at (Some value) cell = holder_in value cell
+
+abbrev pub is_class_at : Option Value → Bool
+is_class_at None = false
+is_class_at (Some value) = is_class_of value
+
+abbrev pub props_at : Option Value → PropMap
+props_at None = empty
+props_at (Some value) = props_in value
+
+-- this is the least number of an object above that one
+abbrev pub IsNextAbove : Objects → ℕ → Option ℕ → Type 0
+IsNextAbove objects number result =
+    MatchOption result ((q : ℕ) → number < q → get objects q ≡ None)
+    (λ next. (number < next) × IsSome (get objects next) × ((q : ℕ) → number < q → q < next → get objects q ≡ None))
 
 -- whether there is an object, which can have something in the cell
 abbrev pub can_have_at : Option Value → Cell → Bool

@@ -1,16 +1,19 @@
 //! Objects in a row, by rising number.
-ghost use Rattle.std.specs.Prelude.{◌≡◌, ◌<◌, ◌≤◌, ◌++◌, [], ◌∷◌, ℕ, length, take, drop, slice_get, IsTrue, IsSome, IfSome, None, OnOk, OnErr, option_map};
+ghost use Rattle.std.specs.Prelude.{◌≡◌, ◌<◌, ◌≤◌, ◌++◌, [], ◌∷◌, ℕ, length, take, drop, slice_get, IsTrue, IsSome, IfSome, IfOk, None, OnOk, OnErr, option_map, map};
 ghost use Rattle.std.specs.FinMap.{get, insert};
 ghost use Rattle.std.specs.List.{AllWithin};
 ghost use Rattle.t3_undo.specs.Content.{shown, is_form};
-ghost use Rattle.t3_undo.specs.Objects.{part_at, set_cell, adjust, below};
+ghost use Rattle.t3_undo.specs.Objects.{part_at, set_cell, adjust, below, put_back};
+ghost use Rattle.t3_undo.specs.Journal.{old_of};
+ghost use Rattle.t3_store.specs.Inner.Store.{CanBePut, CanAllBePut, newest_records, emptied};
 ghost use Rattle.t3_store.specs.Value.{holder_at, can_have_at, with_cell};
 ghost use Rattle.t3_store.specs.Inner.Shapes.{thing_of, places_of, value_of, values, has_place, with_place, places_below};
-ghost use Rattle.t3_store.specs.Inner.Entries.{IsRising, index_of, is_numbered, object_at, things_of, places_in};
+ghost use Rattle.t3_store.specs.Inner.Entries.{IsRising, index_of, is_numbered, object_at, things_of, places_in, keyed, IsFirstFrom};
 
 use crate::object::Object;
+use std::alloc::Global;
 use t3_holder::{Holder, NoMemory};
-use t3_undo::{Cell, Content};
+use t3_undo::{Cell, Content, Journal, Kept};
 
 /// An object and its number.
 #[derive(Drop)]
@@ -148,4 +151,58 @@ pub(crate) fn cut(entries: &mut Vec<Entry>, next: u32)
 {
     let bound = bound_of(entries, next);
     entries.truncate(bound);
+}
+
+/// Puts back what stood in the cells of the newest savepoint's records. No memory is taken.
+pub(crate) fn put_back(entries: &mut Vec<Entry>, journal: &mut Journal)
+    requires rising { IsRising entries.old.items }
+    requires can { CanAllBePut (places_in entries.old.items) (newest_records journal.old.segments) }
+    ensures rising { IsRising entries.new.items }
+    ensures things { things_of entries.new.items
+        ≡ put_back (things_of entries.old.items) (newest_records journal.old.segments) }
+    ensures places { places_in entries.new.items ≡ places_in entries.old.items }
+    ensures journal { journal.new ≡ record journal.old { segments = emptied journal.old.segments } }
+{
+    while let Some(kept) = journal.take_kept() {
+        put_kept(entries, kept);
+    }
+}
+
+/// Puts back what stood in a cell.
+fn put_kept(entries: &mut Vec<Entry>, kept: Kept)
+    requires rising { IsRising entries.old.items }
+    requires can { CanBePut (places_in entries.old.items) (old_of kept) }
+    ensures rising { IsRising entries.new.items }
+    ensures things { things_of entries.new.items
+        ≡ set_cell (things_of entries.old.items) kept.number kept.cell (shown kept.old) }
+    ensures places { places_in entries.new.items ≡ places_in entries.old.items }
+{
+    let _changed = put(entries, kept.number, &kept.cell, kept.old);
+}
+
+/// The least number of an object from this one on.
+pub(crate) fn number_from(entries: &[Entry], least: u32) -> Option<u32>
+    requires { IsRising entries.now }
+    ensures { IsFirstFrom (things_of entries.now) least result }
+{
+    let index = bound_of(entries, least);
+    if index < entries.len() {
+        Some(entries[index].number)
+    } else {
+        None
+    }
+}
+
+/// The same objects, with a place for each present cell alone.
+pub(crate) fn copy_all(alloc: Global, entries: &[Entry]) -> Result<Vec<Entry>, NoMemory>
+    ensures { IfOk result (λ copy. map keyed copy.items ≡ map keyed entries.now) }
+{
+    let mut copy = Vec::with_capacity(alloc, entries.len())?;
+    for entry in entries {
+        copy.push(Entry {
+            number: entry.number,
+            object: entry.object.copy(alloc)?,
+        })?;
+    }
+    Ok(copy)
 }

@@ -1,15 +1,16 @@
-ghost use Rattle.std.specs.Prelude.{◌≡◌, IsTrue, IsSome, IfOk, OnOk, OnErr, option_map};
-ghost use Rattle.std.specs.FinMap.{get};
+ghost use Rattle.std.specs.Prelude.{◌≡◌, IsTrue, IsSome, IfOk, OnOk, OnErr, option_map, map};
+ghost use Rattle.std.specs.List.Sorted.{IsStrictlyIncreasing};
+ghost use Rattle.std.specs.FinMap.{get, entries};
 ghost use Rattle.std.specs.FinSet as set;
 ghost use Rattle.t3_undo.specs.Content.{shown, is_form};
 ghost use Rattle.t3_undo.specs.Objects.{with_part};
-ghost use Rattle.t3_store.specs.Value.{kind_of, holder_in, with_cell, can_have};
+ghost use Rattle.t3_store.specs.Value.{kind_of, supers_of, is_class_of, props_in, holder_in, with_cell, can_have};
 ghost use Rattle.t3_store.specs.Inner.Shapes.{thing_of, places_of, value_of};
 
 use crate::kind::Kind;
 use std::alloc::Global;
 use t3_holder::{Holder, NoMemory};
-use t3_tadsobj::TadsObject;
+use t3_tadsobj::{Props, TadsObject};
 use t3_undo::{Cell, Content, Metaclass};
 
 /// An object of one of the kinds.
@@ -71,11 +72,50 @@ impl Object {
         }
     }
 
+    /// The same object, with a place for each present cell alone.
+    pub(crate) fn copy(&self, alloc: Global) -> Result<Object, NoMemory>
+        ensures { IfOk result (λ copy. thing_of copy ≡ thing_of self.now) }
+    {
+        match self {
+            Object::Tads(object) => Ok(Object::Tads(object.copy(alloc)?)),
+        }
+    }
+
+    /// What it is.
     pub(crate) fn kind(&self) -> Kind
         ensures { result ≡ kind_of (value_of (thing_of self.now)) }
     {
         match self {
             Object::Tads(_) => Kind::Tads,
+        }
+    }
+
+    /// The superclasses of a tads-object.
+    pub(crate) fn supers(&self) -> Option<&[u32]>
+        ensures { option_map (λ supers. supers.now) result ≡ supers_of (value_of (thing_of self.now)) }
+    {
+        match self {
+            Object::Tads(object) => Some(object.supers()),
+        }
+    }
+
+    /// Whether it is a class.
+    pub(crate) fn is_class(&self) -> bool
+        ensures { result ≡ is_class_of (value_of (thing_of self.now)) }
+    {
+        match self {
+            Object::Tads(object) => object.is_class(),
+        }
+    }
+
+    /// The properties of a tads-object with their values, by rising number.
+    pub(crate) fn props(&self, alloc: Global) -> Result<Props, NoMemory>
+        ensures props { IfOk result (λ props. map (λ prop. (prop.number, prop.value)) props
+            ≡ entries (props_in (value_of (thing_of self.now)))) }
+        ensures rising { IfOk result (λ props. IsStrictlyIncreasing (map (λ prop. prop.number) props)) }
+    {
+        match self {
+            Object::Tads(object) => object.props(alloc),
         }
     }
 }

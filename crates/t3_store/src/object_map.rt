@@ -1,17 +1,25 @@
-ghost use Rattle.std.specs.Prelude.{◌≡◌, ◌+◌, ◌<◌, ◌^◌, None, IsTrue, IsSome, OnOk, OnErr, is_some, option_map};
-ghost use Rattle.std.specs.FinMap as map;
-ghost use Rattle.std.specs.FinMap.{get, insert};
+ghost use Rattle.std.specs.Prelude.{◌≡◌, ◌+◌, ◌<◌, ◌^◌, Some, None, IsTrue, IsSome, IfOk, OnOk, OnErr, is_some, option_map, option_and_then, drop, map};
+ghost use Rattle.std.specs.List.Sorted.{IsStrictlyIncreasing};
+ghost use Rattle.std.specs.FinMap as finite;
+ghost use Rattle.std.specs.FinMap.{get, insert, entries};
 ghost use Rattle.t3_undo.specs.Content.{shown, is_form};
 ghost use Rattle.t3_undo.specs.Objects.{part_at};
-ghost use Rattle.t3_store.specs.Value.{holder_at, can_have_at, with_cell, without_cell, cell_units, units_of, units_in};
-ghost use Rattle.t3_store.specs.Inner.Shapes.{thing_of, places_of, value_of, values, has_place, with_place, IsChanged};
+ghost use Rattle.t3_store.specs.Value.{holder_at, can_have_at, with_cell, without_cell, cell_units, units_of, units_in, kind_of, supers_of, is_class_at, props_at, IsNextAbove};
+ghost use Rattle.t3_store.specs.Inner.Shapes.{thing_of, places_of, value_of, values, has_place, with_place, places_below, IsChanged};
+ghost use Rattle.t3_store.specs.Inner.Store.{CanAllBePut, newest_records};
+ghost use Rattle.t3_undo.specs.Journal.{newest_next};
+ghost use Rattle.t3_undo.specs.UndoLaw.{undone};
 
-use crate::entries::{Entry, add, content_with, make_place, object_at, put};
+use crate::entries::{
+    Entry, add, content_with, copy_all, cut, make_place, number_from, object_at, put, put_back,
+};
+use crate::kind::Kind;
 use crate::object::Object;
 use std::alloc::Global;
 use std::marker::Model;
 use t3_holder::{Holder, NoMemory};
-use t3_undo::{Cell, Content};
+use t3_tadsobj::Props;
+use t3_undo::{Cell, Content, Journal};
 
 /// Objects by their numbers, and how many units they count together.
 #[derive(Drop)]
@@ -37,7 +45,7 @@ impl Model for ObjectMap {
 impl ObjectMap {
     /// No objects. Takes no memory.
     pub(crate) fn new(alloc: Global) -> ObjectMap
-        ensures { result ≡ record { objects = map.empty; places = map.empty } }
+        ensures { result ≡ record { objects = finite.empty; places = finite.empty } }
     {
         ObjectMap {
             entries: Vec::new(alloc),
@@ -132,9 +140,89 @@ impl ObjectMap {
         Ok(())
     }
 
+    /// The objects as they were at the newest savepoint, which ends: what stood in its records is put back,
+    /// and what was made since is taken away. They count so many units then. No memory is taken.
+    pub(crate) fn undo(&mut self, journal: &mut Journal, next: u32, units: u32)
+        requires can { CanAllBePut self.old.places (newest_records journal.old.segments) }
+        requires next { newest_next journal.old.segments ≡ Some next }
+        requires units { units ≡ units_in (values (undone self.old.objects journal.old.segments)) }
+        ensures objects { self.new ≡ record {
+          objects = undone self.old.objects journal.old.segments;
+          places = places_below next self.old.places;
+        } }
+        ensures journal { journal.new ≡ record journal.old { segments = drop 1 journal.old.segments } }
+    {
+        put_back(&mut self.entries, journal);
+        cut(&mut self.entries, next);
+        self.units = units;
+        let _ended = journal.take_mark();
+    }
+
+    /// The least number above this one.
+    pub(crate) fn after(&self, number: u32) -> Option<u32>
+        requires { number + 1 < 2 ^ 32 }
+        ensures { IsNextAbove (values self.now.objects) number result }
+    {
+        number_from(&self.entries, number + 1)
+    }
+
+    /// The same objects, with a place for each present cell alone.
+    pub(crate) fn copy(&self, alloc: Global) -> Result<ObjectMap, NoMemory>
+        ensures { IfOk result (λ copy. copy.objects ≡ self.now.objects) }
+    {
+        let entries = copy_all(alloc, &self.entries)?;
+        Ok(ObjectMap {
+            entries,
+            units: self.units,
+        })
+    }
+
+    /// What the object of a number is.
+    pub(crate) fn kind(&self, number: u32) -> Option<Kind>
+        ensures { result ≡ option_map kind_of (get (values self.now.objects) number) }
+    {
+        match self.object(number) {
+            Some(object) => Some(object.kind()),
+            None => None,
+        }
+    }
+
+    /// The superclasses of a tads-object.
+    pub(crate) fn supers(&self, number: u32) -> Option<&[u32]>
+        ensures { option_map (λ supers. supers.now) result
+            ≡ option_and_then supers_of (get (values self.now.objects) number) }
+    {
+        match self.object(number) {
+            Some(object) => object.supers(),
+            None => None,
+        }
+    }
+
+    /// Whether the object of a number is a class.
+    pub(crate) fn is_class(&self, number: u32) -> bool
+        ensures { result ≡ is_class_at (get (values self.now.objects) number) }
+    {
+        match self.object(number) {
+            Some(object) => object.is_class(),
+            None => false,
+        }
+    }
+
+    /// The properties of a tads-object with their values, by rising number.
+    pub(crate) fn props(&self, alloc: Global, number: u32) -> Result<Props, NoMemory>
+        ensures props { IfOk result (λ props. map (λ prop. (prop.number, prop.value)) props
+            ≡ entries (props_at (get (values self.now.objects) number))) }
+        ensures rising { IfOk result (λ props. IsStrictlyIncreasing (map (λ prop. prop.number) props)) }
+    {
+        match self.object(number) {
+            Some(object) => object.props(alloc),
+            None => Ok(Props(Vec::new(alloc))),
+        }
+    }
+
     /// How many objects there are.
     pub(crate) fn len(&self) -> u64
-        ensures { result ≡ map.len (values self.now.objects) }
+        ensures { result ≡ finite.len (values self.now.objects) }
     {
         self.entries.len() as u64
     }

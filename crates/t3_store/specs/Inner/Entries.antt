@@ -1,9 +1,9 @@
 -- Objects as they stand in a row, by rising number.
-use Rattle.std.specs.Prelude.{◌≡◌, ◌<◌, ◌==◌, Bool, false, ℕ, suc, List, [], ◌∷◌, Option, None, Some, if◌then◌else◌, option_map}
+use Rattle.std.specs.Prelude.{◌≡◌, ◌<◌, ◌≤◌, ◌==◌, Bool, false, ℕ, suc, List, [], ◌∷◌, Option, None, Some, if◌then◌else◌, option_map, MatchOption, IsSome}
 use Rattle.std.specs.List.{AllByRecursion}
 use Rattle.std.specs.Ordering.{nat_cmp, eq_by_cmp}
-use Rattle.std.specs.FinMap.{FinMap, empty}
-use Rattle.t3_undo.specs.Content.{Places}
+use Rattle.std.specs.FinMap.{FinMap, empty, get}
+use Rattle.t3_undo.specs.Content.{Parts, Places}
 use Rattle.t3_undo.specs.Objects.{Objects, set_at}
 use Rattle.t3_store.specs.Inner.Shapes.{Shape, thing_of, places_of, values}
 use Rattle.t3_store.specs.Value.{units_in}
@@ -49,3 +49,13 @@ is_numbered number (Some entry) = entry.number == number
 pub record IsObjectMap (entries : List Entry) (units : ℕ) : Type 0 where
   pub rising : IsRising entries
   pub counted : units ≡ units_in (values (things_of entries))
+
+-- an entry's number, with its object's shape and parts
+abbrev pub keyed : Entry → ℕ × (Shape × Parts)
+keyed entry = (entry.number, thing_of entry.object)
+
+-- this is the least number of an object from that one on
+abbrev pub IsFirstFrom : Objects Shape → ℕ → Option ℕ → Type 0
+IsFirstFrom things least result =
+    MatchOption result ((q : ℕ) → least ≤ q → get things q ≡ None)
+    (λ first. (least ≤ first) × IsSome (get things first) × ((q : ℕ) → least ≤ q → q < first → get things q ≡ None))
