@@ -8,3 +8,4 @@ pub mod Marks
 pub mod Keeping
 pub mod Changes
 pub mod PuttingBack
+pub mod Turns

@@ -15,7 +15,10 @@ use Rattle.t3_undo.specs.declared.cell.Cell.{Cell}
 use Rattle.t3_holder.specs.declared.holder.Holder.{Holder}
 use Rattle.t3_undo.proofs.Maps.{get-adjust}
 use Rattle.t3_undo.proofs.PuttingBack.{get-below}
-use Rattle.t3_store.specs.Value.{Value, units_of, units_in, cell_units, holder_in, holder_at, can_have_at, with_cell, without_cell, IsNextAbove}
+use Rattle.t3_store.specs.Value.{Value, units_of, units_in, cell_units, holder_in, holder_at, can_have_at, with_cell, without_cell, pair_of, IsNextAbove}
+use Rattle.t3_tadsobj.specs.Object as Tadsobject
+use Rattle.t3_tadsobj.specs.Object.{props_of}
+use Rattle.t3_tadsobj.specs.declared.props.PropValue.{PropValue}
 use Rattle.t3_store.specs.Inner.Shapes.{Shape, thing_of, value_of, values}
 use Rattle.t3_store.specs.Inner.Entries.{IsRising, by_number, object_at, things_of, IsFirstFrom}
 use Rattle.t3_store.specs.declared.entries.Entry.{Entry}
@@ -283,3 +286,9 @@ next-above things n least (Some next) e first = (
   some-values things next ∙ first.1,
   λ q h l. none-value things q (first.2 q (omega arith) l),
 )
+
+-- a tads-object with these properties so far
+pub record IsMade (object : Tadsobject.Tads) (supers : List ℕ) (class : Bool) (props : List PropValue) : Type 0 where
+  pub made : props_of object.parts ≡ from_entries (map pair_of props)
+  pub above : object.supers ≡ supers
+  pub kind : object.class ≡ class

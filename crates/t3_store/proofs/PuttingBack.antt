@@ -16,6 +16,7 @@ pub record IsPutting (from es : List Entry) (before now : Held) : Type 0 where
   pub rising : IsRising es
   pub things : put_back (things_of es) (newest_records now.segments) ≡ put_back (things_of from) (newest_records before.segments)
   pub places : places_in es ≡ places_in from
+  pub len : length es ≡ length from
   pub can : CanAllBePut (places_in es) (newest_records now.segments)
   pub journal : record now { segments = emptied now.segments } ≡ record before { segments = emptied before.segments }
 
@@ -50,8 +51,8 @@ put-none things = refl
 
 pub putting-next : (from es new : List Entry) (before now left : Held) (part : OldPart) → IsPutting from es before now
     → Some part ≡ newest_record now.segments → left ≡ record now { segments = but_newest_record now.segments } → IsRising new
-    → things_of new ≡ set_cell (things_of es) part.number part.cell part.old → places_in new ≡ places_in es → IsPutting from new before left
-putting-next from es new before now left part is e moved rises things places =
+    → things_of new ≡ set_cell (things_of es) part.number part.cell part.old → places_in new ≡ places_in es → length new ≡ length es → IsPutting from new before left
+putting-next from es new before now left part is e moved rises things places size =
     let t = taken part now.segments e in
     let rest : newest_records left.segments ≡ newest_records (but_newest_record now.segments) = ap (λ (h : Held). newest_records h.segments) moved in
     record {
@@ -59,6 +60,7 @@ putting-next from es new before now left part is e moved rises things places =
       things = (λ i. put_back (things i) (rest i)) ∙ sym (put-next (things_of es) part (newest_records (but_newest_record now.segments)))
           ∙ ap (put_back (things_of es)) (sym t.records) ∙ is.things;
       places = places ∙ is.places;
+      len = size ∙ is.len;
       can = subst (CanAllBePut (places_in new)) (sym rest) (subst (λ p. CanAllBePut p (newest_records (but_newest_record now.segments))) (sym places)
           (subst (CanAllBePut (places_in es)) t.records is.can).1);
       journal = ap (λ (h : Held). record h { segments = emptied h.segments }) moved ∙ (λ i. record now { segments = t.same i }) ∙ is.journal;

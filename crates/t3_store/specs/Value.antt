@@ -128,6 +128,9 @@ can_have_at (Some value) cell = can_have value cell
 abbrev pub cell_units : Cell → ℕ
 cell_units cell = 1
 
+abbrev pub pair_of : PropValue → ℕ × Holder
+pair_of prop = (prop.number, prop.value)
+
 -- the value of what is to be made
 abbrev pub new_value : NewObject → Value
-new_value (new.Tads supers class props) = Tads supers class (from_entries (map (λ prop. (prop.number, prop.value)) props))
+new_value (new.Tads supers class props) = Tads supers class (from_entries (map pair_of props))

@@ -101,6 +101,7 @@ pub(crate) fn put(entries: &mut Vec<Entry>, number: u32, cell: &Cell, content: C
     ensures things { things_of entries.new.items
         ≡ set_cell (things_of entries.old.items) number cell.now (shown content) }
     ensures places { places_in entries.new.items ≡ places_in entries.old.items }
+    ensures len { length entries.new.items ≡ length entries.old.items }
     ensures old { shown result ≡ part_at (things_of entries.old.items) number cell.now }
     ensures formed { IsTrue (is_form cell.now (shown result)) }
 {
@@ -148,6 +149,7 @@ pub(crate) fn cut(entries: &mut Vec<Entry>, next: u32)
     ensures rising { IsRising entries.new.items }
     ensures things { things_of entries.new.items ≡ below next (things_of entries.old.items) }
     ensures places { places_in entries.new.items ≡ places_below next (places_in entries.old.items) }
+    ensures len { length entries.new.items ≤ length entries.old.items }
 {
     let bound = bound_of(entries, next);
     entries.truncate(bound);
@@ -161,6 +163,7 @@ pub(crate) fn put_back(entries: &mut Vec<Entry>, journal: &mut Journal)
     ensures things { things_of entries.new.items
         ≡ put_back (things_of entries.old.items) (newest_records journal.old.segments) }
     ensures places { places_in entries.new.items ≡ places_in entries.old.items }
+    ensures len { length entries.new.items ≡ length entries.old.items }
     ensures journal { journal.new ≡ record journal.old { segments = emptied journal.old.segments } }
 {
     while let Some(kept) = journal.take_kept() {
@@ -176,6 +179,7 @@ fn put_kept(entries: &mut Vec<Entry>, kept: Kept)
     ensures things { things_of entries.new.items
         ≡ set_cell (things_of entries.old.items) kept.number kept.cell (shown kept.old) }
     ensures places { places_in entries.new.items ≡ places_in entries.old.items }
+    ensures len { length entries.new.items ≡ length entries.old.items }
 {
     let _changed = put(entries, kept.number, &kept.cell, kept.old);
 }

@@ -7,10 +7,13 @@ mod limits;
 mod new_object;
 mod object;
 mod object_map;
+mod persistent;
 mod store;
+mod unit_rows;
 mod writing;
 
 pub use kind::Kind;
 pub use limits::{StoreLimits, StoreRefusal};
 pub use new_object::NewObject;
+pub use persistent::Persistent;
 pub use store::Store;

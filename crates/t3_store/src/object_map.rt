@@ -1,4 +1,4 @@
-ghost use Rattle.std.specs.Prelude.{◌≡◌, ◌+◌, ◌<◌, ◌^◌, Some, None, IsTrue, IsSome, IfOk, OnOk, OnErr, is_some, option_map, option_and_then, drop, map};
+ghost use Rattle.std.specs.Prelude.{◌≡◌, ◌+◌, ◌<◌, ◌≤◌, ◌^◌, Some, None, IsTrue, IsSome, IfOk, OnOk, OnErr, is_some, option_map, option_and_then, drop, map};
 ghost use Rattle.std.specs.List.Sorted.{IsStrictlyIncreasing};
 ghost use Rattle.std.specs.FinMap as finite;
 ghost use Rattle.std.specs.FinMap.{get, insert, entries};
@@ -150,6 +150,7 @@ impl ObjectMap {
           objects = undone self.old.objects journal.old.segments;
           places = places_below next self.old.places;
         } }
+        ensures fewer { finite.len (values self.new.objects) ≤ finite.len (values self.old.objects) }
         ensures journal { journal.new ≡ record journal.old { segments = drop 1 journal.old.segments } }
     {
         put_back(&mut self.entries, journal);

@@ -1,13 +1,15 @@
 -- Objects as what never changes of each, its shape, and its parts; and what value that is.
 use Rattle.std.specs.Prelude.{◌≡◌, ℕ, Bool, false, List, Option, None, Some, map, nat_lt, refl}
 use Rattle.std.specs.Ordering.{nat_cmp}
-use Rattle.std.specs.FinMap.{FinMap, get, retain_keys, entries, from_entries, code as coded_map}
+use Rattle.std.specs.FinMap.{FinMap, get, insert, retain_keys, entries, from_entries, code as coded_map}
 use Rattle.std.specs.FinSet as set
 use Rattle.std.specs.Coded.{Coded, code_by, coded×, coded_ℕ, coded_bool, coded_list}
 use Rattle.t3_undo.specs.Content.{Parts, Places, Present, coded_parts, coded_places}
 use Rattle.t3_undo.specs.Objects.{Objects, set_cell, adjust}
 use Rattle.t3_undo.specs.declared.cell.Cell.{Cell}
+use Rattle.t3_holder.specs.declared.holder.Holder.{Holder}
 use Rattle.t3_tadsobj.specs.Object.{props_of}
+use Rattle.t3_tadsobj.specs.Object as Tadsobject
 use Rattle.t3_store.specs.Value.{Value, Tads}
 use Rattle.t3_store.specs.declared.object.Object.{Object}
 use Rattle.t3_store.specs.declared.object.Object.TheVariants as object
@@ -76,3 +78,9 @@ pub record IsChanged (old new : Stored) (number : ℕ) (cell : Cell) (change : V
   pub content : Option Present
   pub stored : new ≡ record old { objects = set_cell old.objects number cell content }
   pub values : values new.objects ≡ adjust (values old.objects) number change
+
+-- a tads-object has a property more, or another value for it
+pub record IsWithProp (old new : Tadsobject.Tads) (number : ℕ) (value : Holder) : Type 0 where
+  pub props : props_of new.parts ≡ insert (props_of old.parts) number value
+  pub supers : new.supers ≡ old.supers
+  pub class : new.class ≡ old.class

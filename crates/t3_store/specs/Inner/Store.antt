@@ -8,6 +8,7 @@ use Rattle.t3_undo.specs.Objects.{Objects, OldPart, Segment, set_cell, adjust, p
 use Rattle.t3_undo.specs.Journal.{Held}
 use Rattle.t3_undo.specs.declared.cell.Cell.{Cell}
 use Rattle.t3_store.specs.Value.{Value, units_in}
+use Rattle.t3_store.specs.Value.{Objects as Values}
 use Rattle.t3_store.specs.Store.{Mark, StoreValue, AreLimits}
 use Rattle.t3_store.specs.Inner.Shapes.{Shape, Stored, values, has_place}
 use Rattle.t3_store.specs.declared.limits.StoreLimits.{StoreLimits}
@@ -107,7 +108,7 @@ pub record AreCounted (persistent transient : Objects Shape) (limits : StoreLimi
   pub persistent_units : units_in (values persistent) ≤ limits.units
   pub transient_units : units_in (values transient) ≤ limits.units
   pub copies : IsFront (saved_units marks) (reverse units)
-  pub each : AllByRecursion (λ count. count ≤ limits.units) units
+  pub each : AllByRecursion (λ count. count ≤ limits.units) (reverse units)
   pub few : length units ≤ limits.savepoints
   pub fits : limits.savepoints ≤ room
 
@@ -121,3 +122,9 @@ pub record IsStore (persistent transient : Stored) (next next_transient : ℕ) (
   pub sound : IsSound persistent.places next journal.segments
   pub counted : AreCounted persistent.objects transient.objects limits (marks_of persistent.objects journal.segments) units room
   pub few_writes : writes ≤ 2 ^ 63
+
+-- numbers are below 2^31, and the sums are no greater than they may be
+pub record IsPersistent (objects : Values) : Type 0 where
+  pub numbered : (q : ℕ) → 2 ^ 31 ≤ q → get objects q ≡ None
+  pub few : len objects ≤ 1048576
+  pub few_units : units_in objects ≤ 4194304

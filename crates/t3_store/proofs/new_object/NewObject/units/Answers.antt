@@ -1,0 +1,4 @@
+use Rattle.t3_store.proofs.new_object.NewObject.units.Goals as goal
+
+pub returns : goal.returns
+returns c = ?

@@ -1,0 +1,7 @@
+use Rattle.t3_store.proofs.persistent.Persistent.new.Goals as goal
+
+pub invariant_of-result : goal.invariant_of-result
+invariant_of-result c = ?
+
+pub returns : goal.returns
+returns c = ?

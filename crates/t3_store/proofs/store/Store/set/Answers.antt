@@ -1,0 +1,10 @@
+use Rattle.t3_store.proofs.store.Store.set.Goals as goal
+
+pub invariant_of-self-then-has : goal.invariant_of-self-then-has
+invariant_of-self-then-has c = ?
+
+pub returns-then-has-clause-ok : goal.returns-then-has-clause-ok
+returns-then-has-clause-ok c = ?
+
+pub invariant_of-self-2 : goal.invariant_of-self-2
+invariant_of-self-2 c = ?
