@@ -1,5 +1,5 @@
 -- A cell of a store's object set or taken away: what the store is then, and what stays true of it.
-use Rattle.std.proofs.Common.{◌≡◌, ◌∙◌, ap, sym, subst, refl, ℕ, ◌+◌, ◌≤◌, ◌^◌, Bool, true, false, if◌then◌else◌, List, Option, None, Some, IsTrue, IsSome, is_some, true≢false, arith}
+use Rattle.std.proofs.Common.{◌≡◌, ◌∙◌, ap, sym, subst, refl, ℕ, ◌+◌, ◌≤◌, ◌^◌, Bool, true, false, ◌&&◌, if◌then◌else◌, List, Option, None, Some, Result, Ok, Err, IsTrue, IsSome, is_some, is_none, true≢false, arith}
 use Rattle.std.specs.FinMap.{get, len}
 use Rattle.t3_undo.specs.Content.{Present}
 use Rattle.t3_undo.specs.Objects as journaled
@@ -7,13 +7,14 @@ use Rattle.t3_undo.specs.Objects.{Objects, OldPart, Segment, adjust, part_at}
 use Rattle.t3_undo.specs.Journal.{Held, note_in}
 use Rattle.t3_undo.specs.declared.cell.Cell.{Cell}
 use Rattle.t3_holder.specs.declared.holder.Holder.{Holder}
-use Rattle.t3_store.specs.Value.{Value, units_in, cell_units, holder_at, with_cell}
-use Rattle.t3_store.specs.Store.{StoreValue, value_at, either, is_persistent, noted, with_value, changed_in}
+use Rattle.t3_store.specs.Value.{Value, units_in, cell_units, holder_at, can_have_at, with_cell, without_cell}
+use Rattle.t3_store.specs.Store.{StoreValue, value_at, either, is_persistent, noted, with_value, changed_in, taken, written, set_cell, is_full_with, objects_in, store_units}
 use Rattle.t3_store.specs.Inner.Shapes.{Shape, Stored, values}
 use Rattle.t3_store.specs.Inner.Store.{marks_of, store_of, IsWritten, IsStore, AreNumbered, AreCounted, IsSound, saved_units, IsFront}
 use Rattle.t3_store.specs.declared.limits.StoreLimits.{StoreLimits}
-use Rattle.t3_store.proofs.MapValues.{some-values, len-adjust, units_in-with, present-can_at}
+use Rattle.t3_store.proofs.MapValues.{some-values, len-adjust, units_in-with, units_in-without, present-can_at}
 use Rattle.t3_store.proofs.Marks.{marks-changed}
+use Rattle.t3_store.proofs.Turns.{not-full}
 use Rattle.t3_store.proofs.Keeping.{front-of, front-changed, sound-keep, sound-noted, numbered-persistent, numbered-transient}
 
 -- a change of a persistent object, and of a transient one
@@ -148,3 +149,68 @@ pub held-transient : (s now : StoreValue) (n : ℕ) (c : Cell) → s ≡ now →
     → holder_at (value_at now n) c ≡ holder_at (get s.transient n) c
 held-transient s now n c same gone =
     ap (λ x. holder_at (value_at x n) c) (sym same) ∙ ap (λ o. holder_at o c) (either-none (get s.persistent n) (get s.transient n) gone)
+
+-- what didn't come for a full store wasn't full
+pub ok-not : {X E B : Type 0} (r : Result X E) (x : X) (e : E) → r ≡ Ok x → (B → r ≡ Err e) → B → ⊥
+ok-not r x e ok full b = let both : ◌≡◌ {A = Result _ _} (Ok x) (Err e) = sym ok ∙ full b in cc
+
+-- a cell that is set keeps the units within the limit
+pub units-set : (old new : Stored) (n : ℕ) (c : Cell) (holder : Holder) (was : Option Present) (full : Bool) (limit : ℕ)
+    → IsWritten old new n c (with_cell c holder) was → IsTrue (can_have_at (get (values old.objects) n) c)
+    → (IsTrue (is_none (holder_at (get (values old.objects) n) c) && full) → ⊥)
+    → (full ≡ false → units_in (values old.objects) + 1 ≤ limit) → units_in (values old.objects) ≤ limit → units_in (values new.objects) ≤ limit
+units-set old new n c holder was full limit w can apart room little =
+    by (holder_at (get (values old.objects) n) c) full refl apart room
+  where
+    sum : units_in (values new.objects) ≡ (if is_some (holder_at (get (values old.objects) n) c) then units_in (values old.objects) else units_in (values old.objects) + cell_units c)
+    sum = ap units_in w.values ∙ units_in-with (values old.objects) n c holder can
+
+    by : (o : Option Holder) (f : Bool) → holder_at (get (values old.objects) n) c ≡ o → (IsTrue (is_none o && f) → ⊥)
+        → (f ≡ false → units_in (values old.objects) + 1 ≤ limit) → units_in (values new.objects) ≤ limit
+    by (Some h) f e apart room =
+        let same : units_in (values new.objects) ≡ units_in (values old.objects) =
+        sum ∙ ap (λ o. if is_some o then units_in (values old.objects) else units_in (values old.objects) + cell_units c) e in
+        omega arith
+    by None true e apart room = absurd (apart refl)
+    by None false e apart room =
+        let more : units_in (values new.objects) ≡ units_in (values old.objects) + 1 =
+        sum ∙ ap (λ o. if is_some o then units_in (values old.objects) else units_in (values old.objects) + cell_units c) e in
+        omega (arith, room refl)
+
+pub units-taken : (old new : Stored) (n : ℕ) (c : Cell) (was : Option Present) → IsWritten old new n c (without_cell c) was
+    → IsSome (holder_at (get (values old.objects) n) c) → units_in (values new.objects) + 1 ≡ units_in (values old.objects)
+units-taken old new n c was w some = ap (λ m. units_in m + 1) w.values ∙ units_in-without (values old.objects) n c some
+
+-- a write that isn't full
+pub written-ok : (s : StoreValue) (n : ℕ) (c : Cell) (holder : Holder) (o : Option Holder) → o ≡ holder_at (value_at s n) c
+    → (full : Bool) → full ≡ is_full_with 0 (cell_units c) s → (IsTrue (is_none o && full) → ⊥) → written n c holder s ≡ Some (set_cell n c holder s)
+written-ok s n c holder o is full fills apart =
+    (λ i. if is_none (sym is i) && sym fills i then None else Some (set_cell n c holder s)) ∙ by (is_none o && full) apart
+  where
+    by : (b : Bool) → (IsTrue b → ⊥) → ◌≡◌ {A = Option StoreValue} (if b then None else Some (set_cell n c holder s)) (Some (set_cell n c holder s))
+    by true apart = absurd (apart refl)
+    by false apart = refl
+
+pub taken-some : (s : StoreValue) (n : ℕ) (c : Cell) → IsSome (holder_at (value_at s n) c)
+    → taken n c s ≡ with_value n (without_cell c) (noted n c s)
+taken-some s n c some = ap (λ b. if b then with_value n (without_cell c) (noted n c s) else s) some
+
+pub not-none : {X : Type 0} (o : Option X) (b : Bool) → b ≡ is_none o → b ≡ false → IsSome o
+not-none None b is e = absurd (true≢false (sym is ∙ e))
+not-none (Some x) b is e = refl
+
+-- nothing is full: there is room for so many more
+pub room-for : (s now : StoreValue) (objects units : ℕ) → s ≡ now → is_full_with objects units now ≡ false
+    → (objects_in s + objects ≤ s.limits.objects) × (store_units s + units ≤ s.limits.units)
+room-for s now objects units same e =
+    not-full s.limits.objects (objects_in s + objects) s.limits.units (store_units s + units) (ap (is_full_with objects units) same ∙ e)
+
+pub can-persistent : (s now : StoreValue) (n : ℕ) (c : Cell) → s ≡ now → is_some (get s.persistent n) ≡ true
+    → IsTrue (can_have_at (value_at now n) c) → IsTrue (can_have_at (get s.persistent n) c)
+can-persistent s now n c same there can =
+    sym (ap (λ o. can_have_at o c) (either-some (get s.persistent n) (get s.transient n) there)) ∙ ap (λ x. can_have_at (value_at x n) c) same ∙ can
+
+pub can-transient : (s now : StoreValue) (n : ℕ) (c : Cell) → s ≡ now → is_some (get s.persistent n) ≡ false
+    → IsTrue (can_have_at (value_at now n) c) → IsTrue (can_have_at (get s.transient n) c)
+can-transient s now n c same gone can =
+    sym (ap (λ o. can_have_at o c) (either-none (get s.persistent n) (get s.transient n) gone)) ∙ ap (λ x. can_have_at (value_at x n) c) same ∙ can

@@ -7,7 +7,7 @@ use Rattle.std.specs.Option.{option_map}
 use Rattle.std.specs.Cmp.{nat_cmp_total, ranked}
 use Rattle.std.specs.List.{AllByRecursion, sum_by}
 use Rattle.std.proofs.lemmas.List.Sums.{sum_by-cons}
-use Rattle.std.specs.FinMap.{FinMap, get, empty, len, len-insert, len-empty, len-entries, insert, entries, from_entries, entries_sorted, same_map, get-insert, get-from_entries, get-entries, get-retain_keys, retain_keys, entries-insert, nat_cmp-IsAntisymmetric}
+use Rattle.std.specs.FinMap.{FinMap, get, get-empty, empty, len, len-insert, len-empty, len-entries, insert, entries, from_entries, entries_sorted, same_map, get-insert, get-from_entries, get-entries, get-retain_keys, retain_keys, entries-insert, nat_cmp-IsAntisymmetric}
 use Rattle.std.specs.FinMap.Entries.{find, put, by_order, below_all, is_sorted}
 use Rattle.t3_undo.specs.Content.{Present, Parts}
 use Rattle.t3_undo.specs.Objects.{Objects, adjust, adjusted, below, part_of, part_at, with_part, set_cell}
@@ -22,6 +22,7 @@ use Rattle.t3_tadsobj.specs.declared.props.PropValue.{PropValue}
 use Rattle.t3_store.specs.Inner.Shapes.{Shape, thing_of, value_of, values}
 use Rattle.t3_store.specs.Inner.Entries.{IsRising, by_number, object_at, things_of, IsFirstFrom}
 use Rattle.t3_store.specs.declared.entries.Entry.{Entry}
+use Rattle.t3_store.specs.Inner.Store.{IsPersistent}
 use Rattle.t3_store.proofs.KindValues.{held-value, value-without, present-can, units_of-with, units_of-without}
 use Rattle.t3_store.proofs.Rows.{same, same-is, differs, get-by_number, len-by_number}
 
@@ -292,3 +293,14 @@ pub record IsMade (object : Tadsobject.Tads) (supers : List ℕ) (class : Bool) 
   pub made : props_of object.parts ≡ from_entries (map pair_of props)
   pub above : object.supers ≡ supers
   pub kind : object.class ≡ class
+
+pub values-empty : values empty ≡ empty
+unfolding values
+values-empty = λ i. from_entries (map (λ (e : ℕ × (Shape × Parts)). (e.0, value_of e.1)) (entries-empty i))
+
+pub none-persistent : IsPersistent empty
+none-persistent = record {
+  numbered = λ q h. get-empty nat_cmp q;
+  few = let none = len-empty nat_cmp Value in omega arith;
+  few_units = let none : units_in empty ≡ 0 = ap (sum_by (λ (e : ℕ × Value). units_of e.1)) entries-empty in omega arith;
+}

@@ -10,7 +10,7 @@ use Rattle.t3_undo.specs.Journal.{total, room, is_due, add, note_in, newest_next
 use Rattle.t3_undo.specs.UndoLaw as law
 use Rattle.t3_undo.specs.declared.cell.Cell.{Cell}
 use Rattle.t3_undo.proofs.PuttingBack.{put_back-noted, put_back-note, before-newer, before-made, get-before}
-use Rattle.t3_store.specs.Store.{Mark, room_for, is_change_of, is_change_due, add_change, changed_in, changed_cells, newest_copy, is_held}
+use Rattle.t3_store.specs.Store.{Mark, room_for, is_change_of, is_change_due, add_change, changed_in, changed_cells, newest_copy, is_held, StoreValue, undone}
 use Rattle.t3_store.specs.Inner.Shapes.{Shape, values}
 use Rattle.t3_store.specs.Inner.Store.{change_of, marks_of, IsFront, saved_units}
 
@@ -171,3 +171,12 @@ held-marks (s ∷ ss) m next e = refl
 pub none-held : (ss : List Segment) (m : Objects Shape) → newest_next ss ≡ None → ss ≡ []
 none-held [] m e = refl
 none-held (s ∷ ss) m e = cc
+
+pub marks-unheld : (ss : List Segment) (m : Objects Shape) → newest_next ss ≡ None → marks_of m ss ≡ []
+marks-unheld ss m e = ap (marks_of m) (none-held ss m e) ∙ marks-none m
+
+-- without a savepoint an undo changes nothing
+pub unheld : (s : StoreValue) → s.marks ≡ [] → s ≡ undone s
+unheld s e =
+    (λ i. record s { marks = e i })
+    ∙ sym (λ i. record s { persistent = newest_copy s.persistent (e i); marks = drop 1 (e i) })

@@ -212,7 +212,7 @@ kept-inserted : (places : FinMap nat_cmp Places) (n : ℕ) (own : Places) (q : �
     → has_place (insert places n own) q c ≡ true
 kept-inserted places n own q c h placed = ap (λ o. has_place_in o c) (none-inserted places n q own (λ e. omega arith)) ∙ placed
 
-value-none : (m : Objects Shape) (n : ℕ) → get m n ≡ None → get (values m) n ≡ None
+pub value-none : (m : Objects Shape) (n : ℕ) → get m n ≡ None → get (values m) n ≡ None
 value-none m n e = get-values m n ∙ ap (option_map value_of) e
 
 pub marks-created : (p : Stored) (next : ℕ) (ss : List Segment) (thing : Shape × Parts) → IsSound p.places next ss

@@ -55,10 +55,11 @@ impl Persistent {
     pub fn after(&self, number: u32) -> Option<u32>
         ensures { IsNextAbove self.now number result }
     {
+        let objects = &self.objects;
         if number >= 0x7FFF_FFFF {
             return None;
         }
-        self.objects.after(number)
+        objects.after(number)
     }
 
     /// An equal map.
