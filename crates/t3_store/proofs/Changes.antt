@@ -195,10 +195,6 @@ pub taken-some : (s : StoreValue) (n : ℕ) (c : Cell) → IsSome (holder_at (va
     → taken n c s ≡ with_value n (without_cell c) (noted n c s)
 taken-some s n c some = ap (λ b. if b then with_value n (without_cell c) (noted n c s) else s) some
 
-pub not-none : {X : Type 0} (o : Option X) (b : Bool) → b ≡ is_none o → b ≡ false → IsSome o
-not-none None b is e = absurd (true≢false (sym is ∙ e))
-not-none (Some x) b is e = refl
-
 -- nothing is full: there is room for so many more
 pub room-for : (s now : StoreValue) (objects units : ℕ) → s ≡ now → is_full_with objects units now ≡ false
     → (objects_in s + objects ≤ s.limits.objects) × (store_units s + units ≤ s.limits.units)
@@ -214,3 +210,6 @@ pub can-transient : (s now : StoreValue) (n : ℕ) (c : Cell) → s ≡ now → 
     → IsTrue (can_have_at (value_at now n) c) → IsTrue (can_have_at (get s.transient n) c)
 can-transient s now n c same gone can =
     sym (ap (λ o. can_have_at o c) (either-none (get s.persistent n) (get s.transient n) gone)) ∙ ap (λ x. can_have_at (value_at x n) c) same ∙ can
+
+pub neither : (a b : Option Value) → a ≡ None → b ≡ None → either a b ≡ None
+neither a b e f = either-none a b (ap is_some e) ∙ f

@@ -1,11 +1,11 @@
 -- The values of objects, as finite maps: what changes of the objects do to them, and to the units that they count.
-use Rattle.std.proofs.Common.{◌≡◌, ◌∙◌, ap, sym, subst, refl, ℕ, ◌+◌, ◌<◌, ◌≤◌, Bool, true, false, cond, ◌&&◌, T, IsTrue, IsSome, length, List, [], ◌∷◌, map, Option, None, Some, is_some, true≢false, nat_lt, arith}
+use Rattle.std.proofs.Common.{◌≡◌, ◌∙◌, ap, sym, subst, refl, ℕ, zero, suc, ◌+◌, ◌-◌, ◌<◌, ◌≤◌, nat_eq, get_or, drop, Bool, true, false, cond, ◌&&◌, T, IsTrue, IsSome, length, List, [], ◌∷◌, map, Option, None, Some, is_some, true≢false, nat_lt, arith}
 use Rattle.std.specs.declared.cmp.Ordering.{Ordering}
 use Rattle.std.specs.declared.cmp.Ordering.TheVariants.{Less, Equal, Greater}
 use Rattle.std.specs.Ordering.{nat_cmp, eq_by_cmp, is_eq, is_lt}
 use Rattle.std.specs.Option.{option_map}
-use Rattle.std.specs.Cmp.{nat_cmp_total, ranked}
-use Rattle.std.specs.List.{AllByRecursion, sum_by}
+use Rattle.std.specs.Cmp.{nat_cmp_total, ranked, unsigned_tied}
+use Rattle.std.specs.List.{AllByRecursion, sum_by, IsDistinct}
 use Rattle.std.proofs.lemmas.List.Sums.{sum_by-cons}
 use Rattle.std.specs.FinMap.{FinMap, get, get-empty, empty, len, len-insert, len-empty, len-entries, insert, entries, from_entries, entries_sorted, same_map, get-insert, get-from_entries, get-entries, get-retain_keys, retain_keys, entries-insert, nat_cmp-IsAntisymmetric}
 use Rattle.std.specs.FinMap.Entries.{find, put, by_order, below_all, is_sorted}
@@ -19,7 +19,7 @@ use Rattle.t3_store.specs.Value.{Value, units_of, units_in, cell_units, holder_i
 use Rattle.t3_tadsobj.specs.Object as Tadsobject
 use Rattle.t3_tadsobj.specs.Object.{props_of}
 use Rattle.t3_tadsobj.specs.declared.props.PropValue.{PropValue}
-use Rattle.t3_store.specs.Inner.Shapes.{Shape, thing_of, value_of, values}
+use Rattle.t3_store.specs.Inner.Shapes.{Shape, thing_of, value_of, values, IsWithProp}
 use Rattle.t3_store.specs.Inner.Entries.{IsRising, by_number, object_at, things_of, IsFirstFrom}
 use Rattle.t3_store.specs.declared.entries.Entry.{Entry}
 use Rattle.t3_store.specs.Inner.Store.{IsPersistent}
@@ -288,11 +288,54 @@ next-above things n least (Some next) e first = (
   λ q h l. none-value things q (first.2 q (omega arith) l),
 )
 
--- a tads-object with these properties so far
-pub record IsMade (object : Tadsobject.Tads) (supers : List ℕ) (class : Bool) (props : List PropValue) : Type 0 where
-  pub made : props_of object.parts ≡ from_entries (map pair_of props)
+-- a tads-object with the properties from an index on
+pub record IsMade (object : Tadsobject.Tads) (supers : List ℕ) (class : Bool) (items : List PropValue) (left : ℕ) : Type 0 where
+  pub made : props_of object.parts ≡ from_entries (map pair_of (drop left items))
   pub above : object.supers ≡ supers
   pub kind : object.class ≡ class
+  pub within : left ≤ length items
+
+drop-less : (items : List PropValue) (left : ℕ) (item : PropValue) → 0 < left → left ≤ length items → item ≡ get_or items (left - 1) item
+    → drop (left - 1) items ≡ item ∷ drop left items
+drop-less items zero item h l is = absurd (omega arith)
+drop-less [] (suc k) item h l is = absurd (omega arith)
+drop-less (x ∷ xs) (suc k) item h l is = by k (omega arith) is
+  where
+    by : (k : ℕ) → suc k ≤ suc (length xs) → item ≡ get_or (x ∷ xs) (suc k - 1) item → drop (suc k - 1) (x ∷ xs) ≡ item ∷ drop k xs
+    by k l is =
+        let same : suc k - 1 ≡ k = omega arith in
+        (λ i. drop (same i) (x ∷ xs)) ∙ at (x ∷ xs) k item (omega arith) (is ∙ λ i. get_or (x ∷ xs) (same i) item)
+      where
+        at : (ys : List PropValue) (n : ℕ) (y : PropValue) → n < length ys → y ≡ get_or ys n y → drop n ys ≡ y ∷ drop (suc n) ys
+        at [] n y h is = absurd (omega arith)
+        at (z ∷ ys) zero y h is = ap (λ w. w ∷ ys) (sym is)
+        at (z ∷ ys) (suc n) y h is = at ys n y (omega arith) is
+
+pub made-more : (old new : Tadsobject.Tads) (supers : List ℕ) (class : Bool) (items : List PropValue) (left : ℕ) (item : PropValue)
+    → IsMade old supers class items left → 0 < left → item ≡ get_or items (left - 1) item → IsWithProp old new item.number item.value
+    → IsMade new supers class items (left - 1)
+made-more old new supers class items left item is h at w = record {
+  made = w.props ∙ ap (λ m. insert m item.number item.value) is.made
+      ∙ ap (λ ps. from_entries (map pair_of ps)) (sym (drop-less items left item h is.within at));
+  above = w.supers ∙ is.above;
+  kind = w.class ∙ is.kind;
+  within = omega (arith, is.within);
+}
+
+-- distinct properties are as many as their numbers
+find-after : (n : ℕ) (ps : List PropValue) → AllByRecursion (λ m. nat_eq n m ≡ false) (map (λ p. p.number) ps) → find nat_cmp n (map pair_of ps) ≡ None
+find-after n [] all = refl
+find-after n (p ∷ ps) all =
+    ap (λ b. cond b (Some p.value) (find nat_cmp n (map pair_of ps))) (unsigned_tied n p.number ∙ all.0) ∙ find-after n ps all.1
+
+pub len-from_entries : (ps : List PropValue) → IsDistinct nat_eq (map (λ p. p.number) ps) → len (from_entries {R = nat_cmp} (map pair_of ps)) ≡ length ps
+unfolding IsDistinct
+len-from_entries [] apart = len-empty nat_cmp Holder
+len-from_entries (p ∷ ps) apart =
+    len-insert nat_cmp_total (from_entries (map pair_of ps)) p.number p.value
+    ∙ ap (λ o. cond (is_some o) (len (from_entries {R = nat_cmp} (map pair_of ps))) (len (from_entries {R = nat_cmp} (map pair_of ps)) + 1))
+    (get-from_entries nat_cmp_total (map pair_of ps) p.number ∙ find-after p.number ps apart.0)
+    ∙ (let e = len-from_entries ps apart.1 in omega (arith, e))
 
 pub values-empty : values empty ≡ empty
 unfolding values

@@ -13,9 +13,10 @@ use Rattle.t3_undo.specs.UndoLaw as law
 use Rattle.t3_undo.specs.declared.cell.Cell.{Cell}
 use Rattle.t3_undo.proofs.PuttingBack.{get-before}
 use Rattle.t3_store.specs.Value.{Value, units_in, units_of}
-use Rattle.t3_store.specs.Store.{Mark, StoreValue, objects_in, store_units, is_full_with}
+use Rattle.t3_store.specs.Store.{Mark, StoreValue, AreLimits, AreBelow, started, objects_in, store_units, is_full_with}
+use Rattle.t3_store.specs.Value.{Objects as Values}
 use Rattle.t3_store.specs.Inner.Shapes.{Shape, Stored, values, value_of, has_place, has_place_in, places_below}
-use Rattle.t3_store.specs.Inner.Store.{marks_of, CanBePut, CanAllBePut, IsSound, AreNumbered, IsFront, saved_units, AreCounted, IsStore, newest_records}
+use Rattle.t3_store.specs.Inner.Store.{marks_of, store_of, CanBePut, CanAllBePut, IsSound, AreNumbered, IsFront, saved_units, AreCounted, IsStore, newest_records}
 use Rattle.t3_store.specs.declared.limits.StoreLimits.{StoreLimits}
 use Rattle.t3_store.proofs.Rows.{differs}
 use Rattle.t3_store.proofs.MapValues.{get-values, values-insert, units_in-new}
@@ -301,3 +302,58 @@ transient-created p t new next next_transient limits j units room writes thing o
 
     sum : units_in (values (insert t.objects next_transient thing)) ≡ units_in (values t.objects) + units_of (value_of thing)
     sum = ap units_in (values-insert t.objects next_transient thing) ∙ units_in-new (values t.objects) next_transient (value_of thing) none
+
+-- a new store
+unvalued : (m : Objects Shape) (o : Values) (q : ℕ) → values m ≡ o → get o q ≡ None → get m q ≡ None
+unvalued m o q same e = by (get m q) (sym (get-values m q) ∙ (λ i. get (same i) q) ∙ e)
+  where
+    by : (x : Option (Shape × Parts)) → option_map value_of x ≡ None → x ≡ None
+    by None e = refl
+    by (Some x) e = cc
+
+marks-bare : (m : Objects Shape) → marks_of m [] ≡ []
+unfolding marks_of
+marks-bare m = refl
+
+pub started-kept : (p t : Stored) (first passing : Values) (next : ℕ) (limits : StoreLimits) (j : Held) (units : List ℕ) (room writes : ℕ)
+    → values p.objects ≡ first → values t.objects ≡ passing → AreLimits limits → next ≤ 2 ^ 31 → AreBelow next first → AreBelow next passing
+    → len first + len passing ≤ limits.objects → units_in first + units_in passing ≤ limits.units
+    → j ≡ record { segments = []; marks = 0; record_limit = limits.records; mark_limit = limits.savepoints } → units ≡ [] → limits.savepoints ≤ room
+    → writes ≤ 2 ^ 63 → IsStore p t next (2 ^ 31) limits j units room writes
+started-kept p t first passing next limits j units room writes one other bounded low below under few little begun none wide counted = record {
+  bounded = bounded;
+  records = ap (λ (h : Held). h.record_limit) begun;
+  savepoints = ap (λ (h : Held). h.mark_limit) begun;
+  numbered = record {
+    persistent_below = λ q h. unvalued p.objects first q one (below q h);
+    transient_low = λ q h l. unvalued t.objects passing q other (under q h);
+    transient_high = λ q h. unvalued t.objects passing q other (under q (omega arith));
+    next_fits = low;
+    transient_from = omega arith;
+    transient_fits = omega arith;
+  };
+  sound = subst (λ (h : Held). IsSound p.places next h.segments) (sym begun) tt;
+  counted = record {
+    objects = (let a = ap len one in let b = ap len other in omega arith);
+    persistent_units = (let a = ap units_in one in omega arith);
+    transient_units = (let b = ap units_in other in omega arith);
+    copies = subst (λ ms. IsFront (saved_units ms) (reverse units))
+        (sym (ap (λ (h : Held). marks_of p.objects h.segments) begun ∙ marks-bare p.objects)) (record { rest = reverse units; is = refl });
+    each = subst (λ (us : List ℕ). AllByRecursion (λ x. x ≤ limits.units) (reverse us)) (sym none) tt;
+    few = (let size = ap length none in omega arith);
+    fits = wide;
+  };
+  few_writes = counted;
+}
+
+pub started-view : (p t : Stored) (first passing : Values) (next : ℕ) (limits : StoreLimits) (j : Held) → values p.objects ≡ first
+    → values t.objects ≡ passing → j ≡ record { segments = []; marks = 0; record_limit = limits.records; mark_limit = limits.savepoints }
+    → store_of p.objects t.objects next (2 ^ 31) limits j.segments ≡ started limits first passing next
+started-view p t first passing next limits j one other begun = λ i. record {
+  persistent = one i;
+  transient = other i;
+  next = next;
+  next_transient = 2 ^ 31;
+  limits = limits;
+  marks = (ap (λ (h : Held). marks_of p.objects h.segments) begun ∙ marks-bare p.objects) i;
+}

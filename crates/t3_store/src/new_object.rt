@@ -1,5 +1,6 @@
-ghost use Rattle.std.specs.Prelude.{◌≡◌, IfOk, OnOk, map};
-ghost use Rattle.std.specs.FinMap.{from_entries};
+ghost use Rattle.std.specs.Prelude.{◌≡◌, ◌+◌, IfOk, OnOk, map, length};
+ghost use Rattle.std.specs.FinMap.{from_entries, len};
+ghost use Rattle.std.specs.Ordering.{nat_cmp};
 ghost use Rattle.t3_store.specs.Value.{Tads, pair_of, new_value, units_of};
 ghost use Rattle.t3_store.specs.Inner.Shapes.{thing_of, value_of, IsWithProp};
 
@@ -30,7 +31,7 @@ impl NewObject {
                 supers,
                 class: _,
                 props,
-            } => supers.0.len() as u64 + props.items().len() as u64,
+            } => tads_units(supers, props),
         }
     }
 
@@ -46,6 +47,13 @@ impl NewObject {
             } => make_tads(alloc, supers, class, &props),
         }
     }
+}
+
+/// How many units a tads-object with these superclasses and properties counts.
+fn tads_units(supers: &Numbers, props: &Props) -> u64
+    ensures { result ≡ length supers.now + len (from_entries {R = nat_cmp} (map pair_of props.now)) }
+{
+    supers.0.len() as u64 + props.items().len() as u64
 }
 
 /// A tads-object with these superclasses, this class flag and these properties.

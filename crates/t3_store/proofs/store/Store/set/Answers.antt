@@ -14,14 +14,13 @@ invariant_of-self-then-has c =
     let counted = ap (λ s. s.writes) c.self.view_is in
     let view = ap (λ s. s.store) c.self.view_is in
     let can = can-persistent _ _ c.args.number c.args.cell view (sym c.has.ensures.value ∙ c.if-has.true) c.requires.can in
-    let room = λ e. (room-for _ _ 0 1 view (sym c.is_full-full.ensures ∙ e)).1 in
     subst (λ (j : Held). IsStore c.set.new.objects c.self.inside.transient c.self.inside.next c.self.inside.next_transient
     c.self.inside.limits j c.self.inside.units.items (vec_capacity c.self.inside.units) (c.self.inside.writes + 1)) (sym c.note.ensures)
     (persistent-kept _ _ c.self.inside.transient c.self.inside.next c.self.inside.next_transient c.self.inside.limits c.self.inside.journal
     c.self.inside.units.items (vec_capacity c.self.inside.units) c.self.inside.writes c.args.number c.args.cell (with_cell c.args.cell c.args.value) _ is
     c.in_ok-old.ensures.ok (units-set c.self.inside.persistent c.set.new.objects c.args.number c.args.cell c.args.value _ c.is_full-full.result c.self.inside.limits.units
     c.in_ok-old.ensures.ok can (ok-not c.set.result _ refusals.Full c.in_ok-old.was c.set.ensures.full.1)
-    (λ e. let r = room e in omega arith) is.counted.persistent_units) (omega (arith, counted, c.requires.few)))
+    (λ e. let r = room-for _ _ 0 1 view (sym c.is_full-full.ensures ∙ e) in omega arith) is.counted.persistent_units) (omega (arith, counted, c.requires.few)))
 
 pub returns-then-has-clause-ok : goal.returns-then-has-clause-ok
 returns-then-has-clause-ok c =
@@ -43,11 +42,10 @@ invariant_of-self-2 c =
     let counted = ap (λ s. s.writes) c.self.view_is in
     let view = ap (λ s. s.store) c.self.view_is in
     let can = can-transient _ _ c.args.number c.args.cell view (sym c.has.ensures.value ∙ c.if-has.false) c.requires.can in
-    let room = λ e. (room-for _ _ 0 1 view (sym c.is_full-full.ensures ∙ e)).1 in
     transient-kept c.self.inside.persistent _ _ c.self.inside.next c.self.inside.next_transient c.self.inside.limits c.self.inside.journal
     c.self.inside.units.items (vec_capacity c.self.inside.units) c.self.inside.writes _ _ (with_cell c.args.cell c.args.value) _ is
     c.in_ok-_old.ensures.ok
     (units-set c.self.inside.transient c.set-2.new.objects c.args.number c.args.cell c.args.value _ c.is_full-full.result c.self.inside.limits.units
     c.in_ok-_old.ensures.ok can (ok-not c.set-2.result _ refusals.Full c.in_ok-_old.was c.set-2.ensures.full.1)
-    (λ e. let r = room e in omega arith) is.counted.transient_units)
+    (λ e. let r = room-for _ _ 0 1 view (sym c.is_full-full.ensures ∙ e) in omega arith) is.counted.transient_units)
     (omega (arith, counted, c.requires.few))
