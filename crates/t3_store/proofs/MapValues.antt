@@ -5,7 +5,7 @@ use Rattle.std.specs.declared.cmp.Ordering.TheVariants.{Less, Equal, Greater}
 use Rattle.std.specs.Ordering.{nat_cmp, eq_by_cmp, is_eq, is_lt}
 use Rattle.std.specs.Option.{option_map}
 use Rattle.std.specs.Cmp.{nat_cmp_total, ranked, unsigned_tied}
-use Rattle.std.specs.List.{AllByRecursion, sum_by, IsDistinct}
+use Rattle.std.specs.List.{AllByRecursion, sum_by, IsDistinct, filter_map}
 use Rattle.std.proofs.lemmas.List.Sums.{sum_by-cons}
 use Rattle.std.specs.FinMap.{FinMap, get, get-empty, empty, len, len-insert, len-empty, len-entries, insert, entries, from_entries, entries_sorted, same_map, get-insert, get-from_entries, get-entries, get-retain_keys, retain_keys, entries-insert, nat_cmp-IsAntisymmetric}
 use Rattle.std.specs.FinMap.Entries.{find, put, by_order, below_all, is_sorted}
@@ -17,7 +17,8 @@ use Rattle.t3_undo.proofs.Maps.{get-adjust}
 use Rattle.t3_undo.proofs.PuttingBack.{get-below}
 use Rattle.t3_store.specs.Value.{Value, units_of, units_in, cell_units, holder_in, holder_at, can_have_at, with_cell, without_cell, pair_of, IsNextAbove}
 use Rattle.t3_tadsobj.specs.Object as Tadsobject
-use Rattle.t3_tadsobj.specs.Object.{props_of}
+use Rattle.t3_tadsobj.specs.Object.{props_of, prop_in, bare}
+use Rattle.t3_undo.specs.Cell.{cell_cmp}
 use Rattle.t3_tadsobj.specs.declared.props.PropValue.{PropValue}
 use Rattle.t3_store.specs.Inner.Shapes.{Shape, thing_of, value_of, values, IsWithProp}
 use Rattle.t3_store.specs.Inner.Entries.{IsRising, by_number, object_at, things_of, IsFirstFrom}
@@ -295,28 +296,23 @@ pub record IsMade (object : Tadsobject.Tads) (supers : List ℕ) (class : Bool) 
   pub kind : object.class ≡ class
   pub within : left ≤ length items
 
-drop-less : (items : List PropValue) (left : ℕ) (item : PropValue) → 0 < left → left ≤ length items → item ≡ get_or items (left - 1) item
-    → drop (left - 1) items ≡ item ∷ drop left items
-drop-less items zero item h l is = absurd (omega arith)
-drop-less [] (suc k) item h l is = absurd (omega arith)
-drop-less (x ∷ xs) (suc k) item h l is = by k (omega arith) is
-  where
-    by : (k : ℕ) → suc k ≤ suc (length xs) → item ≡ get_or (x ∷ xs) (suc k - 1) item → drop (suc k - 1) (x ∷ xs) ≡ item ∷ drop k xs
-    by k l is =
-        let same : suc k - 1 ≡ k = omega arith in
-        (λ i. drop (same i) (x ∷ xs)) ∙ at (x ∷ xs) k item (omega arith) (is ∙ λ i. get_or (x ∷ xs) (same i) item)
-      where
-        at : (ys : List PropValue) (n : ℕ) (y : PropValue) → n < length ys → y ≡ get_or ys n y → drop n ys ≡ y ∷ drop (suc n) ys
-        at [] n y h is = absurd (omega arith)
-        at (z ∷ ys) zero y h is = ap (λ w. w ∷ ys) (sym is)
-        at (z ∷ ys) (suc n) y h is = at ys n y (omega arith) is
+drop-at : (items : List PropValue) (n : ℕ) (d : PropValue) → n < length items → drop n items ≡ get_or items n d ∷ drop (suc n) items
+drop-at [] n d h = absurd (omega arith)
+drop-at (x ∷ xs) zero d h = refl
+drop-at (x ∷ xs) (suc n) d h = drop-at xs n d (omega arith)
 
-pub made-more : (old new : Tadsobject.Tads) (supers : List ℕ) (class : Bool) (items : List PropValue) (left : ℕ) (item : PropValue)
-    → IsMade old supers class items left → 0 < left → item ≡ get_or items (left - 1) item → IsWithProp old new item.number item.value
-    → IsMade new supers class items (left - 1)
-made-more old new supers class items left item is h at w = record {
-  made = w.props ∙ ap (λ m. insert m item.number item.value) is.made
-      ∙ ap (λ ps. from_entries (map pair_of ps)) (sym (drop-less items left item h is.within at));
+drop-less : (items : List PropValue) (left : ℕ) (d : PropValue) → 0 < left → left ≤ length items
+    → drop (left - 1) items ≡ get_or items (left - 1) d ∷ drop left items
+drop-less items left d h l =
+    let same : suc (left - 1) ≡ left = omega arith in
+    drop-at items (left - 1) d (omega arith) ∙ λ i. get_or items (left - 1) d ∷ drop (same i) items
+
+pub made-more : (old new : Tadsobject.Tads) (supers : List ℕ) (class : Bool) (items : List PropValue) (left : ℕ) (d : PropValue)
+    → IsMade old supers class items left → 0 < left
+    → IsWithProp old new (get_or items (left - 1) d).number (get_or items (left - 1) d).value → IsMade new supers class items (left - 1)
+made-more old new supers class items left d is h w = record {
+  made = w.props ∙ ap (λ m. insert m (get_or items (left - 1) d).number (get_or items (left - 1) d).value) is.made
+      ∙ ap (λ ps. from_entries (map pair_of ps)) (sym (drop-less items left d h is.within));
   above = w.supers ∙ is.above;
   kind = w.class ∙ is.kind;
   within = omega (arith, is.within);
@@ -346,4 +342,24 @@ none-persistent = record {
   numbered = λ q h. get-empty nat_cmp q;
   few = let none = len-empty nat_cmp Value in omega arith;
   few_units = let none : units_in empty ≡ 0 = ap (sum_by (λ (e : ℕ × Value). units_of e.1)) entries-empty in omega arith;
+}
+
+drop-all : (items : List PropValue) → drop (length items) items ≡ []
+drop-all [] = refl
+drop-all (x ∷ xs) = drop-all xs
+
+props-none : props_of empty ≡ empty
+unfolding props_of
+props-none = λ i. from_entries (filter_map (λ (e : Cell × Present). prop_in e.0 e.1) (no-cells i))
+  where
+    no-cells : entries (empty {K = Cell} {X = Present} {R = cell_cmp}) ≡ []
+    no-cells = no_length _ (sym (len-entries (empty {K = Cell} {X = Present} {R = cell_cmp})) ∙ len-empty cell_cmp Present)
+
+pub made-none : (object : Tadsobject.Tads) (supers : List ℕ) (class : Bool) (items : List PropValue) → object ≡ bare supers class
+    → IsMade object supers class items (length items)
+made-none object supers class items is = record {
+  made = ap (λ (o : Tadsobject.Tads). props_of o.parts) is ∙ props-none ∙ ap (λ ps. from_entries (map pair_of ps)) (sym (drop-all items));
+  above = ap (λ (o : Tadsobject.Tads). o.supers) is;
+  kind = ap (λ (o : Tadsobject.Tads). o.class) is;
+  within = omega arith;
 }

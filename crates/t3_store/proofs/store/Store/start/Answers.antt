@@ -12,7 +12,7 @@ invariant_of-result c =
     started-kept c.into_map-persistent.result c.into_map-transient.result c.args.first c.args.passing c.args.next c.args.limits
     c.in_ok-journal.journal c.in_ok-units.units.items (vec_capacity c.in_ok-units.units) _ c.into_map-persistent.ensures
     c.into_map-transient.ensures c.requires.limits c.requires.next.1 c.requires.first c.requires.passing c.requires.objects c.requires.units
-    c.in_ok-journal.ensures c.in_ok-units.ensures.items c.in_ok-units.ensures.capacity ?
+    c.in_ok-journal.ensures c.in_ok-units.ensures.items c.in_ok-units.ensures.capacity (omega (arith, c.from.ensures, c.from-2.ensures))
 
 pub returns-clause-store : goal.returns-clause-store
 returns-clause-store c =
