@@ -72,7 +72,7 @@ room-same limit (s ∷ ss) m =
     ∙ λ i. let k = sym (length-map' change_of s.records) in
     if nat_lt (k i) limit
     then record { copy = values (before m s); next = s.next; changed = map change_of s.records }
-        ∷ room_for (limit - k i) (marks_of (before m s) ss)
+    ∷ room_for (limit - k i) (marks_of (before m s) ss)
     else []
   where
     mark : Mark

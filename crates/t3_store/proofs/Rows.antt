@@ -303,8 +303,7 @@ rising-add (x ∷ es) zero new rises none low high =
         cc
 rising-add (x ∷ es) (suc i) new rises none low high =
     let before : x.number < new.number = low 0 x (omega arith) (omega arith) in
-    let apart = differs new.number x.number (λ is. omega arith) in
-    (
+    let apart = differs new.number x.number (λ is. omega arith) in (
       all-append x.number (take i es) (new ∷ drop i es) (all-take x.number i es rises.0) (before, all-drop x.number i es rises.0),
       rising-add es i new rises.1 (sym (ap (λ b. cond b (Some x.object) (object_at new.number es)) apart) ∙ none)
           (λ k d h l. low (suc k) d (omega arith) (omega arith)) (λ k d h l. high (suc k) d (omega arith) (omega arith)),

@@ -12,11 +12,11 @@ use Rattle.t3_undo.specs.Journal.{Held, newest_next}
 use Rattle.t3_undo.specs.UndoLaw as law
 use Rattle.t3_undo.specs.declared.cell.Cell.{Cell}
 use Rattle.t3_undo.proofs.PuttingBack.{get-before}
-use Rattle.t3_store.specs.Value.{Value, units_in, units_of}
+use Rattle.t3_store.specs.Value.{Value, units_in, units_of, is_past}
 use Rattle.t3_store.specs.Store.{Mark, StoreValue, AreLimits, AreBelow, started, objects_in, store_units, is_full_with}
 use Rattle.t3_store.specs.Value.{Objects as Values}
 use Rattle.t3_store.specs.Inner.Shapes.{Shape, Stored, values, value_of, has_place, has_place_in, places_below}
-use Rattle.t3_store.specs.Inner.Store.{marks_of, store_of, CanBePut, CanAllBePut, IsSound, AreNumbered, IsFront, saved_units, AreCounted, IsStore, newest_records}
+use Rattle.t3_store.specs.Inner.Store.{marks_of, store_of, CanBePut, CanAllBePut, IsSound, AreNumbered, IsFront, saved_units, AreCounted, IsStore, IsPersistent, newest_records}
 use Rattle.t3_store.specs.declared.limits.StoreLimits.{StoreLimits}
 use Rattle.t3_store.proofs.Rows.{differs}
 use Rattle.t3_store.proofs.MapValues.{get-values, values-insert, units_in-new}
@@ -304,7 +304,7 @@ transient-created p t new next next_transient limits j units room writes thing o
     sum = ap units_in (values-insert t.objects next_transient thing) ∙ units_in-new (values t.objects) next_transient (value_of thing) none
 
 -- a new store
-unvalued : (m : Objects Shape) (o : Values) (q : ℕ) → values m ≡ o → get o q ≡ None → get m q ≡ None
+pub unvalued : (m : Objects Shape) (o : Values) (q : ℕ) → values m ≡ o → get o q ≡ None → get m q ≡ None
 unvalued m o q same e = by (get m q) (sym (get-values m q) ∙ (λ i. get (same i) q) ∙ e)
   where
     by : (x : Option (Shape × Parts)) → option_map value_of x ≡ None → x ≡ None
@@ -357,3 +357,20 @@ started-view p t first passing next limits j one other begun = λ i. record {
   limits = limits;
   marks = (ap (λ (h : Held). marks_of p.objects h.segments) begun ∙ marks-bare p.objects) i;
 }
+
+-- an object more of an image's
+pub added-kept : (old new : Stored) (n : ℕ) (thing : Shape × Parts) (own : Places) → IsPersistent (values old.objects) → get old.objects n ≡ None
+    → n < 2 ^ 31 → is_past (values old.objects) (units_of (value_of thing)) ≡ false
+    → new ≡ record { objects = insert old.objects n thing; places = insert old.places n own } → IsPersistent (values new.objects)
+added-kept old new n thing own is none low room changed =
+    subst IsPersistent (sym (ap (λ (s : Stored). values s.objects) changed ∙ values-insert old.objects n thing)) (record {
+      numbered = λ q h. none-inserted (values old.objects) n q (value_of thing) (λ e. omega arith) ∙ is.numbered q h;
+      few = (let more = len-new (values old.objects) n (value_of thing) bare in let fits = little.0 in omega arith);
+      few_units = (let more = units_in-new (values old.objects) n (value_of thing) bare in let fits = little.1 in omega arith);
+    })
+  where
+    bare : get (values old.objects) n ≡ None
+    bare = value-none old.objects n none
+
+    little : (len (values old.objects) + 1 ≤ 1048576) × (units_in (values old.objects) + units_of (value_of thing) ≤ 4194304)
+    little = not-full 1048576 (len (values old.objects) + 1) 4194304 (units_in (values old.objects) + units_of (value_of thing)) room

@@ -2,3 +2,4 @@
 pub mod Shapes
 pub mod Entries
 pub mod Store
+pub mod Numbers

@@ -1,5 +1,5 @@
 -- The values of objects, by kind: what stands in their cells, how a cell is set, and how much they count.
-use Rattle.std.specs.Prelude.{◌≡◌, ◌<◌, ℕ, ◌+◌, Bool, false, List, Option, None, Some, map, length, sum_by, MatchOption, IsSome, refl}
+use Rattle.std.specs.Prelude.{◌≡◌, ◌<◌, ℕ, ◌+◌, Bool, false, List, Option, None, Some, map, length, sum_by, MatchOption, IsSome, nat_lt, ◌||◌, refl}
 use Rattle.std.specs.Ordering.{nat_cmp}
 use Rattle.std.specs.FinMap.{FinMap, empty, get, insert, remove, len, entries, from_entries, code as coded_map}
 use Rattle.std.specs.Coded.{Coded, code_by, coded×, coded_ℕ, coded_bool, coded_list}
@@ -134,3 +134,7 @@ pair_of prop = (prop.number, prop.value)
 -- the value of what is to be made
 abbrev pub new_value : NewObject → Value
 new_value (new.Tads supers class props) = Tads supers class (from_entries (map pair_of props))
+
+-- a further object that counts so many units is more than there may be
+abbrev pub is_past : Objects → ℕ → Bool
+is_past objects units = nat_lt 1048576 (len objects + 1) || nat_lt 4194304 (units_in objects + units)

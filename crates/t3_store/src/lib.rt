@@ -9,6 +9,8 @@ mod object;
 mod object_map;
 mod persistent;
 mod store;
+#[cfg(test)]
+mod tests;
 mod unit_rows;
 mod writing;
 

@@ -57,12 +57,7 @@ fn tads_units(supers: &Numbers, props: &Props) -> u64
 }
 
 /// A tads-object with these superclasses, this class flag and these properties.
-fn make_tads(
-    alloc: Global,
-    supers: Numbers,
-    class: bool,
-    props: &Props,
-) -> Result<Object, NoMemory>
+fn make_tads(alloc: Global, supers: Numbers, class: bool, props: &Props) -> Result<Object, NoMemory>
     ensures { IfOk result (λ object. value_of (thing_of object) ≡ Tads supers class (from_entries (map pair_of props.now))) }
 {
     let mut object = TadsObject::of(alloc, supers, class);

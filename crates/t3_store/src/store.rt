@@ -1,8 +1,9 @@
-ghost use Rattle.std.specs.Prelude.{◌≡◌, ◌+◌, ◌<◌, ◌≤◌, ◌^◌, ◌↔◌, ◌||◌, ℕ, true, false, Some, None, Ok, Err, IsTrue, IsSome, IfOk, OnOk, OnErr, is_some, length};
-ghost use Rattle.std.specs.FinMap.{get, len};
-ghost use Rattle.t3_store.specs.Value.{Objects, holder_at, can_have_at, new_value, kind_of, units_of, units_in};
+ghost use Rattle.std.specs.Prelude.{◌≡◌, ◌+◌, ◌<◌, ◌≤◌, ◌^◌, ◌↔◌, ◌||◌, ℕ, true, false, Some, None, Ok, Err, IsTrue, IsSome, IfOk, OnOk, OnErr, is_some, length, map, option_map, option_and_then};
+ghost use Rattle.std.specs.FinMap.{get, len, entries};
+ghost use Rattle.std.specs.List.Sorted.{IsStrictlyIncreasing};
+ghost use Rattle.t3_store.specs.Value.{Objects, holder_at, can_have_at, new_value, kind_of, supers_of, is_class_at, props_at, units_of, units_in};
 ghost use Rattle.t3_store.specs.Store.{AreLimits, AreBelow, value_at, objects_in, store_units, started, is_full_with, no_number, with_object, created_in, after_write, written, taken, set_cell, saved, undone, is_held, changed_cells};
-ghost use Rattle.t3_store.specs.Inner.Shapes.{thing_of, value_of};
+ghost use Rattle.t3_store.specs.Inner.Shapes.{thing_of, value_of, values};
 
 use crate::kind::Kind;
 use crate::limits::{StoreLimits, StoreRefusal};
@@ -15,6 +16,7 @@ use crate::writing;
 use std::alloc::Global;
 use std::marker::Model;
 use t3_holder::{Holder, NoMemory};
+use t3_tadsobj::{Props, Supers};
 use t3_undo::{Cell, Journal};
 
 /// The objects of a run by their numbers, persistent and transient, with savepoints.
@@ -98,10 +100,42 @@ impl Store {
     pub fn get(&self, number: u32, cell: &Cell) -> Option<Holder>
         ensures { result ≡ holder_at (value_at self.now.store number) cell.now }
     {
+        self.half(number).get(number, cell).value()
+    }
+
+    /// What the object of a number is.
+    pub fn kind(&self, number: u32) -> Option<Kind>
+        ensures { result ≡ option_map kind_of (value_at self.now.store number) }
+    {
+        self.half(number).kind(number)
+    }
+
+    /// Whether the object of a number is a class.
+    pub fn is_class(&self, number: u32) -> bool
+        ensures { result ≡ is_class_at (value_at self.now.store number) }
+    {
+        self.half(number).is_class(number)
+    }
+
+    /// The properties of a tads-object with their values, by rising number.
+    pub fn props(&self, alloc: Global, number: u32) -> Result<Props, NoMemory>
+        requires { IsSome (option_and_then supers_of (value_at self.now.store number)) }
+        ensures props { IfOk result (λ props. map (λ prop. (prop.number, prop.value)) props
+            ≡ entries (props_at (value_at self.now.store number))) }
+        ensures rising { IfOk result (λ props. IsStrictlyIncreasing (map (λ prop. prop.number) props)) }
+    {
+        self.half(number).props(alloc, number)
+    }
+
+    /// The half in which the object of a number is, if it is in any.
+    fn half(&self, number: u32) -> &ObjectMap
+        ensures { get (values result.now.objects) number ≡ value_at self.now.store number }
+    {
         if self.persistent.has(number) {
-            return self.persistent.get(number, cell).value();
+            &self.persistent
+        } else {
+            &self.transient
         }
-        self.transient.get(number, cell).value()
     }
 
     /// Makes an object, and gives its number. `Full` comes exactly where there is no room for it, or no
@@ -132,7 +166,12 @@ impl Store {
     /// Sets a cell of an object, or takes it away where there is no value.
     ///
     /// `Full` comes exactly where an absent cell is to be set for which there is no room.
-    pub fn write(&mut self, number: u32, cell: Cell, value: Option<Holder>) -> Result<(), StoreRefusal>
+    pub fn write(
+        &mut self,
+        number: u32,
+        cell: Cell,
+        value: Option<Holder>,
+    ) -> Result<(), StoreRefusal>
         requires can { IsTrue (can_have_at (value_at self.old.store number) cell) }
         requires few { self.old.writes < 2 ^ 63 }
         ensures full { (result ≡ Err StoreRefusal.Full)
@@ -260,7 +299,11 @@ impl Store {
           savepoints = self.old.savepoints + 1;
         } }
     {
-        push_units(&mut self.units, self.limits.savepoints, self.persistent.units());
+        push_units(
+            &mut self.units,
+            self.limits.savepoints,
+            self.persistent.units(),
+        );
         self.journal.mark(self.next);
     }
 
@@ -365,4 +408,22 @@ impl Store {
     {
         self.transient.has(number)
     }
+}
+
+impl Supers for Store {
+    ghost use Rattle.std.specs.Prelude.{option_and_then, ◌++◌};
+    ghost use Rattle.std.specs.FinMap.{keys};
+    ghost use Rattle.t3_store.specs.Value.{supers_of};
+    ghost use Rattle.t3_store.specs.Store.{value_at};
+    ghost use Rattle.t3_store.specs.Inner.Numbers.{has_number_in};
+
+    ghost supers_at = { λ s number. option_and_then supers_of (value_at s.store number) };
+
+    ghost numbers = { λ s. keys s.store.persistent ++ keys s.store.transient };
+
+    fn supers(&self, number: u32) -> Option<&[u32]> {
+        self.half(number).supers(number)
+    }
+
+    ghost covers = { λ s number live. has_number_in s.store number live };
 }

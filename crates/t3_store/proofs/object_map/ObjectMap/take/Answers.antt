@@ -7,14 +7,20 @@ use Rattle.t3_store.proofs.object_map.ObjectMap.take.Goals as goal
 
 pub overflow_sub-self : goal.overflow_sub-self
 overflow_sub-self c =
-    omega (arith, take-counted c.self.inside.entries.items _ c.args.self.now.objects c.args.number c.args.cell.now c.self.inside.units
-    (ap (λ s. s.objects) c.self.view_is) c.put-old.ensures.things c.requires.present c.self.invariant.counted)
+    omega (
+      arith,
+      take-counted c.self.inside.entries.items _ c.args.self.now.objects c.args.number c.args.cell.now c.self.inside.units
+          (ap (λ s. s.objects) c.self.view_is) c.put-old.ensures.things c.requires.present c.self.invariant.counted,
+    )
 
 pub invariant_of-self : goal.invariant_of-self
 invariant_of-self c = record {
   rising = c.put-old.ensures.rising;
-  counted = omega (arith, take-counted c.self.inside.entries.items _ c.args.self.now.objects c.args.number c.args.cell.now
-      c.self.inside.units (ap (λ s. s.objects) c.self.view_is) c.put-old.ensures.things c.requires.present c.self.invariant.counted);
+  counted = omega (
+    arith,
+    take-counted c.self.inside.entries.items _ c.args.self.now.objects c.args.number c.args.cell.now
+        c.self.inside.units (ap (λ s. s.objects) c.self.view_is) c.put-old.ensures.things c.requires.present c.self.invariant.counted,
+  );
 }
 
 pub returns-clause-changed : goal.returns-clause-changed

@@ -20,7 +20,7 @@ invariant_of-self-2 c =
     (thing_of c.args.object) (places_of c.args.object) c.self.invariant (omega arith) (omega arith) (omega arith) c.in_ok-add.ensures.ok
 
 pub returns-clause-fresh : goal.returns-clause-fresh
-returns-clause-fresh c = 
+returns-clause-fresh c =
     ap (λ s. value_at s c.self.inside.next_transient) (sym (ap (λ s. s.store) c.self.view_is))
     ∙ neither _ _ (value-none c.self.inside.persistent.objects c.self.inside.next_transient
     (c.self.invariant.numbered.persistent_below c.self.inside.next_transient
