@@ -1,0 +1,11 @@
+pub mod KindValues
+pub mod Rows
+pub mod MapValues
+pub mod Outcomes
+pub mod Counting
+pub mod Places
+pub mod Marks
+pub mod Keeping
+pub mod Changes
+pub mod PuttingBack
+pub mod Turns

@@ -1,0 +1,94 @@
+-- The newest savepoint's records put back one after another.
+use Rattle.std.proofs.Common.{◌≡◌, ◌∙◌, ap, sym, subst, refl, ℕ, ◌<◌, List, [], ◌∷◌, length, drop, Option, None, Some, arith}
+use Rattle.std.specs.Option.{option_map}
+use Rattle.std.specs.Ordering.{nat_cmp}
+use Rattle.std.specs.FinMap.{FinMap}
+use Rattle.t3_undo.specs.Content.{Places}
+use Rattle.t3_undo.specs.Objects.{Objects, OldPart, Segment, set_cell, put_back}
+use Rattle.t3_undo.specs.Journal.{Held, newest_record, but_newest_record, first}
+use Rattle.t3_store.specs.Inner.Shapes.{Shape}
+use Rattle.t3_store.specs.Inner.Store.{CanBePut, CanAllBePut, newest_records, emptied}
+use Rattle.t3_store.specs.Inner.Entries.{IsRising, things_of, places_in}
+use Rattle.t3_store.specs.declared.entries.Entry.{Entry}
+
+-- what is still to be put back leads to the same objects as all that was
+pub record IsPutting (from es : List Entry) (before now : Held) : Type 0 where
+  pub rising : IsRising es
+  pub things : put_back (things_of es) (newest_records now.segments) ≡ put_back (things_of from) (newest_records before.segments)
+  pub places : places_in es ≡ places_in from
+  pub len : length es ≡ length from
+  pub can : CanAllBePut (places_in es) (newest_records now.segments)
+  pub journal : record now { segments = emptied now.segments } ≡ record before { segments = emptied before.segments }
+
+record IsTaken (part : OldPart) (ss : List Segment) : Type 0 where
+  records : newest_records ss ≡ part ∷ newest_records (but_newest_record ss)
+  same : emptied (but_newest_record ss) ≡ emptied ss
+
+-- the newest record taken
+taken : (part : OldPart) (ss : List Segment) → Some part ≡ newest_record ss → IsTaken part ss
+taken part [] e = cc
+taken part (s ∷ ss) e = by s.records refl
+  where
+    by : (parts : List OldPart) → s.records ≡ parts → IsTaken part (s ∷ ss)
+    by [] is = let none : newest_record (s ∷ ss) ≡ None = ap first is in cc
+    by (p ∷ ps) is =
+        let some : newest_record (s ∷ ss) ≡ Some p = ap first is in
+        let same : p ≡ part = cc in
+        record { records = is ∙ (λ i. same i ∷ drop 1 (sym is i)); same = refl }
+
+pub can-first : (part : OldPart) (ss : List Segment) (places : FinMap nat_cmp Places) → Some part ≡ newest_record ss
+    → CanAllBePut places (newest_records ss) → CanBePut places part
+can-first part ss places e can = (subst (CanAllBePut places) (taken part ss e).records can).0
+
+put-next : (things : Objects Shape) (part : OldPart) (parts : List OldPart) → put_back things (part ∷ parts)
+    ≡ put_back (set_cell things part.number part.cell part.old) parts
+unfolding put_back
+put-next things part parts = refl
+
+put-none : (things : Objects Shape) → put_back things [] ≡ things
+unfolding put_back
+put-none things = refl
+
+pub putting-next : (from es new : List Entry) (before now left : Held) (part : OldPart) → IsPutting from es before now
+    → Some part ≡ newest_record now.segments → left ≡ record now { segments = but_newest_record now.segments } → IsRising new
+    → things_of new ≡ set_cell (things_of es) part.number part.cell part.old → places_in new ≡ places_in es → length new ≡ length es → IsPutting from new before left
+putting-next from es new before now left part is e moved rises things places size =
+    let t = taken part now.segments e in
+    let rest : newest_records left.segments ≡ newest_records (but_newest_record now.segments) = ap (λ (h : Held). newest_records h.segments) moved in
+    record {
+      rising = rises;
+      things = (λ i. put_back (things i) (rest i)) ∙ sym (put-next (things_of es) part (newest_records (but_newest_record now.segments)))
+          ∙ ap (put_back (things_of es)) (sym t.records) ∙ is.things;
+      places = places ∙ is.places;
+      len = size ∙ is.len;
+      can = subst (CanAllBePut (places_in new)) (sym rest) (subst (λ p. CanAllBePut p (newest_records (but_newest_record now.segments))) (sym places)
+          (subst (CanAllBePut (places_in es)) t.records is.can).1);
+      journal = ap (λ (h : Held). record h { segments = emptied h.segments }) moved ∙ (λ i. record now { segments = t.same i }) ∙ is.journal;
+    }
+
+pub fewer : (part : OldPart) (now left : Held) → Some part ≡ newest_record now.segments → left ≡ record now { segments = but_newest_record now.segments }
+    → length (newest_records left.segments) < length (newest_records now.segments)
+fewer part now left e moved =
+    let rest = ap (λ (h : Held). length (newest_records h.segments)) moved in
+    let all = ap length (taken part now.segments e).records in
+    omega arith
+
+no-record : (ss : List Segment) → None ≡ newest_record ss → newest_records ss ≡ []
+no-record [] e = refl
+no-record (s ∷ ss) e = by s.records refl
+  where
+    by : (parts : List OldPart) → s.records ≡ parts → s.records ≡ []
+    by [] is = is
+    by (p ∷ ps) is = let some : newest_record (s ∷ ss) ≡ Some p = ap first is in cc
+
+but-none : (ss : List Segment) → None ≡ newest_record ss → but_newest_record ss ≡ emptied ss
+but-none [] e = refl
+but-none (s ∷ ss) e = ap (λ (rs : List OldPart). record { next = s.next; records = drop 1 rs } ∷ ss) (no-record (s ∷ ss) e)
+
+pub put-things : (from es : List Entry) (before now : Held) → IsPutting from es before now → None ≡ newest_record now.segments
+    → things_of es ≡ put_back (things_of from) (newest_records before.segments)
+put-things from es before now is e = sym (put-none (things_of es)) ∙ ap (put_back (things_of es)) (sym (no-record now.segments e)) ∙ is.things
+
+pub put-journal : (from es : List Entry) (before now left : Held) → IsPutting from es before now → None ≡ newest_record now.segments
+    → left ≡ record now { segments = but_newest_record now.segments } → left ≡ record before { segments = emptied before.segments }
+put-journal from es before now left is e moved = moved ∙ (λ i. record now { segments = but-none now.segments e i }) ∙ is.journal

@@ -1,0 +1,13 @@
+use Rattle.std.proofs.Common.{◌≡◌, length}
+use Rattle.t3_undo.specs.Objects.{put_back}
+use Rattle.t3_undo.specs.Journal.{Held}
+use Rattle.t3_store.specs.Inner.Store.{CanAllBePut, newest_records, emptied}
+use Rattle.t3_store.specs.Inner.Entries.{IsRising, things_of, places_in}
+use Rattle.t3_store.proofs.PuttingBack.{IsPutting}
+use Rattle.t3_store.proofs.entries.put_back.Given as goal
+
+abbrev pub invariant-loop-kept : goal.invariant-loop-kept
+invariant-loop-kept l = IsPutting l.initial.entries.items l.entries.items l.initial.journal l.journal
+
+abbrev pub decreases-loop-kept : goal.decreases-loop-kept
+decreases-loop-kept l = length (newest_records l.journal.segments)

@@ -1,0 +1,15 @@
+use Rattle.std.proofs.Common.{◌∙◌, ap, sym, subst, ℕ, arith}
+use Rattle.std.specs.Ordering.{nat_cmp}
+use Rattle.std.specs.FinMap.{get, get-empty, len, len-empty}
+use Rattle.t3_store.specs.Value.{Value, Objects, units_in}
+use Rattle.t3_store.specs.Inner.Shapes.{Stored, values}
+use Rattle.t3_store.specs.Inner.Store.{IsPersistent}
+use Rattle.t3_store.proofs.MapValues.{none-persistent, values-empty}
+use Rattle.t3_store.proofs.persistent.Persistent.new.Goals as goal
+
+pub invariant_of-result : goal.invariant_of-result
+invariant_of-result c =
+    subst IsPersistent (sym (ap (λ (s : Stored). values s.objects) c.new.ensures ∙ values-empty)) none-persistent
+
+pub returns : goal.returns
+returns c = ap (λ (s : Stored). values s.objects) c.new.ensures ∙ values-empty

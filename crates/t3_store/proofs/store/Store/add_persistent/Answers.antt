@@ -1,0 +1,48 @@
+use Rattle.std.proofs.Common.{◌≡◌, ◌+◌, ◌∙◌, ap, sym, subst, true, false, Some, None, vec_capacity, nat_le, ◌^◌, leb-false, arith}
+use Rattle.std.specs.FinMap.{get, insert}
+use Rattle.t3_undo.specs.Journal.{Held}
+use Rattle.t3_store.specs.Store.{StoreValue, value_at, either, with_object}
+use Rattle.t3_store.specs.Inner.Shapes.{Stored, values, thing_of, places_of, value_of}
+use Rattle.t3_store.specs.Inner.Store.{store_of, marks_of, IsStore}
+use Rattle.t3_store.proofs.MapValues.{values-insert}
+use Rattle.t3_store.proofs.Changes.{room-for, neither}
+use Rattle.t3_store.proofs.Turns.{persistent-created, marks-created, value-none}
+use Rattle.t3_store.proofs.store.Store.add_persistent.Goals as goal
+
+pub invariant_of-self-2 : goal.invariant_of-self-2
+invariant_of-self-2 c =
+    let view = ap (λ s. s.store) c.self.view_is in
+    let room = room-for _ _ 1 c.args.units view c.requires.room in
+    let counts = c.requires.units in
+    let less = leb-false _ _ ((λ i. nat_le (2 ^ 31) (c.self.view_is i).store.next) ∙ c.requires.number) in
+    persistent-created c.self.inside.persistent c.self.inside.transient c.add.new.self c.self.inside.next c.self.inside.next_transient
+    c.self.inside.limits c.self.inside.journal c.self.inside.units.items (vec_capacity c.self.inside.units) c.self.inside.writes
+    (thing_of c.args.object) (places_of c.args.object) c.self.invariant (omega arith) (omega arith) (omega arith) c.in_ok-add.ensures.ok
+
+pub returns-clause-fresh : goal.returns-clause-fresh
+returns-clause-fresh c =
+    ap (λ s. value_at s c.self.inside.next) (sym (ap (λ s. s.store) c.self.view_is))
+    ∙ neither _ _ (value-none c.self.inside.persistent.objects c.self.inside.next
+    (c.self.invariant.numbered.persistent_below c.self.inside.next (omega arith)))
+    (value-none c.self.inside.transient.objects c.self.inside.next (c.self.invariant.numbered.transient_low c.self.inside.next (omega arith)
+    (leb-false _ _ ((λ i. nat_le (2 ^ 31) (c.self.view_is i).store.next) ∙ c.requires.number))))
+
+pub returns-clause-ok : goal.returns-clause-ok
+returns-clause-ok c =
+    let view = ap (λ s. s.store) c.self.view_is in
+    λ i. record {
+      store = ((λ k. store_of (c.in_ok-add.ensures.ok k).objects c.self.inside.transient.objects (c.self.inside.next + 1)
+          c.self.inside.next_transient c.self.inside.limits c.self.inside.journal.segments)
+          ∙ (λ k. record {
+            persistent = values-insert c.self.inside.persistent.objects c.self.inside.next (thing_of c.args.object) k;
+            transient = values c.self.inside.transient.objects;
+            next = c.self.inside.next + 1;
+            next_transient = c.self.inside.next_transient;
+            limits = c.self.inside.limits;
+            marks = marks-created c.self.inside.persistent c.self.inside.next c.self.inside.journal.segments (thing_of c.args.object)
+                c.self.invariant.sound k;
+          })
+          ∙ ap (with_object (value_of (thing_of c.args.object)) false) view) i;
+      savepoints = (c.self.view_is i).savepoints;
+      writes = (c.self.view_is i).writes;
+    }

@@ -1,0 +1,51 @@
+use Rattle.std.proofs.Common.{◌≡◌, ◌+◌, ◌∙◌, ap, sym, subst, is_some, not, Some, vec_capacity, arith}
+use Rattle.t3_undo.specs.Content.{shown}
+use Rattle.t3_undo.specs.Journal.{Held}
+use Rattle.t3_store.specs.Value.{with_cell, without_cell, holder_at, can_have_at}
+use Rattle.t3_store.specs.Store.{StoreValue, set_cell, value_at, noted, with_value}
+use Rattle.t3_store.specs.Inner.Store.{store_of, IsStore}
+use Rattle.t3_store.proofs.Changes.{held-persistent, held-transient, persistent-changed, persistent-kept, transient-kept, units-taken, taken-some}
+use Rattle.t3_store.proofs.store.Store.take.Goals as goal
+
+pub invariant_of-self-then-has : goal.invariant_of-self-then-has
+invariant_of-self-then-has c =
+    let is = c.self.invariant in
+    let counted = ap (λ s. s.writes) c.self.view_is in
+    let some = sym (ap is_some c.get.ensures) ∙ c.is_none.ensures ∙ ap not c.if-is_none.false in
+    let present = sym (ap is_some (held-persistent _ _ c.args.number c.args.cell (ap (λ s. s.store) c.self.view_is)
+    (sym c.has.ensures.value ∙ c.if-has.true))) ∙ some in
+    let less = units-taken _ _ _ _ _ c.take-old.ensures present in
+    subst (λ (j : Held). IsStore c.take-old.new.objects c.self.inside.transient c.self.inside.next c.self.inside.next_transient
+    c.self.inside.limits j c.self.inside.units.items (vec_capacity c.self.inside.units) (c.self.inside.writes + 1)) (sym c.note.ensures)
+    (persistent-kept _ _ c.self.inside.transient c.self.inside.next c.self.inside.next_transient c.self.inside.limits c.self.inside.journal
+    c.self.inside.units.items (vec_capacity c.self.inside.units) c.self.inside.writes c.args.number c.args.cell (without_cell c.args.cell) _ is
+    c.take-old.ensures (omega (arith, less, is.counted.persistent_units)) (omega (arith, counted, c.requires)))
+
+pub returns-then-has : goal.returns-then-has
+returns-then-has c =
+    let view = ap (λ s. s.store) c.self.view_is in
+    let some = sym (ap is_some c.get.ensures) ∙ c.is_none.ensures ∙ ap not c.if-is_none.false in
+    λ i. record {
+      store = (ap (λ (j : Held). store_of c.take-old.new.objects.objects c.self.inside.transient.objects c.self.inside.next
+          c.self.inside.next_transient c.self.inside.limits j.segments) c.note.ensures
+          ∙ persistent-changed c.self.inside.persistent c.take-old.new.objects c.self.inside.transient.objects c.self.inside.next
+          c.self.inside.next_transient c.self.inside.limits c.self.inside.journal.segments c.self.inside.journal.record_limit c.args.number
+          c.args.cell (without_cell c.args.cell) (shown c.take-old.result) c.take-old.ensures c.self.invariant.records
+          (sym c.has.ensures.thing ∙ c.if-has.true)
+          ∙ ap (λ (s : StoreValue). with_value c.args.number (without_cell c.args.cell) (noted c.args.number c.args.cell s)) view
+          ∙ sym (taken-some c.args.self.now.store c.args.number c.args.cell some)) i;
+      savepoints = (ap (λ (j : Held). j.marks) c.note.ensures ∙ λ k. (c.self.view_is k).savepoints) i;
+      writes = (c.self.view_is i).writes + 1;
+    }
+
+pub invariant_of-self-2 : goal.invariant_of-self-2
+invariant_of-self-2 c =
+    let is = c.self.invariant in
+    let counted = ap (λ s. s.writes) c.self.view_is in
+    let some = sym (ap is_some c.get.ensures) ∙ c.is_none.ensures ∙ ap not c.if-is_none.false in
+    let present = sym (ap is_some (held-transient _ _ c.args.number c.args.cell (ap (λ s. s.store) c.self.view_is)
+    (sym c.has.ensures.value ∙ c.if-has.false))) ∙ some in
+    let less = units-taken _ _ _ _ _ c.take-old-2.ensures present in
+    transient-kept c.self.inside.persistent _ _ c.self.inside.next c.self.inside.next_transient c.self.inside.limits c.self.inside.journal
+    c.self.inside.units.items (vec_capacity c.self.inside.units) c.self.inside.writes _ _ (without_cell c.args.cell) _ is
+    c.take-old-2.ensures (omega (arith, less, is.counted.transient_units)) (omega (arith, counted, c.requires))

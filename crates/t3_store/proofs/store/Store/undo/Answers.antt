@@ -1,0 +1,64 @@
+use Rattle.std.proofs.Common.{◌≡◌, ◌∙◌, ap, sym, subst, refl, vec_capacity}
+use Rattle.t3_undo.specs.Journal.{Held}
+use Rattle.t3_undo.specs.UndoLaw as law
+use Rattle.t3_store.specs.Store.{StoreValue, undone, is_held}
+use Rattle.t3_store.specs.Inner.Shapes.{Stored, values}
+use Rattle.t3_store.specs.Inner.Store.{store_of, marks_of, IsStore}
+use Rattle.t3_store.proofs.Marks.{values-undone, marks-undone, held-marks, marks-unheld, unheld}
+use Rattle.t3_store.proofs.Turns.{has-units, popped-units, undone-kept}
+use Rattle.t3_store.proofs.store.Store.undo.Goals as goal
+
+pub pop_units-units-requires : goal.pop_units-units-requires
+pop_units-units-requires c =
+    has-units c.self.inside.persistent.objects c.self.inside.journal.segments c.self.inside.units.items c.in-Some.next
+    (sym c.newest_next.ensures ∙ c.in-Some.is) c.self.invariant.counted.copies
+
+pub undo-requires-clause-units : goal.undo-requires-clause-units
+undo-requires-clause-units c =
+    popped-units c.self.inside.persistent.objects c.self.inside.journal.segments c.self.inside.units.items c.pop_units-units.new.units.items
+    c.in-Some.next c.pop_units-units.result (sym c.newest_next.ensures ∙ c.in-Some.is) c.self.invariant.counted.copies
+    c.pop_units-units.ensures.units
+
+pub invariant_of-self : goal.invariant_of-self
+invariant_of-self c =
+    subst (λ (j : Held). IsStore c.undo.new.self c.self.inside.transient c.self.inside.next c.self.inside.next_transient
+    c.self.inside.limits j c.pop_units-units.new.units.items (vec_capacity c.pop_units-units.new.units) c.self.inside.writes)
+    (sym c.undo.ensures.journal)
+    (undone-kept c.self.inside.persistent c.self.inside.transient c.undo.new.self c.self.inside.next c.self.inside.next_transient
+    c.self.inside.limits c.self.inside.journal c.self.inside.units.items c.pop_units-units.new.units.items _ _ c.self.inside.writes
+    c.pop_units-units.result c.in-Some.next c.self.invariant (sym c.newest_next.ensures ∙ c.in-Some.is) c.pop_units-units.ensures.units
+    c.pop_units-units.ensures.few c.pop_units-units.ensures.room c.undo.ensures.objects c.undo.ensures.fewer)
+
+pub returns-in-Some-clause-store : goal.returns-in-Some-clause-store
+returns-in-Some-clause-store c = λ i. record {
+  store = ((λ k. store_of (c.undo.ensures.objects k).objects c.self.inside.transient.objects c.self.inside.next
+      c.self.inside.next_transient c.self.inside.limits (c.undo.ensures.journal k).segments)
+      ∙ (λ k. record {
+        persistent = values-undone c.self.inside.journal.segments c.self.inside.persistent.objects k;
+        transient = values c.self.inside.transient.objects;
+        next = c.self.inside.next;
+        next_transient = c.self.inside.next_transient;
+        limits = c.self.inside.limits;
+        marks = marks-undone c.self.inside.journal.segments c.self.inside.persistent.objects k;
+      })
+      ∙ ap undone (ap (λ s. s.store) c.self.view_is)) i;
+  savepoints = (ap (λ (j : Held). j.marks) c.undo.ensures.journal ∙ λ k. (c.self.view_is k).savepoints) i;
+  writes = (c.self.view_is i).writes;
+}
+
+pub returns-in-Some-clause-answer : goal.returns-in-Some-clause-answer
+returns-in-Some-clause-answer c =
+    sym (held-marks c.self.inside.journal.segments c.self.inside.persistent.objects c.in-Some.next
+    (sym c.newest_next.ensures ∙ c.in-Some.is))
+    ∙ λ i. is_held (c.self.view_is i).store.marks
+
+pub returns-in-None-clause-store : goal.returns-in-None-clause-store
+returns-in-None-clause-store c =
+    let none = sym (λ i. (c.self.view_is i).store.marks)
+    ∙ marks-unheld c.self.inside.journal.segments c.self.inside.persistent.objects (sym c.newest_next.ensures ∙ c.in-None.is) in
+    λ i. record c.args.self.now { store = unheld c.args.self.now.store none i }
+
+pub returns-in-None-clause-answer : goal.returns-in-None-clause-answer
+returns-in-None-clause-answer c =
+    sym (ap is_held (sym (λ i. (c.self.view_is i).store.marks)
+    ∙ marks-unheld c.self.inside.journal.segments c.self.inside.persistent.objects (sym c.newest_next.ensures ∙ c.in-None.is)))

@@ -1,0 +1,5 @@
+-- What only private functions' contracts cite.
+pub mod Shapes
+pub mod Entries
+pub mod Store
+pub mod Numbers

@@ -1,0 +1,130 @@
+-- How a store's objects and journal are the value that contracts see, and what stays true of them.
+use Rattle.std.specs.Prelude.{◌≡◌, ◌<◌, ◌≤◌, ◌^◌, ℕ, ◌+◌, List, [], ◌∷◌, ◌++◌, Option, None, map, length, reverse, IsTrue}
+use Rattle.std.specs.List.{AllByRecursion}
+use Rattle.std.specs.Ordering.{nat_cmp}
+use Rattle.std.specs.FinMap.{FinMap, get, len}
+use Rattle.t3_undo.specs.Content.{Places, Present, is_form}
+use Rattle.t3_undo.specs.Objects.{Objects, OldPart, Segment, set_cell, adjust, part_at, before}
+use Rattle.t3_undo.specs.Journal.{Held}
+use Rattle.t3_undo.specs.declared.cell.Cell.{Cell}
+use Rattle.t3_store.specs.Value.{Value, units_in}
+use Rattle.t3_store.specs.Value.{Objects as Values}
+use Rattle.t3_store.specs.Store.{Mark, StoreValue, AreLimits}
+use Rattle.t3_store.specs.Inner.Shapes.{Shape, Stored, values, has_place}
+use Rattle.t3_store.specs.declared.limits.StoreLimits.{StoreLimits}
+
+-- which cell of which object a record is of
+abbrev pub change_of : OldPart → ℕ × Cell
+change_of part = (part.number, part.cell)
+
+-- the held savepoints as whole copies, each from the next newer one: old contents are put back, segment after segment
+unfoldable pub marks_of : Objects Shape → List Segment → List Mark
+marks_of things [] = []
+marks_of things (segment ∷ segments) =
+    record { copy = values (before things segment); next = segment.next; changed = map change_of segment.records }
+    ∷ marks_of (before things segment) segments
+
+-- the store that the halves, the next numbers, the limits and the journal's segments are
+abbrev pub store_of : Objects Shape → Objects Shape → ℕ → ℕ → StoreLimits → List Segment → StoreValue
+store_of persistent transient next next_transient limits segments = record {
+  persistent = values persistent;
+  transient = values transient;
+  next = next;
+  next_transient = next_transient;
+  limits = limits;
+  marks = marks_of persistent segments;
+}
+
+-- a record can be put back: its object has a place for the cell, and the content is of the cell's form
+pub record CanBePut (places : FinMap nat_cmp Places) (part : OldPart) : Type 0 where
+  pub placed : IsTrue (has_place places part.number part.cell)
+  pub formed : IsTrue (is_form part.cell part.old)
+
+-- all of these can
+abbrev pub CanAllBePut : FinMap nat_cmp Places → List OldPart → Type 0
+CanAllBePut places parts = AllByRecursion (CanBePut places) parts
+
+-- the records of the newest segment
+abbrev pub newest_records : List Segment → List OldPart
+newest_records [] = []
+newest_records (segment ∷ segments) = segment.records
+
+-- the newest segment without its records
+abbrev pub emptied : List Segment → List Segment
+emptied [] = []
+emptied (segment ∷ segments) = record { next = segment.next; records = [] } ∷ segments
+
+-- the segments can be put back one after another: next numbers don't rise towards the older ones, and each record is of
+-- an object older than its savepoint
+abbrev pub IsSound : FinMap nat_cmp Places → ℕ → List Segment → Type 0
+IsSound places top [] = Unit {0}
+IsSound places top (segment ∷ segments) =
+    (segment.next ≤ top) × AllByRecursion (λ part. part.number < segment.next) segment.records
+    × CanAllBePut places segment.records × IsSound places segment.next segments
+
+-- no place is lost
+abbrev pub AreKept : FinMap nat_cmp Places → FinMap nat_cmp Places → Type 0
+AreKept old new = (number : ℕ) (cell : Cell) → IsTrue (has_place old number cell) → IsTrue (has_place new number cell)
+
+-- an object has a place for a cell, and no place was lost for it
+pub record IsReady (old new : Stored) (number : ℕ) (cell : Cell) : Type 0 where
+  pub same : new.objects ≡ old.objects
+  pub kept : AreKept old.places new.places
+  pub placed : IsTrue (has_place new.places number cell)
+
+-- a cell of an object was set or taken away, where this stood
+pub record IsWritten (old new : Stored) (number : ℕ) (cell : Cell) (change : Value → Value) (was : Option Present) : Type 0 where
+  pub content : Option Present
+  pub objects : new.objects ≡ set_cell old.objects number cell content
+  pub values : values new.objects ≡ adjust (values old.objects) number change
+  pub kept : AreKept old.places new.places
+  pub placed : IsTrue (has_place new.places number cell)
+  pub stood : was ≡ part_at old.objects number cell
+  pub formed : IsTrue (is_form cell was)
+
+-- objects have numbers that were given: persistent ones below the next number, transient ones below it too, or from
+-- 2^31 on and below the next transient number
+pub record AreNumbered (persistent transient : Objects Shape) (next next_transient : ℕ) : Type 0 where
+  pub persistent_below : (q : ℕ) → next ≤ q → get persistent q ≡ None
+  pub transient_low : (q : ℕ) → next ≤ q → q < 2 ^ 31 → get transient q ≡ None
+  pub transient_high : (q : ℕ) → next_transient ≤ q → get transient q ≡ None
+  pub next_fits : next ≤ 2 ^ 31
+  pub transient_from : 2 ^ 31 ≤ next_transient
+  pub transient_fits : next_transient ≤ 2 ^ 32
+
+-- the first list is a front of the second
+pub record IsFront (front whole : List ℕ) : Type 0 where
+  pub rest : List ℕ
+  pub is : whole ≡ front ++ rest
+
+-- how many units each savepoint's copy counts
+abbrev pub saved_units : List Mark → List ℕ
+saved_units marks = map (λ mark. units_in mark.copy) marks
+
+-- the sums are within the limits, each half's by itself and each savepoint's too; and the units of the savepoints are
+-- kept, the newest last
+pub record AreCounted (persistent transient : Objects Shape) (limits : StoreLimits) (marks : List Mark) (units : List ℕ) (room : ℕ) : Type 0 where
+  pub objects : len (values persistent) + len (values transient) ≤ limits.objects
+  pub persistent_units : units_in (values persistent) ≤ limits.units
+  pub transient_units : units_in (values transient) ≤ limits.units
+  pub copies : IsFront (saved_units marks) (reverse units)
+  pub each : AllByRecursion (λ count. count ≤ limits.units) (reverse units)
+  pub few : length units ≤ limits.savepoints
+  pub fits : limits.savepoints ≤ room
+
+-- what stays true of a store
+pub record IsStore (persistent transient : Stored) (next next_transient : ℕ) (limits : StoreLimits) (journal : Held) (units : List ℕ)
+    (room writes : ℕ) : Type 0 where
+  pub bounded : AreLimits limits
+  pub records : journal.record_limit ≡ limits.records
+  pub savepoints : journal.mark_limit ≡ limits.savepoints
+  pub numbered : AreNumbered persistent.objects transient.objects next next_transient
+  pub sound : IsSound persistent.places next journal.segments
+  pub counted : AreCounted persistent.objects transient.objects limits (marks_of persistent.objects journal.segments) units room
+  pub few_writes : writes ≤ 2 ^ 63
+
+-- numbers are below 2^31, and the sums are no greater than they may be
+pub record IsPersistent (objects : Values) : Type 0 where
+  pub numbered : (q : ℕ) → 2 ^ 31 ≤ q → get objects q ≡ None
+  pub few : len objects ≤ 1048576
+  pub few_units : units_in objects ≤ 4194304

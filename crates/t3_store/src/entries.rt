@@ -1,0 +1,212 @@
+//! Objects in a row, by rising number.
+ghost use Rattle.std.specs.Prelude.{◌≡◌, ◌<◌, ◌≤◌, ◌++◌, [], ◌∷◌, ℕ, length, take, drop, slice_get, IsTrue, IsSome, IfSome, IfOk, None, OnOk, OnErr, option_map, map};
+ghost use Rattle.std.specs.FinMap.{get, insert};
+ghost use Rattle.std.specs.List.{AllWithin};
+ghost use Rattle.t3_undo.specs.Content.{shown, is_form};
+ghost use Rattle.t3_undo.specs.Objects.{part_at, set_cell, adjust, below, put_back};
+ghost use Rattle.t3_undo.specs.Journal.{old_of};
+ghost use Rattle.t3_store.specs.Inner.Store.{CanBePut, CanAllBePut, newest_records, emptied};
+ghost use Rattle.t3_store.specs.Value.{holder_at, can_have_at, with_cell};
+ghost use Rattle.t3_store.specs.Inner.Shapes.{thing_of, places_of, value_of, values, has_place, with_place, places_below};
+ghost use Rattle.t3_store.specs.Inner.Entries.{IsRising, index_of, is_numbered, object_at, things_of, places_in, keyed, IsFirstFrom};
+
+use crate::object::Object;
+use std::alloc::Global;
+use t3_holder::{Holder, NoMemory};
+use t3_undo::{Cell, Content, Journal, Kept};
+
+/// An object and its number.
+#[derive(Drop)]
+pub(crate) struct Entry {
+    pub(crate) number: u32,
+    pub(crate) object: Object,
+}
+
+/// Where the object of a number stands. Where numbers have no gaps it is found at once, and else by halves.
+pub(crate) fn index_of(entries: &[Entry], number: u32) -> Option<usize>
+    requires { IsRising entries.now }
+    ensures index { result ≡ index_of number entries.now }
+    ensures bound { IfSome result (λ index. index < length entries.now) }
+{
+    let index = likely_index(entries, number);
+    if is_at(entries, index, number) {
+        return Some(index);
+    }
+    let index = bound_of(entries, number);
+    if is_at(entries, index, number) {
+        return Some(index);
+    }
+    None
+}
+
+/// Where the object stands if no number is missing between the first and it.
+fn likely_index(entries: &[Entry], number: u32) -> usize {
+    match entries.first() {
+        Some(first) => number.saturating_sub(first.number) as usize,
+        None => 0,
+    }
+}
+
+/// Whether the object of that number stands there.
+fn is_at(entries: &[Entry], index: usize, number: u32) -> bool
+    ensures { result ≡ is_numbered number (slice_get entries.now index) }
+{
+    match entries.get(index) {
+        Some(entry) => entry.number == number,
+        None => false,
+    }
+}
+
+/// How many objects have smaller numbers.
+pub(crate) fn bound_of(entries: &[Entry], number: u32) -> usize
+    requires { IsRising entries.now }
+    ensures bound { result ≤ length entries.now }
+    ensures below { AllWithin (λ entry. entry.number < number) entries.now 0 result }
+    ensures above { AllWithin (λ entry. number ≤ entry.number) entries.now result (length entries.now) }
+{
+    entries.partition_point(|entry| entry.number < number)
+}
+
+/// The object of a number.
+pub(crate) fn object_at(entries: &[Entry], number: u32) -> Option<&Object>
+    requires { IsRising entries.now }
+    ensures { option_map (λ object. object.now) result ≡ object_at number entries.now }
+{
+    match index_of(entries, number) {
+        Some(index) => Some(&entries[index].object),
+        None => None,
+    }
+}
+
+/// What stands in a cell of an object once it is set to a value.
+pub(crate) fn content_with(entries: &[Entry], number: u32, cell: &Cell, value: Holder) -> Content
+    requires rising { IsRising entries.now }
+    requires can { IsTrue (can_have_at (get (values (things_of entries.now)) number) cell.now) }
+    ensures form { IsTrue (is_form cell.now (shown result)) }
+    ensures set { values (set_cell (things_of entries.now) number cell.now (shown result))
+        ≡ adjust (values (things_of entries.now)) number (with_cell cell.now value) }
+{
+    match object_at(entries, number) {
+        Some(object) => object.content_with(cell, value),
+        None => Content::Absent,
+    }
+}
+
+/// Sets a cell of an object, and hands out what stood there. No memory is taken.
+pub(crate) fn put(entries: &mut Vec<Entry>, number: u32, cell: &Cell, content: Content) -> Content
+    requires rising { IsRising entries.old.items }
+    requires place { IsTrue (has_place (places_in entries.old.items) number cell.now) }
+    requires form { IsTrue (is_form cell.now (shown content)) }
+    ensures rising { IsRising entries.new.items }
+    ensures things { things_of entries.new.items
+        ≡ set_cell (things_of entries.old.items) number cell.now (shown content) }
+    ensures places { places_in entries.new.items ≡ places_in entries.old.items }
+    ensures len { length entries.new.items ≡ length entries.old.items }
+    ensures old { shown result ≡ part_at (things_of entries.old.items) number cell.now }
+    ensures formed { IsTrue (is_form cell.now (shown result)) }
+{
+    match index_of(entries, number) {
+        Some(index) => entries[index].object.put(cell, content),
+        None => content,
+    }
+}
+
+/// Makes a place for a cell of an object, which stays as it is.
+pub(crate) fn make_place(entries: &mut Vec<Entry>, number: u32, cell: Cell) -> Result<(), NoMemory>
+    requires rising { IsRising entries.old.items }
+    requires can { IsTrue (can_have_at (get (values (things_of entries.old.items)) number) cell) }
+    ensures rising { IsRising entries.new.items }
+    ensures things { things_of entries.new.items ≡ things_of entries.old.items }
+    ensures ok { OnOk result (places_in entries.new.items ≡ with_place number cell (places_in entries.old.items)) }
+    ensures placed { OnOk result (IsTrue (has_place (places_in entries.new.items) number cell)) }
+    ensures err { OnErr result (places_in entries.new.items ≡ places_in entries.old.items) }
+{
+    match index_of(entries, number) {
+        Some(index) => entries[index].object.make_place(cell),
+        None => Ok(()),
+    }
+}
+
+/// Adds an object under a number that no other has.
+pub(crate) fn add(entries: &mut Vec<Entry>, number: u32, object: Object) -> Result<(), NoMemory>
+    requires rising { IsRising entries.old.items }
+    requires new { get (things_of entries.old.items) number ≡ None }
+    ensures rising { IsRising entries.new.items }
+    ensures ok { OnOk result (things_of entries.new.items
+        ≡ insert (things_of entries.old.items) number (thing_of object)) }
+    ensures places { OnOk result (places_in entries.new.items
+        ≡ insert (places_in entries.old.items) number (places_of object)) }
+    ensures err { OnErr result (entries.new.items ≡ entries.old.items) }
+{
+    let index = bound_of(entries, number);
+    entries.insert(index, Entry { number, object })?;
+    Ok(())
+}
+
+/// Takes away the objects numbered from `next` on.
+pub(crate) fn cut(entries: &mut Vec<Entry>, next: u32)
+    requires { IsRising entries.old.items }
+    ensures rising { IsRising entries.new.items }
+    ensures things { things_of entries.new.items ≡ below next (things_of entries.old.items) }
+    ensures places { places_in entries.new.items ≡ places_below next (places_in entries.old.items) }
+    ensures len { length entries.new.items ≤ length entries.old.items }
+{
+    let bound = bound_of(entries, next);
+    entries.truncate(bound);
+}
+
+/// Puts back what stood in the cells of the newest savepoint's records. No memory is taken.
+pub(crate) fn put_back(entries: &mut Vec<Entry>, journal: &mut Journal)
+    requires rising { IsRising entries.old.items }
+    requires can { CanAllBePut (places_in entries.old.items) (newest_records journal.old.segments) }
+    ensures rising { IsRising entries.new.items }
+    ensures things { things_of entries.new.items
+        ≡ put_back (things_of entries.old.items) (newest_records journal.old.segments) }
+    ensures places { places_in entries.new.items ≡ places_in entries.old.items }
+    ensures len { length entries.new.items ≡ length entries.old.items }
+    ensures journal { journal.new ≡ record journal.old { segments = emptied journal.old.segments } }
+{
+    while let Some(kept) = journal.take_kept() {
+        put_kept(entries, kept);
+    }
+}
+
+/// Puts back what stood in a cell.
+fn put_kept(entries: &mut Vec<Entry>, kept: Kept)
+    requires rising { IsRising entries.old.items }
+    requires can { CanBePut (places_in entries.old.items) (old_of kept) }
+    ensures rising { IsRising entries.new.items }
+    ensures things { things_of entries.new.items
+        ≡ set_cell (things_of entries.old.items) kept.number kept.cell (shown kept.old) }
+    ensures places { places_in entries.new.items ≡ places_in entries.old.items }
+    ensures len { length entries.new.items ≡ length entries.old.items }
+{
+    let _changed = put(entries, kept.number, &kept.cell, kept.old);
+}
+
+/// The least number of an object from this one on.
+pub(crate) fn number_from(entries: &[Entry], least: u32) -> Option<u32>
+    requires { IsRising entries.now }
+    ensures { IsFirstFrom (things_of entries.now) least result }
+{
+    let index = bound_of(entries, least);
+    if index < entries.len() {
+        Some(entries[index].number)
+    } else {
+        None
+    }
+}
+
+/// The same objects, with a place for each present cell alone.
+pub(crate) fn copy_all(alloc: Global, entries: &[Entry]) -> Result<Vec<Entry>, NoMemory>
+    ensures { IfOk result (λ copy. map keyed copy.items ≡ map keyed entries.now) }
+{
+    let mut copy = Vec::with_capacity(alloc, entries.len())?;
+    for entry in entries {
+        copy.push(Entry {
+            number: entry.number,
+            object: entry.object.copy(alloc)?,
+        })?;
+    }
+    Ok(copy)
+}

@@ -1,0 +1,237 @@
+ghost use Rattle.std.specs.Prelude.{◌≡◌, ◌+◌, ◌<◌, ◌≤◌, ◌^◌, Some, None, IsTrue, IsSome, IfOk, OnOk, OnErr, is_some, option_map, option_and_then, drop, map};
+ghost use Rattle.std.specs.List.Sorted.{IsStrictlyIncreasing};
+ghost use Rattle.std.specs.FinMap as finite;
+ghost use Rattle.std.specs.FinMap.{get, insert, entries};
+ghost use Rattle.t3_undo.specs.Content.{shown, is_form};
+ghost use Rattle.t3_undo.specs.Objects.{part_at};
+ghost use Rattle.t3_store.specs.Value.{holder_at, can_have_at, with_cell, without_cell, cell_units, units_of, units_in, kind_of, supers_of, is_class_at, props_at, IsNextAbove};
+ghost use Rattle.t3_store.specs.Inner.Shapes.{thing_of, places_of, value_of, values, has_place, with_place, places_below, IsChanged};
+ghost use Rattle.t3_store.specs.Inner.Store.{CanAllBePut, newest_records};
+ghost use Rattle.t3_undo.specs.Journal.{newest_next};
+ghost use Rattle.t3_undo.specs.UndoLaw.{undone};
+
+use crate::entries::{
+    Entry, add, content_with, copy_all, cut, make_place, number_from, object_at, put, put_back,
+};
+use crate::kind::Kind;
+use crate::object::Object;
+use std::alloc::Global;
+use std::marker::Model;
+use t3_holder::{Holder, NoMemory};
+use t3_tadsobj::Props;
+use t3_undo::{Cell, Content, Journal};
+
+/// Objects by their numbers, and how many units they count together.
+#[derive(Drop)]
+pub(crate) struct ObjectMap {
+    entries: Vec<Entry>,
+    units: u32,
+}
+
+impl Model for ObjectMap {
+    ghost use Rattle.t3_store.specs.Inner.Shapes.{Stored, coded_stored};
+
+    ghost Value = { Stored };
+
+    ghost coded = { coded_stored };
+
+    ghost use Rattle.t3_store.specs.Inner.Entries.{things_of, places_in, IsObjectMap};
+
+    ghost view = { λ m. record { objects = things_of m.entries.items; places = places_in m.entries.items } };
+
+    ghost invariant = { λ m. IsObjectMap m.entries.items m.units };
+}
+
+impl ObjectMap {
+    /// No objects. Takes no memory.
+    pub(crate) fn new(alloc: Global) -> ObjectMap
+        ensures { result ≡ record { objects = finite.empty; places = finite.empty } }
+    {
+        ObjectMap {
+            entries: Vec::new(alloc),
+            units: 0,
+        }
+    }
+
+    /// The object of a number.
+    pub(crate) fn object(&self, number: u32) -> Option<&Object>
+        ensures thing { option_map (λ object. thing_of object.now) result ≡ get self.now.objects number }
+        ensures places { option_map (λ object. places_of object.now) result ≡ get self.now.places number }
+    {
+        object_at(&self.entries, number)
+    }
+
+    /// Whether there is an object of that number.
+    pub(crate) fn has(&self, number: u32) -> bool
+        ensures thing { result ≡ is_some (get self.now.objects number) }
+        ensures value { result ≡ is_some (get (values self.now.objects) number) }
+    {
+        self.object(number).is_some()
+    }
+
+    /// What stands in a cell of an object.
+    pub(crate) fn get(&self, number: u32, cell: &Cell) -> Content
+        ensures content { shown result ≡ part_at self.now.objects number cell.now }
+        ensures value { option_map (λ present. present.value) (shown result)
+            ≡ holder_at (get (values self.now.objects) number) cell.now }
+        ensures placed { IsSome (shown result) → IsTrue (has_place self.now.places number cell.now) }
+    {
+        match self.object(number) {
+            Some(object) => object.get(cell),
+            None => Content::Absent,
+        }
+    }
+
+    /// Sets a cell of an object, and hands out what stood there. No memory is taken.
+    pub(crate) fn set(&mut self, number: u32, cell: &Cell, value: Holder) -> Content
+        requires place { IsTrue (has_place self.old.places number cell.now) }
+        requires can { IsTrue (can_have_at (get (values self.old.objects) number) cell.now) }
+        requires room { holder_at (get (values self.old.objects) number) cell.now ≡ None
+            → units_in (values self.old.objects) + cell_units cell.now < 2 ^ 32 }
+        ensures changed { IsChanged self.old self.new number cell.now (with_cell cell.now value) }
+        ensures old { shown result ≡ part_at self.old.objects number cell.now }
+        ensures formed { IsTrue (is_form cell.now (shown result)) }
+    {
+        let content = content_with(&self.entries, number, cell, value);
+        let old = put(&mut self.entries, number, cell, content);
+        if !old.is_present() {
+            self.units += 1;
+        }
+        old
+    }
+
+    /// Takes a present cell of an object away, and hands out what stood there. No memory is taken.
+    pub(crate) fn take(&mut self, number: u32, cell: &Cell) -> Content
+        requires place { IsTrue (has_place self.old.places number cell.now) }
+        requires present { IsSome (holder_at (get (values self.old.objects) number) cell.now) }
+        ensures changed { IsChanged self.old self.new number cell.now (without_cell cell.now) }
+        ensures old { shown result ≡ part_at self.old.objects number cell.now }
+        ensures formed { IsTrue (is_form cell.now (shown result)) }
+    {
+        let old = put(&mut self.entries, number, cell, Content::Absent);
+        self.units -= 1;
+        old
+    }
+
+    /// Makes a place for a cell of an object, which stays as it is.
+    pub(crate) fn make_place(&mut self, number: u32, cell: Cell) -> Result<(), NoMemory>
+        requires { IsTrue (can_have_at (get (values self.old.objects) number) cell) }
+        ensures ok { OnOk result (self.new ≡ record self.old { places = with_place number cell self.old.places }) }
+        ensures placed { OnOk result (IsTrue (has_place self.new.places number cell)) }
+        ensures err { OnErr result (self.new ≡ self.old) }
+    {
+        make_place(&mut self.entries, number, cell)?;
+        Ok(())
+    }
+
+    /// Adds an object, which counts so many units, under a number that no other has.
+    pub(crate) fn add(&mut self, number: u32, object: Object, units: u32) -> Result<(), NoMemory>
+        requires new { get self.old.objects number ≡ None }
+        requires units { units ≡ units_of (value_of (thing_of object)) }
+        requires room { units_in (values self.old.objects) + units < 2 ^ 32 }
+        ensures ok { OnOk result (self.new ≡ record {
+          objects = insert self.old.objects number (thing_of object);
+          places = insert self.old.places number (places_of object);
+        }) }
+        ensures err { OnErr result (self.new ≡ self.old) }
+    {
+        add(&mut self.entries, number, object)?;
+        self.units += units;
+        Ok(())
+    }
+
+    /// The objects as they were at the newest savepoint, which ends: what stood in its records is put back,
+    /// and what was made since is taken away. They count so many units then. No memory is taken.
+    pub(crate) fn undo(&mut self, journal: &mut Journal, next: u32, units: u32)
+        requires can { CanAllBePut self.old.places (newest_records journal.old.segments) }
+        requires next { newest_next journal.old.segments ≡ Some next }
+        requires units { units ≡ units_in (values (undone self.old.objects journal.old.segments)) }
+        ensures objects { self.new ≡ record {
+          objects = undone self.old.objects journal.old.segments;
+          places = places_below next self.old.places;
+        } }
+        ensures fewer { finite.len (values self.new.objects) ≤ finite.len (values self.old.objects) }
+        ensures journal { journal.new ≡ record journal.old { segments = drop 1 journal.old.segments } }
+    {
+        put_back(&mut self.entries, journal);
+        cut(&mut self.entries, next);
+        self.units = units;
+        let _ended = journal.take_mark();
+    }
+
+    /// The least number above this one.
+    pub(crate) fn after(&self, number: u32) -> Option<u32>
+        requires { number + 1 < 2 ^ 32 }
+        ensures { IsNextAbove (values self.now.objects) number result }
+    {
+        number_from(&self.entries, number + 1)
+    }
+
+    /// The same objects, with a place for each present cell alone.
+    pub(crate) fn copy(&self, alloc: Global) -> Result<ObjectMap, NoMemory>
+        ensures { IfOk result (λ copy. copy.objects ≡ self.now.objects) }
+    {
+        let entries = copy_all(alloc, &self.entries)?;
+        Ok(ObjectMap {
+            entries,
+            units: self.units,
+        })
+    }
+
+    /// What the object of a number is.
+    pub(crate) fn kind(&self, number: u32) -> Option<Kind>
+        ensures { result ≡ option_map kind_of (get (values self.now.objects) number) }
+    {
+        match self.object(number) {
+            Some(object) => Some(object.kind()),
+            None => None,
+        }
+    }
+
+    /// The superclasses of a tads-object.
+    pub(crate) fn supers(&self, number: u32) -> Option<&[u32]>
+        ensures { option_map (λ supers. supers.now) result
+            ≡ option_and_then supers_of (get (values self.now.objects) number) }
+    {
+        match self.object(number) {
+            Some(object) => object.supers(),
+            None => None,
+        }
+    }
+
+    /// Whether the object of a number is a class.
+    pub(crate) fn is_class(&self, number: u32) -> bool
+        ensures { result ≡ is_class_at (get (values self.now.objects) number) }
+    {
+        match self.object(number) {
+            Some(object) => object.is_class(),
+            None => false,
+        }
+    }
+
+    /// The properties of a tads-object with their values, by rising number.
+    pub(crate) fn props(&self, alloc: Global, number: u32) -> Result<Props, NoMemory>
+        ensures props { IfOk result (λ props. map (λ prop. (prop.number, prop.value)) props
+            ≡ entries (props_at (get (values self.now.objects) number))) }
+        ensures rising { IfOk result (λ props. IsStrictlyIncreasing (map (λ prop. prop.number) props)) }
+    {
+        match self.object(number) {
+            Some(object) => object.props(alloc),
+            None => Ok(Props(Vec::new(alloc))),
+        }
+    }
+
+    /// How many objects there are.
+    pub(crate) fn len(&self) -> u64
+        ensures { result ≡ finite.len (values self.now.objects) }
+    {
+        self.entries.len() as u64
+    }
+
+    /// How many units they count together.
+    pub(crate) fn units(&self) -> u32
+        ensures { result ≡ units_in (values self.now.objects) }
+    {
+        self.units
+    }
+}

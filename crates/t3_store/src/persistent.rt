@@ -1,0 +1,158 @@
+ghost use Rattle.std.specs.Prelude.{◌≡◌, ◌+◌, ◌<◌, ◌≤◌, ◌^◌, ◌↔◌, ◌||◌, None, Err, IsTrue, IsSome, IfOk, OnOk, OnErr, is_some, nat_lt, option_map, option_and_then, map};
+ghost use Rattle.std.specs.List.Sorted.{IsStrictlyIncreasing};
+ghost use Rattle.std.specs.FinMap as finite;
+ghost use Rattle.std.specs.FinMap.{get, insert, len, entries};
+ghost use Rattle.t3_store.specs.Value.{is_past, holder_at, kind_of, supers_of, is_class_at, props_at, units_of, units_in, new_value, IsNextAbove};
+ghost use Rattle.t3_store.specs.Inner.Shapes.{values};
+
+use crate::kind::Kind;
+use crate::limits::StoreRefusal;
+use crate::new_object::NewObject;
+use crate::object_map::ObjectMap;
+use std::alloc::Global;
+use std::marker::Model;
+use t3_holder::{Holder, NoMemory};
+use t3_tadsobj::{Props, Supers};
+use t3_undo::Cell;
+
+/// How many objects and units there are at most.
+const MOST_OBJECTS: u64 = 1_048_576;
+
+const MOST_UNITS: u64 = 4_194_304;
+
+/// Objects by their numbers, as an image brings them or a state is saved. Contracts see a finite map from
+/// numbers to values.
+#[derive(Drop)]
+pub struct Persistent {
+    alloc: Global,
+    objects: ObjectMap,
+}
+
+impl Model for Persistent {
+    ghost use Rattle.t3_store.specs.Value.{Objects, coded_objects};
+
+    ghost Value = { Objects };
+
+    ghost coded = { coded_objects };
+
+    ghost use Rattle.t3_store.specs.Inner.Shapes.{values};
+    ghost use Rattle.t3_store.specs.Inner.Store.{IsPersistent};
+
+    ghost view = { λ p. values p.objects.objects };
+
+    ghost invariant = { λ p. IsPersistent (values p.objects.objects) };
+}
+
+impl Persistent {
+    /// No objects. Takes no memory.
+    pub fn new(alloc: Global) -> Persistent
+        ensures { result ≡ finite.empty }
+    {
+        Persistent {
+            alloc,
+            objects: ObjectMap::new(alloc),
+        }
+    }
+
+    /// Adds an object under a number that no other has. `Full` comes exactly where there would be more than
+    /// 1,048,576 objects, or more than 4,194,304 units.
+    pub fn add(&mut self, number: u32, what: NewObject) -> Result<(), StoreRefusal>
+        requires number { (0 < number) × (number < 2 ^ 31) }
+        requires new { get self.old number ≡ None }
+        ensures full { (result ≡ Err StoreRefusal.Full)
+            ↔ IsTrue (is_past self.old (units_of (new_value what))) }
+        ensures ok { OnOk result (self.new ≡ insert self.old number (new_value what)) }
+        ensures err { OnErr result (self.new ≡ self.old) }
+    {
+        let units = what.units();
+        if is_past(&self.objects, units) {
+            return Err(StoreRefusal::Full);
+        }
+        let object = what.make(self.alloc)?;
+        self.objects.add(number, object, units as u32)?;
+        Ok(())
+    }
+
+    /// The least object number above this one. `None` exactly where no object has a greater number.
+    pub fn after(&self, number: u32) -> Option<u32>
+        ensures { IsNextAbove self.now number result }
+    {
+        let objects = &self.objects;
+        if number >= 0x7FFF_FFFF {
+            return None;
+        }
+        objects.after(number)
+    }
+
+    /// An equal map.
+    pub fn copy(&self, alloc: Global) -> Result<Persistent, NoMemory>
+        ensures { IfOk result (λ copy. copy ≡ self.now) }
+    {
+        let objects = self.objects.copy(alloc)?;
+        Ok(Persistent { alloc, objects })
+    }
+
+    /// What stands in a cell of an object.
+    pub fn get(&self, number: u32, cell: &Cell) -> Option<Holder>
+        ensures { result ≡ holder_at (get self.now number) cell.now }
+    {
+        self.objects.get(number, cell).value()
+    }
+
+    /// What the object of a number is.
+    pub fn kind(&self, number: u32) -> Option<Kind>
+        ensures { result ≡ option_map kind_of (get self.now number) }
+    {
+        self.objects.kind(number)
+    }
+
+    /// Whether the object of a number is a class.
+    pub fn is_class(&self, number: u32) -> bool
+        ensures { result ≡ is_class_at (get self.now number) }
+    {
+        self.objects.is_class(number)
+    }
+
+    /// The properties of a tads-object with their values, by rising number.
+    pub fn props(&self, alloc: Global, number: u32) -> Result<Props, NoMemory>
+        requires { IsSome (option_and_then supers_of (get self.now number)) }
+        ensures props { IfOk result (λ props. map (λ prop. (prop.number, prop.value)) props
+            ≡ entries (props_at (get self.now number))) }
+        ensures rising { IfOk result (λ props. IsStrictlyIncreasing (map (λ prop. prop.number) props)) }
+    {
+        self.objects.props(alloc, number)
+    }
+
+    /// The objects themselves.
+    pub(crate) fn into_map(self) -> ObjectMap
+        ensures { values result.objects ≡ self }
+    {
+        let Persistent { alloc: _, objects } = self;
+        objects
+    }
+}
+
+impl Supers for Persistent {
+    ghost use Rattle.std.specs.Prelude.{option_and_then};
+    ghost use Rattle.std.specs.FinMap.{get, keys};
+    ghost use Rattle.t3_store.specs.Value.{supers_of};
+    ghost use Rattle.t3_store.specs.Inner.Numbers.{has_number};
+
+    ghost supers_at = { λ p number. option_and_then supers_of (get p number) };
+
+    ghost numbers = { λ p. keys p };
+
+    fn supers(&self, number: u32) -> Option<&[u32]> {
+        self.objects.supers(number)
+    }
+
+    ghost covers = { λ p number live. has_number p number live };
+}
+
+/// Whether a further object that counts so many units would be more than there may be.
+fn is_past(objects: &ObjectMap, units: u64) -> bool
+    ensures { result ≡ is_past (values objects.now.objects) units }
+{
+    let sum = u64::from(objects.units());
+    objects.len() >= MOST_OBJECTS || sum > MOST_UNITS || units > MOST_UNITS - sum
+}
