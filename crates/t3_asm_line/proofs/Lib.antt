@@ -1,1 +1,3 @@
 pub mod Clipping
+pub mod TextSteps
+pub mod WordSteps

@@ -1,6 +1,6 @@
 //! The words of a line.
-ghost use Rattle.std.specs.Prelude.{◌≡◌, ◌++◌, IfOk, map};
-ghost use Rattle.t3_asm_line.specs.Words.{mode_behind, is_plain, closed, words_of};
+ghost use Rattle.std.specs.Prelude.{◌≡◌, ◌==◌, ◌&&◌, ◌++◌, IfOk, map};
+ghost use Rattle.t3_asm_line.specs.Words.{mode_behind, is_plain as plain, closed, words_of};
 
 use std::alloc::Global;
 use t3_holder::NoMemory;
@@ -26,9 +26,23 @@ pub enum Mode {
 
 impl Mode {
     fn is_plain(self) -> bool
-        ensures { result ≡ is_plain self }
+        ensures { result ≡ plain self }
     {
         matches!(self, Mode::Plain)
+    }
+
+    /// Whether a byte that is read so begins a comment.
+    fn ends_line(self, byte: u8) -> bool
+        ensures { result ≡ (plain self && byte == 59) }
+    {
+        self.is_plain() && byte == COMMENT
+    }
+
+    /// Whether a byte that is read so parts two words.
+    fn ends_word(self, byte: u8) -> bool
+        ensures { result ≡ (plain self && byte == 32) }
+    {
+        self.is_plain() && byte == SPACE
     }
 
     /// How the byte behind this one is read.
@@ -53,11 +67,11 @@ pub(crate) fn words<'s>(alloc: Global, line: &'s [u8]) -> Result<Vec<&'s [u8]>, 
     let mut start = 0;
     for at in 0..line.len() {
         let byte = line[at];
-        if mode.is_plain() && byte == COMMENT {
+        if mode.ends_line(byte) {
             push_word(&mut words, &line[start..at])?;
             return Ok(words);
         }
-        if mode.is_plain() && byte == SPACE {
+        if mode.ends_word(byte) {
             push_word(&mut words, &line[start..at])?;
             start = at + 1;
         } else {
