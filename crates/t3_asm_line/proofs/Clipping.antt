@@ -1,7 +1,7 @@
 -- Numbers that are clipped.
-use Rattle.std.proofs.Common.{◌≡◌, ℕ, zero, suc, ◌+◌, ◌*◌, ◌≤◌, min, Option, Some, None, refl, arith, pos, neg_ℤ, inl, inr}
+use Rattle.std.proofs.Common.{◌≡◌, ℕ, zero, suc, ◌+◌, ◌*◌, ◌^◌, lit<, ◌≤◌, min, Option, Some, None, refl, arith, pos, neg_ℤ, inl, inr}
 use Rattle.std.proofs.lemmas.Bool.{cases_lt}
-use Rattle.std.proofs.Math.Nat.{mul-le-mul_left}
+use Rattle.std.proofs.Math.Nat.{mul-le-mul_left, pow-le-pow_right}
 use Rattle.std.specs.Option.{option_map}
 use Rattle.t3_asm_line.specs.Numbers.{negated}
 use Rattle.t3_asm_line.specs.Inner.Clipped.{far, near, clipped}
@@ -23,3 +23,7 @@ near_more value digits base digit e some =
     elim (cases_lt digits far) [
       inl below ↦ (let is : value ≡ digits = omega arith in rw is (omega arith))
     | inr above ↦ (let is : value ≡ far = omega arith in rw is (omega arith)) ]
+
+-- numbers of at most four bytes
+pub width_limit : (width : ℕ) → width ≤ 4 → 256 ^ width ≤ 2 ^ 32
+width_limit width h = pow-le-pow_right (lit< tt) h

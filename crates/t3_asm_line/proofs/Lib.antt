@@ -1,3 +1,4 @@
 pub mod Clipping
 pub mod TextSteps
 pub mod WordSteps
+pub mod Forms

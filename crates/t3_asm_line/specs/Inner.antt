@@ -1,3 +1,4 @@
 -- What only private functions cite.
 pub mod Clipped
 pub mod Escaped
+pub mod Reading

@@ -3,4 +3,8 @@ pub mod Numbers
 pub mod Quoted
 pub mod Labels
 pub mod Hexadecimal
+pub mod Fields
+pub mod Values
+pub mod Keywords
+pub mod Line
 pub mod Inner

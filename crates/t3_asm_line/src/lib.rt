@@ -1,8 +1,20 @@
 //! One line of assembler source, read and spelled.
 #![tactic(auto)]
 
+mod argument;
+mod field;
 mod hexadecimal;
+mod keyword;
 mod labels;
+mod line;
 mod numbers;
 mod quoted;
+mod refusal;
+mod value;
 mod words;
+
+pub use argument::{Argument, Arguments};
+pub use field::{Field, Layout, Reference};
+pub use keyword::Keyword;
+pub use line::{ParsedLine, parse_line};
+pub use refusal::LineRefusal;

@@ -1,0 +1,174 @@
+//! The table of lines.
+ghost use Rattle.std.specs.Prelude.{◌≡◌, length, IfSome};
+ghost use Rattle.t3_asm_line.specs.Keywords.{name_of, fields_of, is_form as is_form_of, keyword_of};
+
+use crate::field::Field;
+
+/// What a line begins with, and so which fields follow. `image` and `prop` have a keyword for each number
+/// of fields.
+#[derive(Clone, Copy, Debug, PartialEq, Eq, Hash)]
+pub enum Keyword {
+    /// `image`
+    Image,
+    /// `image HEX HEX`
+    ImageHead,
+    /// `block "NAME" FLAGS`
+    Block,
+    /// `end FLAGS`
+    End,
+    /// `entry N N N N N N N HEX`
+    Entry,
+    /// `pool K COUNT SIZE`
+    Pool,
+    /// `page K INDEX MASK`
+    Page,
+    /// `objects META FLAGS`
+    Objects,
+    /// `object NUMBER`
+    Object,
+    /// `metaclass "NAME" SIZE HEX`
+    Metaclass,
+    /// `prop N`
+    Prop,
+    /// `prop N HEX`
+    PropBytes,
+    /// `function-set "NAME"`
+    FunctionSet,
+    /// `symbol TAG BITS "NAME"`
+    Symbol,
+    /// `bytes HEX`
+    Bytes,
+    /// `u1 N`
+    U1,
+    /// `u2 N`
+    U2,
+    /// `u4 N`
+    U4,
+    /// `text "T"`
+    Text,
+    /// `hold TAG VALUE`
+    Hold,
+    /// `method P L D X`
+    Method,
+    /// `table N`
+    Table,
+    /// `handler A B CLASS H`
+    Handler,
+    /// `case TAG VALUE J`
+    Case,
+    /// `default J`
+    Default,
+    /// `L:`, which has the label as its one argument, and no field.
+    Label,
+}
+
+/// A line of the table.
+#[derive(Drop)]
+struct Row {
+    name: &'static [u8],
+    fields: &'static [Field],
+}
+
+/// The keywords that begin a line by their name.
+const KEYWORDS: [Keyword; 25] = [
+    Keyword::Image,
+    Keyword::ImageHead,
+    Keyword::Block,
+    Keyword::End,
+    Keyword::Entry,
+    Keyword::Pool,
+    Keyword::Page,
+    Keyword::Objects,
+    Keyword::Object,
+    Keyword::Metaclass,
+    Keyword::Prop,
+    Keyword::PropBytes,
+    Keyword::FunctionSet,
+    Keyword::Symbol,
+    Keyword::Bytes,
+    Keyword::U1,
+    Keyword::U2,
+    Keyword::U4,
+    Keyword::Text,
+    Keyword::Hold,
+    Keyword::Method,
+    Keyword::Table,
+    Keyword::Handler,
+    Keyword::Case,
+    Keyword::Default,
+];
+
+impl Keyword {
+    /// The word that begins a line of it; nothing for a label.
+    pub fn name(self) -> &'static [u8]
+        ensures { result.now ≡ name_of self }
+    {
+        self.row().name
+    }
+
+    /// The fields behind that word.
+    pub fn fields(self) -> &'static [Field]
+        ensures { result.now ≡ fields_of self }
+    {
+        self.row().fields
+    }
+
+    /// Whether a line of it begins with this word, and has so many others.
+    fn is_form(self, word: &[u8], count: usize) -> bool
+        ensures { result ≡ is_form_of word.now count self }
+    {
+        self.name() == word && self.fields().len() == count
+    }
+
+    fn row(self) -> Row
+        ensures name { result.name.now ≡ name_of self }
+        ensures fields { result.fields.now ≡ fields_of self }
+    {
+        use Field::{Address, BlockName, Jump, Name, Offset, Uint2, Uint4, Ubyte, Value};
+        match self {
+            Keyword::Image => begins(b"image", &[]),
+            Keyword::ImageHead => begins(b"image", &[Field::Reserved, Field::Timestamp]),
+            Keyword::Block => begins(b"block", &[BlockName, Uint2]),
+            Keyword::End => begins(b"end", &[Uint2]),
+            Keyword::Entry => begins(b"entry", &[Address, Uint2, Uint2, Uint2, Uint2, Uint2, Uint2, Field::Bytes]),
+            Keyword::Pool => begins(b"pool", &[Uint2, Uint4, Uint4]),
+            Keyword::Page => begins(b"page", &[Uint2, Uint4, Ubyte]),
+            Keyword::Objects => begins(b"objects", &[Uint2, Uint2]),
+            Keyword::Object => begins(b"object", &[Uint4]),
+            Keyword::Metaclass => begins(b"metaclass", &[Name, Uint2, Field::Bytes]),
+            Keyword::Prop => begins(b"prop", &[Uint2]),
+            Keyword::PropBytes => begins(b"prop", &[Uint2, Field::Bytes]),
+            Keyword::FunctionSet => begins(b"function-set", &[Name]),
+            Keyword::Symbol => begins(b"symbol", &[Ubyte, Value, Name]),
+            Keyword::Bytes => begins(b"bytes", &[Field::Bytes]),
+            Keyword::U1 => begins(b"u1", &[Ubyte]),
+            Keyword::U2 => begins(b"u2", &[Offset]),
+            Keyword::U4 => begins(b"u4", &[Address]),
+            Keyword::Text => begins(b"text", &[Field::Text]),
+            Keyword::Hold => begins(b"hold", &[Ubyte, Value]),
+            Keyword::Method => begins(b"method", &[Ubyte, Uint2, Uint2, Offset]),
+            Keyword::Table => begins(b"table", &[Uint2]),
+            Keyword::Handler => begins(b"handler", &[Offset, Offset, Uint4, Offset]),
+            Keyword::Case => begins(b"case", &[Ubyte, Value, Jump]),
+            Keyword::Default => begins(b"default", &[Jump]),
+            Keyword::Label => begins(b"", &[]),
+        }
+    }
+}
+
+/// A line of the table.
+fn begins(name: &'static [u8], fields: &'static [Field]) -> Row
+    ensures name { result.name.now ≡ name.now }
+    ensures fields { result.fields.now ≡ fields.now }
+{
+    Row { name, fields }
+}
+
+/// The keyword of a line that begins with this word, and has so many others.
+#[tactic(auto, using(crate::proofs::Forms::found_form), unfolding(crate::specs::Keywords::keyword_of))]
+pub(crate) fn keyword_named(word: &[u8], count: usize) -> Option<Keyword>
+    ensures keyword { result ≡ keyword_of word.now count }
+    ensures count { IfSome result (λ keyword. length (fields_of keyword) ≡ count) }
+{
+    KEYWORDS.iter().copied().find(|keyword| keyword.is_form(word, count))
+}
