@@ -7,4 +7,6 @@ pub mod Fields
 pub mod Values
 pub mod Keywords
 pub mod Line
+pub mod Listing
+pub mod Appending
 pub mod Inner
