@@ -1,5 +1,5 @@
 -- The fields of lines: how each is written, and what it holds.
-use Rattle.std.specs.Prelude.{ℕ, ◌^◌, ◌-◌, ◌≤◌, Option, Some, None}
+use Rattle.std.specs.Prelude.{ℕ, ◌^◌, ◌-◌, ◌≤◌, ◌<◌, Option, Some, None}
 use Rattle.t3_asm_line.specs.declared.field.Field.{Field}
 use Rattle.t3_asm_line.specs.declared.field.Field.TheVariants as fields
 use Rattle.t3_asm_line.specs.declared.field.Layout.{Layout}
@@ -29,8 +29,13 @@ layout_of fields.Reserved = Hex 32 (Some 32)
 layout_of fields.Timestamp = Hex 24 (Some 24)
 layout_of fields.Bytes = Hex 0 None
 
--- a number has at most four bytes, and goes no further below 0 than they do
+-- a number has at most four bytes, which hold each number of the field
+pub record HoldsNumbers (width below most : ℕ) : Type 0 where
+  pub few : width ≤ 4
+  pub low : below ≤ 256 ^ width
+  pub high : most < 256 ^ width
+
 abbrev pub IsSound : Layout → Type 0
-IsSound (Number width below most reference) = (width ≤ 4) × (below ≤ 256 ^ width)
+IsSound (Number width below most reference) = HoldsNumbers width below most
 IsSound (Quoted least most) = Unit {0}
 IsSound (Hex least most) = Unit {0}

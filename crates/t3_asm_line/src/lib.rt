@@ -6,11 +6,14 @@ mod field;
 mod hexadecimal;
 mod keyword;
 mod labels;
+mod laws;
 mod line;
 mod listing;
 mod numbers;
 mod quoted;
 mod refusal;
+#[cfg(test)]
+mod tests;
 mod value;
 mod words;
 
