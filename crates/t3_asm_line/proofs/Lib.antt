@@ -6,3 +6,4 @@ pub mod Appended
 pub mod WordLaws
 pub mod QuotedLaws
 pub mod ValueLaws
+pub mod LineLaws

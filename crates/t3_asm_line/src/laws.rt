@@ -1,15 +1,18 @@
 //! A listing reads back.
-ghost use Rattle.std.specs.Prelude.{◌≡◌, ◌^◌, ◌<◌, List, Some, ℕ, pos};
-ghost use Rattle.std.specs.Fmt.{decimal};
-ghost use Rattle.t3_asm_line.specs.Listing.{quoted_text, hex_text};
-ghost use Rattle.t3_asm_line.specs.Quoted.{quoted_of};
-ghost use Rattle.t3_asm_line.specs.Numbers.{number_of};
-ghost use Rattle.t3_asm_line.specs.Hexadecimal.{hex_of};
-ghost use Rattle.t3_holder.specs.NumberText.{AreBytes};
+ghost use Rattle.std.specs.Prelude.{◌≡◌, List, Ok, Some};
+ghost use Rattle.t3_asm_line.specs.Fields.{layout_of};
+ghost use Rattle.t3_asm_line.specs.Line.{line_of, parsed_line};
+ghost use Rattle.t3_asm_line.specs.Listing.{spelled, listed_line, FitsIn, IsListed};
+ghost use Rattle.t3_asm_line.specs.Values.{value_of};
+ghost use Rattle.t3_asm_line.specs.declared.argument.Argument.{Argument as AnyArgument};
+ghost use Rattle.t3_asm_line.specs.declared.field.Field.{Field as AnyField};
+ghost use Rattle.t3_asm_line.specs.declared.keyword.Keyword.{Keyword as AnyKeyword};
 
-/// Texts of a listing read back.
-pub fn texts_read()
-    ensures quoted { (bytes : List ℕ) → AreBytes bytes → quoted_of (quoted_text bytes) ≡ Some bytes }
-    ensures hex { (bytes : List ℕ) → AreBytes bytes → hex_of (hex_text bytes) ≡ Some bytes }
-    ensures number { (n : ℕ) → n < 2 ^ 64 → number_of (decimal n) ≡ Some (pos n) }
+/// What a listing spells reads back: in each field the argument, and of each line the keyword with its
+/// arguments.
+pub fn lines_read()
+    ensures fields { (field : AnyField) (argument : AnyArgument) → FitsIn (layout_of field) argument
+        → value_of field (spelled field argument) ≡ Ok argument }
+    ensures lines { (keyword : AnyKeyword) (arguments : List AnyArgument) → IsListed keyword arguments
+        → line_of (listed_line keyword arguments) ≡ Ok (Some (parsed_line keyword arguments)) }
 {}
