@@ -22,11 +22,11 @@ appended_more old mid new front one whole last is all =
 -- one argument more
 pub spelled_fields_more : (fields : List Field) (listed : List Listed) (i : ℕ) (d : Field) (e : Listed) → i < length fields → length listed ≡ length fields
     → spelled_fields (take (suc i) fields) (map argument_of (take (suc i) listed))
-      ≡ spelled_fields (take i fields) (map argument_of (take i listed)) ++ 32 ∷ spelled (get_or fields i d) (argument_of (get_or listed i e))
+    ≡ spelled_fields (take i fields) (map argument_of (take i listed)) ++ 32 ∷ spelled (get_or fields i d) (argument_of (get_or listed i e))
 spelled_fields_more [] listed i d e less same = absurd (omega arith)
 spelled_fields_more (field ∷ fields) [] i d e less same = absurd (omega arith)
 spelled_fields_more (field ∷ fields) (one ∷ listed) zero d e less same = ap (λ b. 32 ∷ b) (append-nil (spelled field (argument_of one)))
 spelled_fields_more (field ∷ fields) (one ∷ listed) (suc i) d e less same =
     ap (λ b. 32 ∷ (spelled field (argument_of one) ++ b)) (spelled_fields_more fields listed i d e (omega arith) (omega arith))
     ∙ ap (λ b. 32 ∷ b) (sym (append_assoc (spelled field (argument_of one)) (spelled_fields (take i fields) (map argument_of (take i listed)))
-        (32 ∷ spelled (get_or fields i d) (argument_of (get_or listed i e)))))
+    (32 ∷ spelled (get_or fields i d) (argument_of (get_or listed i e)))))

@@ -21,8 +21,9 @@ near_more value digits base digit e some =
     let at_least : digits * 1 ≤ digits * base = mul-le-mul_left digits some in
     let far_least : far * 1 ≤ far * base = mul-le-mul_left far some in
     elim (cases_lt digits far) [
-      inl below ↦ (let is : value ≡ digits = omega arith in rw is (omega arith))
-    | inr above ↦ (let is : value ≡ far = omega arith in rw is (omega arith)) ]
+      | inl below ↦ (let is : value ≡ digits = omega arith in rw is (omega arith))
+      | inr above ↦ (let is : value ≡ far = omega arith in rw is (omega arith))
+    ]
 
 -- numbers of at most four bytes
 pub width_limit : (width : ℕ) → width ≤ 4 → 256 ^ width ≤ 2 ^ 32

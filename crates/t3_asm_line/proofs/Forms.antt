@@ -25,5 +25,5 @@ pub found_form : (word : List ℕ) (count : ℕ) → IfSome (keyword_of word cou
 unfolding keyword_of
 found_form word count = on_some (keyword_of word count) _ _
     (λ (keyword : Keyword) (is : is_form word count keyword ≡ true).
-      eqb-true (length (fields_of keyword)) count (and_parts (bytes_eq (name_of keyword) word) (length (fields_of keyword) == count) is).1)
+    eqb-true (length (fields_of keyword)) count (and_parts (bytes_eq (name_of keyword) word) (length (fields_of keyword) == count) is).1)
     (found (is_form word count) keywords)

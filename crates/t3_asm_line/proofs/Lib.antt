@@ -7,3 +7,4 @@ pub mod WordLaws
 pub mod QuotedLaws
 pub mod ValueLaws
 pub mod LineLaws
+pub mod LineEnds

@@ -1,8 +1,10 @@
 -- The lines of a listing read back.
-use Rattle.std.proofs.Common.{◌≡◌, ℕ, zero, suc, ◌+◌, ◌^◌, ◌<◌, ◌≤◌, Bool, true, false, ◌&&◌, cond, List, [], ◌∷◌, ◌++◌, length, refl, ap, sym, ◌∙◌, Option, Some, None, Result, Ok, Err, lit<, lit≤, arith}
-use Rattle.std.specs.Prelude.{pos, codes, nat_le}
+use Rattle.std.proofs.Common.{◌≡◌, ℕ, zero, suc, ◌+◌, ◌^◌, ◌<◌, ◌≤◌, Bool, true, false, ◌&&◌, not, cond, map, append_assoc, List, [], ◌∷◌, ◌++◌, length, refl, ap, sym, ◌∙◌, Option, Some, None, Result, Ok, Err, lit<, lit≤, arith}
+use Rattle.std.specs.Prelude.{pos, codes, nat_le, ◌==◌}
+use Rattle.std.specs.List.{AllByRecursion}
 use Rattle.std.specs.Fmt.{decimal}
-use Rattle.std.proofs.lemmas.Bool.{le-leb}
+use Rattle.std.proofs.lemmas.Bool.{le-leb, and_from, and_parts, not-true}
+use Rattle.std.proofs.lemmas.List.Folds.{list_all-append}
 use Rattle.t3_asm_line.specs.declared.argument.Argument.{Argument}
 use Rattle.t3_asm_line.specs.declared.argument.Argument.TheVariants as arguments
 use Rattle.t3_asm_line.specs.declared.field.Field.{Field}
@@ -16,13 +18,15 @@ use Rattle.t3_asm_line.specs.Fields.{layout_of, IsSound}
 use Rattle.t3_asm_line.specs.Keywords.{name_of, fields_of, keyword_of}
 use Rattle.t3_asm_line.specs.Labels.{label_put}
 use Rattle.t3_asm_line.specs.Line.{line_of, spoken, spoken_by, mapped, parsed_line, keyword_line, labelled_line}
-use Rattle.t3_asm_line.specs.Listing.{spelled, spelled_in, spelled_fields, listed_line, FitsIn, FitFields, IsNamed, IsListed, quoted_text, hex_text}
+use Rattle.t3_asm_line.specs.Lines.{lines_of}
+use Rattle.t3_asm_line.specs.declared.line.ParsedLine.{ParsedLine}
+use Rattle.t3_asm_line.specs.Listing.{spelled, spelled_in, spelled_fields, listed_line, FitsIn, FitFields, IsNamed, IsListed, IsListedLine, listing_of, quoted_text, hex_text}
 use Rattle.t3_asm_line.specs.Values.{value_of, value_in, values_of, joined}
 use Rattle.t3_asm_line.specs.Words.{words_from, words_of, closed}
 use Rattle.t3_asm_line.proofs.Clipping.{width_limit}
 use Rattle.t3_asm_line.proofs.QuotedLaws.{quoted_of-quoted_text, IsWord-quoted}
 use Rattle.t3_asm_line.proofs.ValueLaws.{number_of-decimal, hex_of-hex_text, IsWord-decimal, IsWord-hex}
-use Rattle.t3_asm_line.proofs.WordLaws.{IsWord, IsWord-bare, closed-some}
+use Rattle.t3_asm_line.proofs.WordLaws.{is_one_line, IsWord, IsWord-bare, closed-some}
 
 -- ---- fields
 
@@ -152,8 +156,12 @@ spoken-spelled : (keyword : Keyword) (arguments : List Argument) → IsListed ke
 unfolding spoken
 spoken-spelled keyword arguments listed =
     let is = found keyword listed.named in
-    rw (is.no_label, length-spelled_words (fields_of keyword) arguments listed.fit, is.found,
-      values_of-spelled (fields_of keyword) arguments listed.fit) refl
+    rw (
+      is.no_label,
+      length-spelled_words (fields_of keyword) arguments listed.fit,
+      is.found,
+      values_of-spelled (fields_of keyword) arguments listed.fit,
+    ) refl
 
 pub line_of-listed_line : (keyword : Keyword) (arguments : List Argument) → IsListed keyword arguments
     → line_of (listed_line keyword arguments) ≡ Ok (Some (parsed_line keyword arguments))
@@ -161,6 +169,40 @@ unfolding line_of listed_line
 line_of-listed_line keyword arguments listed =
     let is = found keyword listed.named in
     let words : words_of (name_of keyword ++ spelled_fields (fields_of keyword) arguments) ≡ name_of keyword ∷ spelled_words (fields_of keyword) arguments =
-      is.word.whole [] (spelled_fields (fields_of keyword) arguments)
-      ∙ words_from-spelled (name_of keyword) (fields_of keyword) arguments is.word.some listed.fit in
+    is.word.whole [] (spelled_fields (fields_of keyword) arguments)
+    ∙ words_from-spelled (name_of keyword) (fields_of keyword) arguments is.word.some listed.fit in
     ap spoken_by words ∙ ap (mapped Some) (spoken-spelled keyword arguments listed)
+
+-- ---- listings
+
+one_line_fields : (fields : List Field) (arguments : List Argument) → FitFields fields arguments → is_one_line (spelled_fields fields arguments) ≡ true
+one_line_fields [] [] fit = refl
+one_line_fields [] (argument ∷ arguments) fit = absurd fit
+one_line_fields (field ∷ fields) [] fit = absurd fit
+one_line_fields (field ∷ fields) (argument ∷ arguments) fit =
+    list_all-append (λ byte. not (byte == 10)) (spelled field argument) (spelled_fields fields arguments)
+    ∙ and_from _ _ (IsWord-spelled field argument fit.0).one (one_line_fields fields arguments fit.1)
+
+one_line_listed : (keyword : Keyword) (arguments : List Argument) → IsListed keyword arguments → is_one_line (listed_line keyword arguments) ≡ true
+unfolding listed_line
+one_line_listed keyword arguments listed =
+    list_all-append (λ byte. not (byte == 10)) (name_of keyword) (spelled_fields (fields_of keyword) arguments)
+    ∙ and_from _ _ (found keyword listed.named).word.one (one_line_fields (fields_of keyword) arguments listed.fit)
+
+-- a line that has no newline ends at the one behind it
+lines_of-line : (line rest : List ℕ) → is_one_line line ≡ true → lines_of (line ++ (10 ∷ rest)) ≡ line ∷ lines_of rest
+lines_of-line [] rest h = refl
+lines_of-line (byte ∷ line) rest h =
+    let parts = and_parts (not (byte == 10)) (is_one_line line) h in
+    let other = not-true (byte == 10) parts.0 in
+    rw (other, lines_of-line line rest parts.1) refl
+
+pub lines_of-listing_of : (lines : List ParsedLine) → AllByRecursion IsListedLine lines
+    → map line_of (lines_of (listing_of lines)) ≡ map (λ line. Ok (Some line)) lines
+lines_of-listing_of [] all = refl
+lines_of-listing_of (line ∷ lines) all =
+    let text = listed_line line.keyword line.arguments in
+    ap (λ t. map line_of (lines_of t)) (append_assoc text (10 ∷ []) (listing_of lines))
+    ∙ ap (map line_of) (lines_of-line text (listing_of lines) (one_line_listed line.keyword line.arguments all.0))
+    ∙ ap (λ first. first ∷ map line_of (lines_of (listing_of lines))) (line_of-listed_line line.keyword line.arguments all.0)
+    ∙ ap (λ rest. Ok (Some line) ∷ rest) (lines_of-listing_of lines all.1)

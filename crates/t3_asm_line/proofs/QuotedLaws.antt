@@ -72,7 +72,8 @@ Escapes-plain : (byte : ℕ) → byte == 34 ≡ false → byte == 92 ≡ false �
 Escapes-plain byte quote backslash newline = record {
   reads = λ rest. rw (quote, backslash) refl;
   whole = λ front rest. rw (quote, backslash) refl;
-  one = rw newline refl }
+  one = rw newline refl;
+}
 
 Escapes-digits : (byte : ℕ) → byte < 256 → Escapes byte (92 ∷ 120 ∷ encode_lower (byte ∷ []))
 unfolding encode_with
@@ -88,19 +89,20 @@ Escapes-digits byte h =
       reads = λ rest. rw (high_is, low_is) (ap (λ b. with_byte (Some b) (text_from AnyByte rest)) whole_byte);
       whole = λ front rest. rw (first.quote, first.backslash, second.quote, second.backslash)
           (ap (λ w. words_from Quoted w rest) (four_more front 92 120 (slice_index lower_digits (byte / 16)) (slice_index lower_digits (byte % 16))));
-      one = rw (first.newline, second.newline) refl }
+      one = rw (first.newline, second.newline) refl;
+    }
 
 escapes : (byte : ℕ) → byte < 256 → Escapes byte (escape_of byte)
 escapes byte h =
     cond_both (byte == 34) _ _ (Escapes byte)
     (λ quote. subst (λ b. Escapes b (92 ∷ 34 ∷ [])) (sym (eqb-true byte 34 quote)) Escapes-quote)
     (λ quote. cond_both (byte == 92) _ _ (Escapes byte)
-      (λ backslash. subst (λ b. Escapes b (92 ∷ 92 ∷ [])) (sym (eqb-true byte 92 backslash)) Escapes-backslash)
-      (λ backslash. cond_both (byte == 10) _ _ (Escapes byte)
-        (λ newline. subst (λ b. Escapes b (92 ∷ 110 ∷ [])) (sym (eqb-true byte 10 newline)) Escapes-newline)
-        (λ newline. cond_both (is_printable byte) _ _ (Escapes byte)
-          (λ printable. Escapes-plain byte quote backslash newline)
-          (λ other. Escapes-digits byte h))))
+    (λ backslash. subst (λ b. Escapes b (92 ∷ 92 ∷ [])) (sym (eqb-true byte 92 backslash)) Escapes-backslash)
+    (λ backslash. cond_both (byte == 10) _ _ (Escapes byte)
+    (λ newline. subst (λ b. Escapes b (92 ∷ 110 ∷ [])) (sym (eqb-true byte 10 newline)) Escapes-newline)
+    (λ newline. cond_both (is_printable byte) _ _ (Escapes byte)
+    (λ printable. Escapes-plain byte quote backslash newline)
+    (λ other. Escapes-digits byte h))))
 
 -- ---- whole texts
 
@@ -137,4 +139,5 @@ IsWord-quoted bytes h = record {
       ∙ escapes_whole bytes h (front ++ 34 ∷ []) (34 ∷ rest)
       ∙ ap (λ w. words_from Plain w rest) (append_assoc (front ++ 34 ∷ []) (flat_map escape_of bytes) (34 ∷ []) ∙ append_assoc front (34 ∷ []) (flat_map escape_of bytes ++ 34 ∷ []));
   some = omega arith;
-  one = escapes_line bytes h }
+  one = escapes_line bytes h;
+}

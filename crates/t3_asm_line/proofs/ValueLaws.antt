@@ -103,5 +103,5 @@ hex_of-hex_text (byte ∷ bytes) h =
     let word = encode_lower (byte ∷ bytes) in
     let long = length-encode_with lower_digits (byte ∷ bytes) in
     let other : bytes_eq word (codes "-") ≡ false =
-      false_unless (bytes_eq word (codes "-")) (λ e. omega (arith, long, ap length ((bytes_eq-Decides word (codes "-")).0 e))) in
+    false_unless (bytes_eq word (codes "-")) (λ e. omega (arith, long, ap length ((bytes_eq-Decides word (codes "-")).0 e))) in
     rw (other, decode_of-encode_lower (byte ∷ bytes) (IsBytes-from (byte ∷ bytes) h)) refl

@@ -26,7 +26,7 @@ words_from-space mode line start at front words inside keeps ends is =
     let word = take (at - start) (drop start line) in
     let none : at + 1 - (at + 1) ≡ 0 = omega arith in
     rw (none, append_assoc) (ap (λ rest. front ++ rest) (sym (by_space mode word (get_or line at 0) (drop (at + 1) line) keeps ends))
-        ∙ ap (λ rest. front ++ rest) (sym (at_drop_more (words_from mode word) line at 0 inside)) ∙ is)
+    ∙ ap (λ rest. front ++ rest) (sym (at_drop_more (words_from mode word) line at 0 inside)) ∙ is)
 
 -- any other byte belongs to it
 pub words_from-other : (mode : Mode) (line : List ℕ) (start at : ℕ) (front words : List (List ℕ)) → start ≤ at → at < length line
@@ -37,4 +37,4 @@ words_from-other mode line start at front words begun inside keeps never is =
     let word = take (at - start) (drop start line) in
     let more : take (at + 1 - start) (drop start line) ≡ word ++ get_or line at 0 ∷ [] = between_more line start at 0 begun inside in
     rw more (ap (λ rest. front ++ rest) (sym (by_other mode word (get_or line at 0) (drop (at + 1) line) keeps never))
-        ∙ ap (λ rest. front ++ rest) (sym (at_drop_more (words_from mode word) line at 0 inside)) ∙ is)
+    ∙ ap (λ rest. front ++ rest) (sym (at_drop_more (words_from mode word) line at 0 inside)) ∙ is)

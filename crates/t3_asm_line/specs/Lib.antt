@@ -7,6 +7,7 @@ pub mod Fields
 pub mod Values
 pub mod Keywords
 pub mod Line
+pub mod Lines
 pub mod Listing
 pub mod Appending
 pub mod Inner

@@ -1,5 +1,5 @@
 -- How a listing spells a line: the keyword and its fields, parted by one space. A listing has no labels and no numbers below 0.
-use Rattle.std.specs.Prelude.{◌≡◌, ℕ, Bool, ◌==◌, ◌&&◌, nat_le, ◌≤◌, if◌then◌else◌, List, [], ◌∷◌, ◌++◌, length, codes}
+use Rattle.std.specs.Prelude.{◌≡◌, ℕ, Bool, true, ◌==◌, ◌&&◌, nat_le, ◌≤◌, if◌then◌else◌, List, [], ◌∷◌, ◌++◌, length, codes}
 use Rattle.std.specs.Fmt.{decimal}
 use Rattle.std.specs.List.{flat_map}
 use Rattle.hex.specs.Hex.{encode_lower}
@@ -11,10 +11,10 @@ use Rattle.t3_asm_line.specs.declared.field.Layout.{Layout}
 use Rattle.t3_asm_line.specs.declared.field.Layout.TheVariants.{Number, Quoted, Hex}
 use Rattle.t3_asm_line.specs.declared.keyword.Keyword.{Keyword}
 use Rattle.t3_asm_line.specs.declared.keyword.Keyword.TheVariants.{Label}
+use Rattle.t3_asm_line.specs.declared.line.ParsedLine.{ParsedLine}
 use Rattle.t3_asm_line.specs.Fields.{layout_of}
 use Rattle.t3_asm_line.specs.Keywords.{name_of, fields_of}
 use Rattle.t3_asm_line.specs.Values.{is_size}
-use Rattle.std.specs.Prelude.{true}
 
 -- 20 to 7E stand as they are
 abbrev pub is_printable : ℕ → Bool
@@ -79,3 +79,10 @@ IsNamed keyword = Unit {0}
 pub record IsListed (keyword : Keyword) (arguments : List Argument) : Type 0 where
   pub named : IsNamed keyword
   pub fit : FitFields (fields_of keyword) arguments
+
+abbrev pub IsListedLine : ParsedLine → Type 0
+IsListedLine line = IsListed line.keyword line.arguments
+
+-- a listing: each line, and a newline behind it
+abbrev pub listing_of : List ParsedLine → List ℕ
+listing_of lines = flat_map (λ line. listed_line line.keyword line.arguments ++ 10 ∷ []) lines

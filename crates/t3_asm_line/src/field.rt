@@ -59,9 +59,15 @@ pub enum Layout {
         reference: Reference,
     },
     /// A quoted text of so many bytes at least, and at most so many.
-    Quoted { least: u16, most: Option<u16> },
+    Quoted {
+        least: u16,
+        most: Option<u16>,
+    },
     /// HEX of so many bytes at least, and at most so many.
-    Hex { least: u16, most: Option<u16> },
+    Hex {
+        least: u16,
+        most: Option<u16>,
+    },
 }
 
 impl Field {
@@ -85,7 +91,10 @@ impl Field {
             Field::Text => quoted(0, u16::MAX),
             Field::Reserved => hex_of_size(32),
             Field::Timestamp => hex_of_size(24),
-            Field::Bytes => Layout::Hex { least: 0, most: None },
+            Field::Bytes => Layout::Hex {
+                least: 0,
+                most: None,
+            },
         }
     }
 }
@@ -104,11 +113,17 @@ fn number(width: u8, below: u32, most: u32, reference: Reference) -> Layout
 fn quoted(least: u16, most: u16) -> Layout
     ensures { result ≡ Layout.Quoted least (Some most) }
 {
-    Layout::Quoted { least, most: Some(most) }
+    Layout::Quoted {
+        least,
+        most: Some(most),
+    }
 }
 
 fn hex_of_size(size: u16) -> Layout
     ensures { result ≡ Layout.Hex size (Some size) }
 {
-    Layout::Hex { least: size, most: Some(size) }
+    Layout::Hex {
+        least: size,
+        most: Some(size),
+    }
 }

@@ -130,7 +130,19 @@ impl Keyword {
             Keyword::ImageHead => begins(b"image", &[Field::Reserved, Field::Timestamp]),
             Keyword::Block => begins(b"block", &[BlockName, Uint2]),
             Keyword::End => begins(b"end", &[Uint2]),
-            Keyword::Entry => begins(b"entry", &[Address, Uint2, Uint2, Uint2, Uint2, Uint2, Uint2, Field::Bytes]),
+            Keyword::Entry => begins(
+                b"entry",
+                &[
+                    Address,
+                    Uint2,
+                    Uint2,
+                    Uint2,
+                    Uint2,
+                    Uint2,
+                    Uint2,
+                    Field::Bytes,
+                ],
+            ),
             Keyword::Pool => begins(b"pool", &[Uint2, Uint4, Uint4]),
             Keyword::Page => begins(b"page", &[Uint2, Uint4, Ubyte]),
             Keyword::Objects => begins(b"objects", &[Uint2, Uint2]),
@@ -170,5 +182,8 @@ pub(crate) fn keyword_named(word: &[u8], count: usize) -> Option<Keyword>
     ensures keyword { result ≡ keyword_of word.now count }
     ensures count { IfSome result (λ keyword. length (fields_of keyword) ≡ count) }
 {
-    KEYWORDS.iter().copied().find(|keyword| keyword.is_form(word, count))
+    KEYWORDS
+        .iter()
+        .copied()
+        .find(|keyword| keyword.is_form(word, count))
 }

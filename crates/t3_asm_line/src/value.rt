@@ -89,7 +89,11 @@ fn holds(below: u32, most: u32, z: i64) -> bool
 }
 
 /// The label that a word names in place of a number.
-fn reference_value(alloc: Global, reference: Reference, word: &[u8]) -> Result<Argument, LineRefusal>
+fn reference_value(
+    alloc: Global,
+    reference: Reference,
+    word: &[u8],
+) -> Result<Argument, LineRefusal>
     ensures { Gives result (reference_value_of reference word.now) }
 {
     match (reference, word) {
@@ -104,11 +108,7 @@ fn reference_value(alloc: Global, reference: Reference, word: &[u8]) -> Result<A
 }
 
 /// A text of a size that its field holds.
-fn text_value(
-    text: Option<Vec<u8>>,
-    least: u16,
-    most: Option<u16>,
-) -> Result<Argument, LineRefusal>
+fn text_value(text: Option<Vec<u8>>, least: u16, most: Option<u16>) -> Result<Argument, LineRefusal>
     ensures { result ≡ text_value_of (is_size_of least most)
         (option_map (λ text. text.items) text) }
 {

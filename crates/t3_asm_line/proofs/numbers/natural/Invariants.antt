@@ -9,4 +9,5 @@ use Rattle.t3_asm_line.proofs.numbers.natural.Given as goal
 abbrev pub invariant-loop-digit : goal.invariant-loop-digit
 invariant-loop-digit l = record {
   digits : list_all (λ digit. is_digit digit l.base) (take l.digit-index l.digits) ≡ true;
-  value : l.value ≡ min (digits_value l.base (take l.digit-index l.digits)) far }
+  value : l.value ≡ min (digits_value l.base (take l.digit-index l.digits)) far;
+}

@@ -11,11 +11,14 @@ loop-at-preserved c =
     let bytes = c.args.bytes.now in
     let behind = c.turn_at.ensures.behind in
     elim c.match-turn_at.branch [
-      in-Give+in_ok-push-in-Give w ↦ record {
+      | in-Give+in_ok-push-in-Give w ↦ record {
         due = rw w.due-is tt;
         is = rw (w.due-is, w.text-is, w.in_ok-push-in-Give.ensures.items)
-            (text_from-give due w.in-Give.byte bytes c.loop-at.at _ _ inside (rw w.in-Give.is at behind) c.loop-at.invariant.is) }
-    | in-Await w ↦ record {
+            (text_from-give due w.in-Give.byte bytes c.loop-at.at _ _ inside (rw w.in-Give.is at behind) c.loop-at.invariant.is);
+      }
+      | in-Await w ↦ record {
         due = rw w.due-is (rw w.in-Await.is at c.turn_at.ensures.well);
-        is = rw (w.due-is, w.text-is) 
-            (text_from-behind due (Await w.in-Await.next) bytes c.loop-at.at _ _ inside (rw w.in-Await.is at behind) c.loop-at.invariant.is) } ]
+        is = rw (w.due-is, w.text-is)
+            (text_from-behind due (Await w.in-Await.next) bytes c.loop-at.at _ _ inside (rw w.in-Await.is at behind) c.loop-at.invariant.is);
+      }
+    ]

@@ -9,4 +9,5 @@ use Rattle.t3_asm_line.proofs.quoted.text.Given as goal
 abbrev pub invariant-loop-at : goal.invariant-loop-at
 invariant-loop-at l = record {
   due : IsDue l.due;
-  is : option_map (λ more. l.text.items ++ more) (text_from l.due (drop l.at l.bytes)) ≡ text_from AnyByte l.bytes }
+  is : option_map (λ more. l.text.items ++ more) (text_from l.due (drop l.at l.bytes)) ≡ text_from AnyByte l.bytes;
+}

@@ -10,12 +10,15 @@ loop-at-preserved c =
     let inside : at < length line = omega arith in
     let keeps = sym c.if-ends_line.ensures in
     elim c.if-ends_word.branch [
-      then-ends_word+in_ok-push_word-2 w ↦ record {
+      | then-ends_word+in_ok-push_word-2 w ↦ record {
         begun = omega arith;
         is = rw (w.words-is, w.mode-is, w.start-is, w.in_ok-push_word-2.ensures)
-            (words_from-space c.loop-at.mode line c.loop-at.start at _ _ inside keeps (sym c.ends_word.ensures ∙ w.if-ends_word.true) c.loop-at.invariant.is) }
-    | else-ends_word w ↦ record {
+            (words_from-space c.loop-at.mode line c.loop-at.start at _ _ inside keeps (sym c.ends_word.ensures ∙ w.if-ends_word.true) c.loop-at.invariant.is);
+      }
+      | else-ends_word w ↦ record {
         begun = omega arith;
         is = rw (w.words-is, w.mode-is, w.start-is, w.behind-mode.ensures)
             (words_from-other c.loop-at.mode line c.loop-at.start at _ _ c.loop-at.invariant.begun inside keeps
-              (sym c.ends_word.ensures ∙ w.if-ends_word.false) c.loop-at.invariant.is) } ]
+            (sym c.ends_word.ensures ∙ w.if-ends_word.false) c.loop-at.invariant.is);
+      }
+    ]
