@@ -69,6 +69,18 @@ struct Row {
     fields: &'static [Field],
 }
 
+/// The fields of an entry point: its address, the sizes of its tables, and the bytes that are kept.
+const ENTRY: [Field; 8] = [
+    Field::Address,
+    Field::Uint2,
+    Field::Uint2,
+    Field::Uint2,
+    Field::Uint2,
+    Field::Uint2,
+    Field::Uint2,
+    Field::Bytes,
+];
+
 /// The keywords that begin a line by their name.
 const KEYWORDS: [Keyword; 25] = [
     Keyword::Image,
@@ -130,19 +142,7 @@ impl Keyword {
             Keyword::ImageHead => begins(b"image", &[Field::Reserved, Field::Timestamp]),
             Keyword::Block => begins(b"block", &[BlockName, Uint2]),
             Keyword::End => begins(b"end", &[Uint2]),
-            Keyword::Entry => begins(
-                b"entry",
-                &[
-                    Address,
-                    Uint2,
-                    Uint2,
-                    Uint2,
-                    Uint2,
-                    Uint2,
-                    Uint2,
-                    Field::Bytes,
-                ],
-            ),
+            Keyword::Entry => begins(b"entry", &ENTRY),
             Keyword::Pool => begins(b"pool", &[Uint2, Uint4, Uint4]),
             Keyword::Page => begins(b"page", &[Uint2, Uint4, Ubyte]),
             Keyword::Objects => begins(b"objects", &[Uint2, Uint2]),

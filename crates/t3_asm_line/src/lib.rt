@@ -1,4 +1,21 @@
 //! One line of assembler source, read and spelled.
+//!
+//! A line is words, and what the first of them is says what the others are. What it says is its keyword
+//! and its arguments; else it breaks the rule on words, on values or on ranges, the first of these.
+//!
+//! ```
+//! let line = parse_line(alloc, b"pool 1 0x10 256 ; code")?.expect(&rt, "it has words");
+//! assert_eq!(line.keyword, Keyword::Pool);
+//! assert_eq!(parse_line(alloc, b"pool 1 0x10 x").err(), Some(LineRefusal::Number));
+//! ```
+//!
+//! A listing spells each line in one way, and is read back as it was:
+//!
+//! ```text
+//! let mut out = Vec::new(alloc);
+//! let numbers = [Listed::Number(1), Listed::Number(16), Listed::Number(256)];
+//! append_line(alloc, Keyword::Pool, &numbers, &mut out)?;    // pool 1 16 256
+//! ```
 #![tactic(auto)]
 
 mod argument;

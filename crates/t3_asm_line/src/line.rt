@@ -42,11 +42,13 @@ fn spoken(alloc: Global, word: &[u8], words: &[&[u8]]) -> Result<ParsedLine, Lin
     if let Some(label) = label_put(word) {
         return label_line(alloc, label, words);
     }
-    let Some(keyword) = keyword_named(word, words.len()) else {
-        return Err(LineRefusal::Word);
-    };
-    let arguments = values(alloc, keyword.fields(), words)?;
-    Ok(ParsedLine { keyword, arguments })
+    match keyword_named(word, words.len()) {
+        None => Err(LineRefusal::Word),
+        Some(keyword) => {
+            let arguments = values(alloc, keyword.fields(), words)?;
+            Ok(ParsedLine { keyword, arguments })
+        }
+    }
 }
 
 /// A line that puts a label, which stands alone.
