@@ -8,3 +8,4 @@ pub mod QuotedLaws
 pub mod ValueLaws
 pub mod LineLaws
 pub mod LineEnds
+pub mod ReadingSteps

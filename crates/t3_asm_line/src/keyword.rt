@@ -1,5 +1,5 @@
 //! The table of lines.
-ghost use Rattle.std.specs.Prelude.{◌≡◌, length, IfSome};
+ghost use Rattle.std.specs.Prelude.{◌≡◌, ◌<◌, length, slice_index_or, IfSome};
 ghost use Rattle.t3_asm_line.specs.Keywords.{name_of, fields_of, is_form as is_form_of, keyword_of};
 
 use crate::field::Field;
@@ -118,18 +118,26 @@ impl Keyword {
         self.row().name
     }
 
-    /// The fields behind that word.
-    pub fn fields(self) -> &'static [Field]
-        ensures { result.now ≡ fields_of self }
+    /// How many fields stand behind that word.
+    pub fn field_count(self) -> usize
+        ensures { result ≡ length (fields_of self) }
     {
-        self.row().fields
+        self.row().fields.len()
+    }
+
+    /// One of these fields, counted from 0.
+    pub fn field(self, at: usize) -> Field
+        requires { at < length (fields_of self) }
+        ensures { result ≡ slice_index_or (fields_of self) at result }
+    {
+        self.row().fields[at]
     }
 
     /// Whether a line of it begins with this word, and has so many others.
     fn is_form(self, word: &[u8], count: usize) -> bool
         ensures { result ≡ is_form_of word.now count self }
     {
-        self.name() == word && self.fields().len() == count
+        self.name() == word && self.field_count() == count
     }
 
     fn row(self) -> Row

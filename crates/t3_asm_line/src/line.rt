@@ -45,7 +45,7 @@ fn spoken(alloc: Global, word: &[u8], words: &[&[u8]]) -> Result<ParsedLine, Lin
     match keyword_named(word, words.len()) {
         None => Err(LineRefusal::Word),
         Some(keyword) => {
-            let arguments = values(alloc, keyword.fields(), words)?;
+            let arguments = values(alloc, keyword, words)?;
             Ok(ParsedLine { keyword, arguments })
         }
     }

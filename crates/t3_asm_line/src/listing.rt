@@ -58,23 +58,23 @@ fn append_parts(
         (listed_line keyword (map argument_of arguments.now) ++ 10 ∷ []) result }
 {
     append_bytes(keyword.name(), out)?;
-    append_fields(alloc, keyword.fields(), arguments, out)?;
+    append_fields(alloc, keyword, arguments, out)?;
     append_bytes(b"\n", out)
 }
 
 /// Appends each argument behind a space.
 fn append_fields(
     alloc: Global,
-    fields: &[Field],
+    keyword: Keyword,
     arguments: &[Listed],
     out: &mut Vec<u8>,
 ) -> Result<(), NoMemory>
-    requires { length arguments.now ≡ length fields.now }
+    requires { length arguments.now ≡ length (fields_of keyword) }
     ensures { Appends out.old.items out.new.items
-        (spelled_fields fields.now (map argument_of arguments.now)) result }
+        (spelled_fields (fields_of keyword) (map argument_of arguments.now)) result }
 {
-    for at in 0..fields.len() {
-        append_field(alloc, fields[at], arguments[at], out)?;
+    for at in 0..arguments.len() {
+        append_field(alloc, keyword.field(at), arguments[at], out)?;
     }
     Ok(())
 }

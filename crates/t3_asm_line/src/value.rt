@@ -2,12 +2,14 @@
 ghost use Rattle.std.specs.Prelude.{◌≡◌, ◌^◌, ◌≤◌, ℕ, [], length, map};
 ghost use Rattle.std.specs.Option.{option_map};
 ghost use Rattle.t3_holder.specs.NumberText.{twos_complement};
+ghost use Rattle.t3_asm_line.specs.Keywords.{fields_of};
 ghost use Rattle.t3_asm_line.specs.Numbers.{number_of};
 ghost use Rattle.t3_asm_line.specs.Values.{Gives, value_of, values_of, number_value as number_value_of, reference_value as reference_value_of, text_value as text_value_of, holds as holds_of, is_size as is_size_of};
 
 use crate::argument::{Argument, Arguments};
 use crate::field::{Field, Layout, Reference};
 use crate::hexadecimal::hex_bytes;
+use crate::keyword::Keyword;
 use crate::labels::is_label;
 use crate::numbers::number;
 use crate::quoted::quoted;
@@ -15,19 +17,19 @@ use crate::refusal::LineRefusal;
 use std::alloc::Global;
 use t3_holder::Bytes;
 
-/// What words say in so many fields. A word that says nothing comes before one that is out of range.
+/// What words say in a keyword's fields. A word that says nothing comes before one that is out of range.
 pub(crate) fn values(
     alloc: Global,
-    fields: &[Field],
+    keyword: Keyword,
     words: &[&[u8]],
 ) -> Result<Arguments, LineRefusal>
-    requires { length fields.now ≡ length words.now }
-    ensures { Gives result (values_of fields.now (map (λ word. word.now) words.now)) }
+    requires { length (fields_of keyword) ≡ length words.now }
+    ensures { Gives result (values_of (fields_of keyword) (map (λ word. word.now) words.now)) }
 {
     let mut values = Vec::new(alloc);
     let mut has_far = false;
-    for at in 0..fields.len() {
-        match value(alloc, fields[at], words[at]) {
+    for at in 0..words.len() {
+        match value(alloc, keyword.field(at), words[at]) {
             Ok(value) => values.push(value)?,
             Err(LineRefusal::Range) => has_far = true,
             Err(refusal) => return Err(refusal),
