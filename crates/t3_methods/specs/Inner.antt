@@ -1,3 +1,4 @@
--- What only the contracts of private functions cite.
-pub mod Code
-pub mod Cursor
+pub mod Window
+pub mod Rows
+pub mod Cases
+pub mod Tables

@@ -1,10 +1,8 @@
-ghost use Rattle.std.specs.Prelude.{◌+◌, ◌<◌, ◌^◌, IfOk, IfSome, MatchOption};
-ghost use Rattle.t3_methods.specs.Answers.{FindsHeader};
-ghost use Rattle.t3_methods.specs.MethodHeader.{HasHeader};
-ghost use Rattle.t3_methods.specs.declared.header.Header.{Header as AnyHeader};
+ghost use Rattle.std.specs.Prelude.{◌+◌, ◌<◌, ◌^◌, IfOk};
+ghost use Rattle.t3_methods.specs.MethodHeader.{FindsHeader};
 
-use crate::cursor::Cursor;
 use crate::refusal::CodeRefusal;
+use crate::window::{WINDOW_SIZE, Window};
 use t3_pools::Pools;
 
 /// What stands in front of a method's instructions, ten bytes.
@@ -27,38 +25,28 @@ pub struct Header {
 /// Added to the first byte where more arguments may be taken.
 const VARYING: u8 = 0x80;
 
-/// The header of the method at an address. `Header` where fewer than ten bytes stand there, or the
-/// second isn't 0. A header ends below 2^32. It takes no memory.
+/// The header of the method at an address.
+///
+/// `Header` where fewer than ten bytes stand there, or the second isn't 0. A header ends below 2^31.
+/// It takes no memory.
 pub fn header_at(pools: &Pools, method: u32) -> Result<Header, CodeRefusal>
     ensures finds { FindsHeader pools.now.code method result }
-    ensures within { IfOk result (λ _. method + 10 < 2 ^ 32) }
+    ensures within { IfOk result (λ _. method + 10 < 2 ^ 31) }
 {
-    let mut cursor = Cursor::new(pools, method);
-    read_header(&mut cursor).ok_or(CodeRefusal::Header)
-}
-
-/// The header at a cursor.
-fn read_header(cursor: &mut Cursor) -> Option<Header>
-    ensures finds { MatchOption result ((header : AnyHeader) → ¬ HasHeader cursor.old.pools.now.code cursor.old.at header) (HasHeader cursor.old.pools.now.code cursor.old.at) }
-    ensures within { IfSome result (λ _. cursor.old.at + 10 < 2 ^ 32) }
-{
-    let parameters = cursor.byte()?;
-    let zero = cursor.byte()?;
-    let locals = cursor.two_bytes()?;
-    let depth = cursor.two_bytes()?;
-    let exceptions = cursor.two_bytes()?;
-    let debug = cursor.two_bytes()?;
-    // The place after the header is an address too.
-    let _after = cursor.place();
-    if zero != 0 {
-        return None;
+    let window = Window::at(pools, method);
+    if window.count < WINDOW_SIZE {
+        return Err(CodeRefusal::Header);
     }
-    Some(Header {
+    if window.ubyte(1) != 0 {
+        return Err(CodeRefusal::Header);
+    }
+    let parameters = window.ubyte(0);
+    Ok(Header {
         least: parameters % VARYING,
         varying: parameters >= VARYING,
-        locals,
-        depth,
-        exceptions,
-        debug,
+        locals: window.uint2(2),
+        depth: window.uint2(4),
+        exceptions: window.uint2(6),
+        debug: window.uint2(8),
     })
 }

@@ -1,20 +1,28 @@
 //! The instructions and the methods that stand in the code of an image.
-//!
-//! The instruction table is said once, in `specs/`, from the instruction to its bytes; here are a row
-//! for each opcode and a reader for each kind of operand.
 #![tactic(auto)]
 
-mod cursor;
+mod cases;
+mod decoded;
+mod decoder;
+mod handler;
 mod header;
 mod instr;
+mod kind;
 mod laws;
-mod opcodes;
+mod operands;
 mod refusal;
+mod rows;
+mod shape;
 #[cfg(test)]
 mod tests;
-
+mod window;
+pub use cases::case_at;
+pub use decoded::{Decoded, Slot};
+pub use decoder::{decode_at, instr_at};
+pub use handler::handler_in;
 pub use header::{Header, header_at};
 pub use instr::{CallCode, Instr, JumpCode, LocalCode, MakeCode, MathCode, PushCode, StackCode};
-pub use laws::{one_answer, one_instruction};
-pub use opcodes::instr_at;
+pub use kind::Kind;
+pub use laws::{one_answer, one_instruction, one_row};
 pub use refusal::CodeRefusal;
+pub use shape::{Shape, opcode_named, shape_of};

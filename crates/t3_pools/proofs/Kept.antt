@@ -8,7 +8,7 @@ use Rattle.std.proofs.lemmas.Bool.{ltb-false, cases_lt, cases_eq, eq-eqb}
 use Rattle.std.proofs.lemmas.Option.{slice_get_past}
 use Rattle.std.proofs.lemmas.List.{length-drop}
 use Rattle.std.proofs.Math.Nat.{div-add-mod, mul-le-mul_right}
-use Rattle.t3_pools.specs.Pool.{Pool, Paged, page_bytes, HasBytes}
+use Rattle.t3_pools.specs.Pool.{Pool, Paged, page_bytes, HasBytes, ReachesPageEnd}
 use Rattle.t3_pools.specs.Building.{pages_at}
 use Rattle.t3_pools.specs.Finding.{listed}
 use Rattle.t3_pools.specs.Inner.Keeping.{paged_from, kept_bytes, IsKept, bytes_of, run_in, Runs}
@@ -181,8 +181,15 @@ pub run_in-page : (size : ℕ) (pages : List (List ℕ)) (address : ℕ) (page :
     → drop (address % size) page ≡ run_in size pages address
 run_in-page size pages address page some is = sym (run_in-drop size pages address some ∙ ap (λ p. drop (address % size) p) is)
 
+-- what is known of the run of one address
+record RunsIn (size : ℕ) (pool : Pool) (address : ℕ) (bytes : List ℕ) : Type 0 where
+  pub stand : HasBytes pool address bytes
+  pub empty : bytes ≡ [] → get pool address ≡ None
+  pub narrow : 0 < length bytes → address + length bytes < 2 ^ 31
+  pub whole : ReachesPageEnd size pool address bytes
+
 to_runs : (size address : ℕ) (pool : Pool) (bytes : List ℕ) → Reaches size (address % size) pool address bytes
-    → Runs size pool address bytes
+    → RunsIn size pool address bytes
 to_runs size address pool bytes reaches = record {
   stand = reaches.stand;
   empty = reaches.empty;
@@ -190,7 +197,7 @@ to_runs size address pool bytes reaches = record {
   whole = record { within = reaches.within; ends = reaches.ends };
 }
 
-no_run : (size : ℕ) (pages : List (List ℕ)) (address : ℕ) → IsKept size pages → size ≡ 0 → Runs size (kept_bytes size pages) address []
+no_run : (size : ℕ) (pages : List (List ℕ)) (address : ℕ) → IsKept size pages → size ≡ 0 → RunsIn size (kept_bytes size pages) address []
 no_run size pages address kept none =
     let zero_size : is_long_in 0 pages ≡ false = subst (λ (n : ℕ). is_long_in n pages ≡ false) none kept.fits in
     let nothing : (at : ℕ) → get (kept_bytes size pages) at ≡ None =
@@ -202,15 +209,33 @@ no_run size pages address kept none =
       whole = record { within = λ h. absurd (omega arith); ends = inr (nothing (address + 0)) };
     }
 
-pub runs_in : (size : ℕ) (pages : List (List ℕ)) (address : ℕ) → IsKept size pages
-    → Runs size (kept_bytes size pages) address (run_in size pages address)
+runs_in : (size : ℕ) (pages : List (List ℕ)) (address : ℕ) → IsKept size pages
+    → RunsIn size (kept_bytes size pages) address (run_in size pages address)
 runs_in size pages address kept = elim (cases_eq size 0) [
-  | inl none ↦ subst (λ (run : List ℕ). Runs size (kept_bytes size pages) address run) (run_in-zero size pages address none)
+  | inl none ↦ subst (λ (run : List ℕ). RunsIn size (kept_bytes size pages) address run) (run_in-zero size pages address none)
       (no_run size pages address kept none)
   | inr some ↦
       let at : address / size * size + address % size ≡ address = omega (arith, div-add-mod address size) in
-      subst (λ (run : List ℕ). Runs size (kept_bytes size pages) address run) (sym (run_in-drop size pages address some))
+      subst (λ (run : List ℕ). RunsIn size (kept_bytes size pages) address run) (sym (run_in-drop size pages address some))
       (to_runs size address (kept_bytes size pages) (drop (address % size) (bytes_of (slice_get pages (address / size))))
       (subst (λ (a : ℕ). Reaches size (address % size) (kept_bytes size pages) a (drop (address % size) (bytes_of (slice_get pages (address / size))))) at
       (runs_at size (address / size) (address % size) pages (omega arith) kept)))
 ]
+
+-- no byte stands at 2^31 or beyond
+kept-beyond : (size : ℕ) (pages : List (List ℕ)) (run : List ℕ) (far : ℕ) → 2 ^ 31 ≤ far → RunsIn size (kept_bytes size pages) far run
+    → get (kept_bytes size pages) far ≡ None
+kept-beyond size pages [] far le runs = runs.empty refl
+kept-beyond size pages (byte ∷ run) far le runs = absurd (omega (arith, runs.narrow (omega arith)))
+
+pub kept_runs : (size : ℕ) (pages : List (List ℕ)) (address : ℕ) → IsKept size pages
+    → Runs size (kept_bytes size pages) address (run_in size pages address)
+kept_runs size pages address kept =
+    let runs = runs_in size pages address kept in
+    record {
+      stand = runs.stand;
+      empty = runs.empty;
+      narrow = runs.narrow;
+      whole = runs.whole;
+      beyond = λ far le. kept-beyond size pages (run_in size pages far) far le (runs_in size pages far kept);
+    }

@@ -1,4 +1,4 @@
-ghost use Rattle.std.specs.Prelude.{◌≡◌, ◌≢◌, ◌<◌, ◌≤◌, ◌+◌, ◌*◌, ◌^◌, [], length, IfOk, IfSome};
+ghost use Rattle.std.specs.Prelude.{◌≡◌, ◌≢◌, ℕ, None, ◌<◌, ◌≤◌, ◌+◌, ◌*◌, ◌^◌, [], length, IfOk, IfSome};
 ghost use Rattle.std.specs.FinMap.{get};
 ghost use Rattle.t3_pools.specs.Pool.{numbered, page_size_of, pools_in, HasBytes, ReachesPageEnd};
 ghost use Rattle.t3_pools.specs.Building.{Builds};
@@ -49,13 +49,14 @@ impl Pools {
     }
 
     /// The bytes from an address of a pool to the end of its page: pool 1 is the code, 2 the constants.
-    /// Empty exactly where no byte stands there. It takes a shift where the page size is a power of two,
+    /// Empty exactly where no byte stands there; none stands at 2^31 or beyond. It takes a shift where the page size is a power of two,
     /// else a division, and no memory.
     #[inline(always)]
     pub fn run(&self, pool: u8, address: u32) -> &[u8]
         ensures stand { HasBytes (numbered self.now pool) address result.now }
         ensures empty { result.now ≡ [] → get (numbered self.now pool) address ≡ None }
         ensures bounded { result.now ≢ [] → address + length result.now < 2 ^ 31 }
+        ensures beyond { (far : ℕ) → 2 ^ 31 ≤ far → get (numbered self.now pool) far ≡ None }
         ensures whole { ReachesPageEnd (page_size_of self.now pool) (numbered self.now pool) address
             result.now }
     {

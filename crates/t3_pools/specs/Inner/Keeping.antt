@@ -31,9 +31,11 @@ bytes_of (Some page) = page
 unfoldable pub run_in : ℕ → List (List ℕ) → ℕ → List ℕ
 run_in size pages address = if size == 0 then [] else drop (address % size) (bytes_of (slice_get pages (address / size)))
 
--- the bytes from an address to the end of its page, which end below 2^31; none exactly where no byte stands there
+-- the bytes from an address to the end of its page, which end below 2^31; none exactly where no byte stands there. No byte stands at
+-- 2^31 or beyond
 pub record Runs (size : ℕ) (pool : Pool) (address : ℕ) (bytes : List ℕ) : Type 0 where
   pub stand : HasBytes pool address bytes
   pub empty : bytes ≡ [] → get pool address ≡ None
   pub narrow : 0 < length bytes → address + length bytes < 2 ^ 31
   pub whole : ReachesPageEnd size pool address bytes
+  pub beyond : (far : ℕ) → 2 ^ 31 ≤ far → get pool far ≡ None

@@ -1,4 +1,4 @@
-use Rattle.std.proofs.Common.{◌≡◌, ◌<◌, ◌≤◌, ◌+◌, ◌^◌, take}
+use Rattle.std.proofs.Common.{◌≡◌, ◌<◌, ◌+◌, ◌^◌, take}
 use Rattle.t3_pools.specs.Pool.{HasBytes}
 use Rattle.t3_pools.proofs.paged.PagedPool.fill_over.Given as goal
 

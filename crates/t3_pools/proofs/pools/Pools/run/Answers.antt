@@ -9,3 +9,6 @@ pub returns-else-pool-eq2-clause-whole : goal.returns-else-pool-eq2-clause-whole
 returns-else-pool-eq2-clause-whole c =
     let none = no_pool c.args.self.now c.args.pool (c.args.address + 0) c.if-pool-eq1.false c.if-pool-eq2.false in
     record { within = λ some. absurd (omega arith); ends = inr none }
+
+pub returns-else-pool-eq2-clause-beyond : goal.returns-else-pool-eq2-clause-beyond
+returns-else-pool-eq2-clause-beyond c far le = no_pool c.args.self.now c.args.pool far c.if-pool-eq1.false c.if-pool-eq2.false

@@ -1,0 +1,17 @@
+use Rattle.t3_methods.proofs.Decoding.{other_there, stands_there, alone_there}
+use Rattle.t3_methods.proofs.decoder.decode_at.Goals as goal
+
+pub returns-in_default-clause-finds : goal.returns-in_default-clause-finds
+returns-in_default-clause-finds c =
+    other_there c.args.pools.now.code c.args.address c.ubyte-opcode.result c.at-window.result c.at-window.ensures c.if-window-eq0.false
+    c.ubyte-opcode.ensures c.in_default.ensures
+
+pub returns-in_default-operands_end-clause-finds : goal.returns-in_default-operands_end-clause-finds
+returns-in_default-operands_end-clause-finds c =
+    alone_there c.args.pools.now.code c.args.address c.ubyte-opcode.result c.at-window.result c.in-Some.row c.at-window.ensures
+    c.if-window-eq0.false c.ubyte-opcode.ensures c.in-Some.ensures c.in_default-operands_end.ensures
+
+pub returns-clause-finds : goal.returns-clause-finds
+returns-clause-finds c =
+    stands_there c.args.pools.now.code c.args.address c.ubyte-opcode.result c.in-Some-operands_end.size c.at-window.result c.in-Some.row
+    c.at-window.ensures c.if-window-eq0.false c.ubyte-opcode.ensures c.in-Some.ensures c.in-Some-operands_end.ensures

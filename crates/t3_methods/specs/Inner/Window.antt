@@ -1,0 +1,59 @@
+-- The operands that the bytes of an instruction say.
+use Rattle.std.specs.Prelude.{◌≡◌, ℕ, ◌+◌, ◌^◌, ◌<◌, ◌≤◌, Bool, true, false, ◌&&◌, nat_le, List, [], ◌∷◌, length, take, drop, None}
+use Rattle.std.specs.FinMap.{get}
+use Rattle.t3_pools.specs.Pool.{Pool, HasBytes}
+use Rattle.t3_methods.specs.declared.window.Window.{Window}
+use Rattle.std.specs.Int.{w8, w16, w32, cast_signed}
+use Rattle.t3_holder.specs.NumberText.{value_of, AreBytes}
+use Rattle.t3_methods.specs.declared.kind.Kind.{Kind}
+use Rattle.t3_methods.specs.declared.kind.Kind.TheVariants as kinds
+use Rattle.t3_methods.specs.Operands.{Operand, Ubyte, Sbyte, Uint2, Jump, Uint4, Int4, Property, Object, Cases, width_of}
+
+-- a window shows the bytes that stand from an address on: as many as it has room for, or all of them
+pub record Shows (code : Pool) (address : ℕ) (window : Window) : Type 0 where
+  pub at : window.address ≡ address
+  pub few : window.count ≤ 10
+  pub long : length window.bytes ≡ 10
+  pub are : AreBytes window.bytes
+  pub stands : HasBytes code address (take window.count window.bytes)
+  pub ends : window.count < 10 → get code (address + window.count) ≡ None
+  pub bounded : 0 < window.count → address + window.count < 2 ^ 31
+  pub beyond : (far : ℕ) → 2 ^ 31 ≤ far → get code far ≡ None
+
+-- the number in so many bytes from a place on, its lowest byte first
+unfoldable pub number_at : ℕ → List ℕ → ℕ → ℕ
+number_at width bytes place = value_of (take width (drop place bytes))
+
+-- the operand of a kind whose number this is, at an address
+abbrev pub operand_by : Kind → ℕ → ℕ → Operand
+operand_by kinds.Ubyte address n = Ubyte n
+operand_by kinds.Sbyte address n = Sbyte (cast_signed w8 n)
+operand_by kinds.Uint2 address n = Uint2 n
+operand_by kinds.Jump address n = Jump (cast_signed w16 n)
+operand_by kinds.Uint4 address n = Uint4 n
+operand_by kinds.Int4 address n = Int4 (cast_signed w32 n)
+operand_by kinds.Property address n = Property n
+operand_by kinds.Object address n = Object n
+operand_by kinds.Cases address n = Cases n (address + 2)
+
+-- the operands of these kinds that bytes say from a place on; the first byte stands at the address
+abbrev pub operands_by : ℕ → List ℕ → ℕ → List Kind → List Operand
+operands_by address bytes place [] = []
+operands_by address bytes place (kind ∷ kinds) =
+    operand_by kind (address + place) (number_at (width_of kind) bytes place) ∷ operands_by address bytes (place + width_of kind) kinds
+
+-- in how many bytes the numbers of operands stand
+abbrev pub widths_of : List Kind → ℕ
+widths_of [] = 0
+widths_of (kind ∷ kinds) = width_of kind + widths_of kinds
+
+-- whether cases stand behind all other operands
+abbrev pub is_cases_last : List Kind → Bool
+is_cases_last [] = true
+is_cases_last (kinds.Cases ∷ []) = true
+is_cases_last (kinds.Cases ∷ _ ∷ _) = false
+is_cases_last (_ ∷ kinds) = is_cases_last kinds
+
+-- whether the operands stand within a window, behind an opcode, but for cases, which are the last then
+abbrev pub is_windowed : List Kind → Bool
+is_windowed kinds = nat_le (widths_of kinds) 7 && is_cases_last kinds

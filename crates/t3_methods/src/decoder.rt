@@ -1,0 +1,55 @@
+//! The instruction at an address: its bytes are looked at once, its row is found by the opcode, and then
+//! whether the operands stand whole.
+ghost use Rattle.std.specs.Prelude.{◌≡◌, ◌+◌, ◌<◌, ◌^◌, IfOk};
+ghost use Rattle.t3_methods.specs.Answers.{FindsInstr, found_of, IsOfRow};
+
+use crate::decoded::Decoded;
+use crate::instr::Instr;
+use crate::operands::operands_end;
+use crate::refusal::CodeRefusal;
+use crate::rows::row_at;
+use crate::window::Window;
+use t3_pools::Pools;
+
+/// The instruction at an address in code, and how many bytes it has.
+///
+/// `NoByte` where no byte stands at the address, `Opcode` where that byte is none of the table, and
+/// `Operand` where it is one and its operands aren't there whole: bytes are missing, a property or an
+/// object has the number 0, or a case's holder means nothing. The instruction ends below 2^31. It takes
+/// no memory.
+pub fn instr_at(pools: &Pools, address: u32) -> Result<(Instr, u32), CodeRefusal>
+    ensures finds { FindsInstr pools.now.code address result }
+    ensures within { IfOk result (λ found. address + found.1 < 2 ^ 31) }
+{
+    match decode_at(pools, address) {
+        Ok(decoded) => Ok((decoded.instr, decoded.size)),
+        Err(refusal) => Err(refusal),
+    }
+}
+
+/// As `instr_at`, with how many values the instruction takes off the stack or looks at there, and the
+/// local or argument that it names.
+#[inline(always)]
+pub fn decode_at(pools: &Pools, address: u32) -> Result<Decoded, CodeRefusal>
+    ensures finds { FindsInstr pools.now.code address (found_of result) }
+    ensures row { IfOk result IsOfRow }
+    ensures within { IfOk result (λ decoded. address + decoded.size < 2 ^ 31) }
+{
+    let window = Window::at(pools, address);
+    if window.count == 0 {
+        return Err(CodeRefusal::NoByte);
+    }
+    let opcode = window.ubyte(0);
+    let Some(row) = row_at(opcode, &window) else {
+        return Err(CodeRefusal::Opcode(opcode));
+    };
+    let Some(size) = operands_end(pools, &window, 1, row.kinds) else {
+        return Err(CodeRefusal::Operand);
+    };
+    Ok(Decoded {
+        instr: row.code,
+        size: size as u32,
+        takes: row.takes,
+        slot: row.slot,
+    })
+}

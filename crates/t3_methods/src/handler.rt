@@ -1,0 +1,127 @@
+//! Which handler catches what is thrown at a place of a method.
+ghost use Rattle.std.specs.Prelude.{◌≡◌, ◌+◌, ◌^◌, ◌<◌, IfSome};
+ghost use Rattle.t3_methods.specs.ExceptionTable.{FindsHandler, catches};
+ghost use Rattle.t3_methods.specs.Inner.Tables.{ReadsEntry, ReadsTable, earlier_of, entry_of};
+
+use crate::header::header_at;
+use crate::refusal::CodeRefusal;
+use crate::window::{WINDOW_SIZE, Window};
+use t3_pools::Pools;
+
+/// How many bytes an entry of an exception table has.
+const ENTRY_SIZE: u32 = 10;
+
+/// An entry of an exception table: from which offset of the method to which it covers, both included,
+/// the class of what it catches, or 0 for all, and the offset of the handler.
+#[derive(Clone, Copy)]
+pub(crate) struct TableEntry {
+    pub(crate) first: u16,
+    pub(crate) last: u16,
+    pub(crate) class: u32,
+    pub(crate) handler: u16,
+}
+
+/// The offset, from the method, of the handler that catches what is thrown at a place of a method: that
+/// of the first entry of the method's exception table that covers the place, and whose class is 0 or
+/// among `matches`. `None` where no entry does, or the method has no table.
+///
+/// `Header` exactly where no method header stands there, and else `Table` exactly where the header names
+/// a table that isn't whole. It takes no memory.
+pub fn handler_in(
+    pools: &Pools,
+    method: u32,
+    place: u32,
+    matches: &[u32],
+) -> Result<Option<u16>, CodeRefusal>
+    ensures { FindsHandler pools.now.code method place matches.now result }
+{
+    let header = match header_at(pools, method) {
+        Ok(header) => header,
+        Err(refusal) => return Err(refusal),
+    };
+    if header.exceptions == 0 {
+        return Ok(None);
+    }
+    let table = method + u32::from(header.exceptions);
+    match handler_by(pools, table, method, place, matches) {
+        Some(handler) => Ok(handler),
+        None => Err(CodeRefusal::Table),
+    }
+}
+
+/// The handler of the first entry that catches, of the table at an address. `None` where that isn't
+/// whole.
+fn handler_by(
+    pools: &Pools,
+    table: u32,
+    method: u32,
+    place: u32,
+    classes: &[u32],
+) -> Option<Option<u16>>
+    requires table { table < 2 ^ 31 + 2 ^ 16 }
+    requires method { method < 2 ^ 31 }
+    ensures { ReadsTable pools.now.code table method place classes.now result }
+{
+    let window = Window::at(pools, table);
+    if window.count < 2 {
+        return None;
+    }
+    let count = window.uint2(0);
+    let mut handler = None;
+    let mut next = table + 2;
+    for _ in 0..count {
+        let Some(entry) = entry_at(pools, next) else {
+            return None;
+        };
+        handler = earlier(handler, entry, method, place, classes);
+        next += ENTRY_SIZE;
+    }
+    Some(handler)
+}
+
+/// The handler that was found, or else that of an entry which catches.
+fn earlier(
+    found: Option<u16>,
+    entry: TableEntry,
+    method: u32,
+    place: u32,
+    classes: &[u32],
+) -> Option<u16>
+    requires { method < 2 ^ 31 }
+    ensures { result ≡ earlier_of method place classes.now found (entry_of entry) }
+{
+    if found.is_none() && entry.catches(method, place, classes) {
+        Some(entry.handler)
+    } else {
+        found
+    }
+}
+
+impl TableEntry {
+    /// Whether the entry covers the place, and catches an object of these classes.
+    fn catches(self, method: u32, place: u32, classes: &[u32]) -> bool
+        requires { method < 2 ^ 31 }
+        ensures { result ≡ catches method place classes.now (entry_of self) }
+    {
+        method + u32::from(self.first) <= place
+            && place <= method + u32::from(self.last)
+            && (self.class == 0 || classes.contains(&self.class))
+    }
+}
+
+/// The entry at an address. `None` where it isn't whole.
+fn entry_at(pools: &Pools, at: u32) -> Option<TableEntry>
+    ensures reads { ReadsEntry pools.now.code at result }
+    ensures bounded { IfSome result (λ _. at + 10 < 2 ^ 31) }
+{
+    let window = Window::at(pools, at);
+    if window.count < WINDOW_SIZE {
+        return None;
+    }
+    Some(TableEntry {
+        first: window.uint2(0),
+        last: window.uint2(2),
+        class: window.uint4(4),
+        handler: window.uint2(8),
+    })
+}
