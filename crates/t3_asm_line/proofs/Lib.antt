@@ -9,3 +9,4 @@ pub mod ValueLaws
 pub mod LineLaws
 pub mod LineEnds
 pub mod ReadingSteps
+pub mod Instructions

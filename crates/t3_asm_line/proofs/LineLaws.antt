@@ -148,6 +148,7 @@ found of.Handler named = record { word = IsWord-bare (name_of of.Handler) (lit< 
 found of.Case named = record { word = IsWord-bare (name_of of.Case) (lit< tt) refl; no_label = refl; found = refl }
 found of.Default named = record { word = IsWord-bare (name_of of.Default) (lit< tt) refl; no_label = refl; found = refl }
 found of.Label named = absurd named
+found (of.Instruction opcode) named = absurd named
 
 -- ---- lines
 

@@ -2,3 +2,4 @@
 pub mod Clipped
 pub mod Escaped
 pub mod Reading
+pub mod Rows

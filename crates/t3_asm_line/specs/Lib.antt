@@ -5,6 +5,7 @@ pub mod Labels
 pub mod Hexadecimal
 pub mod Fields
 pub mod Values
+pub mod Instructions
 pub mod Keywords
 pub mod Line
 pub mod Lines

@@ -10,7 +10,7 @@ use Rattle.t3_asm_line.specs.declared.field.Field.{Field}
 use Rattle.t3_asm_line.specs.declared.field.Layout.{Layout}
 use Rattle.t3_asm_line.specs.declared.field.Layout.TheVariants.{Number, Quoted, Hex}
 use Rattle.t3_asm_line.specs.declared.keyword.Keyword.{Keyword}
-use Rattle.t3_asm_line.specs.declared.keyword.Keyword.TheVariants.{Label}
+use Rattle.t3_asm_line.specs.declared.keyword.Keyword.TheVariants.{Label, Instruction}
 use Rattle.t3_asm_line.specs.declared.line.ParsedLine.{ParsedLine}
 use Rattle.t3_asm_line.specs.Fields.{layout_of}
 use Rattle.t3_asm_line.specs.Keywords.{name_of, fields_of}
@@ -70,9 +70,10 @@ FitFields [] (argument ∷ arguments) = ⊥
 FitFields (field ∷ fields) [] = ⊥
 FitFields (field ∷ fields) (argument ∷ arguments) = FitsIn (layout_of field) argument × FitFields fields arguments
 
--- a keyword that begins a line by its name
+-- a keyword of the table that begins a line by its name
 abbrev pub IsNamed : Keyword → Type 0
 IsNamed Label = ⊥
+IsNamed (Instruction opcode) = ⊥
 IsNamed keyword = Unit {0}
 
 -- a listing may have this line

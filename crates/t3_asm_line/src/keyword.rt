@@ -1,8 +1,12 @@
 //! The table of lines.
-ghost use Rattle.std.specs.Prelude.{◌≡◌, ◌<◌, length, slice_index_or, IfSome};
-ghost use Rattle.t3_asm_line.specs.Keywords.{name_of, fields_of, is_form as is_form_of, keyword_of};
+ghost use Rattle.std.specs.Prelude.{◌≡◌, ◌<◌, length, slice_index_or, IfSome, find};
+ghost use Rattle.t3_asm_line.specs.Instructions.{instr_at, opcode_named};
+ghost use Rattle.t3_asm_line.specs.Keywords.{name_of, fields_of, is_form as is_form_of, keywords, keyword_of, row_at, if_form};
+ghost use Rattle.t3_asm_line.specs.Inner.Rows.{fields_in};
 
 use crate::field::Field;
+use crate::instruction::{opcode, operand_field};
+use t3_methods::{Kind, shape_of};
 
 /// What a line begins with, and so which fields follow. `image` and `prop` have a keyword for each number
 /// of fields.
@@ -60,13 +64,45 @@ pub enum Keyword {
     Default,
     /// `L:`, which has the label as its one argument, and no field.
     Label,
+    /// An instruction, by its opcode, and its operands. `switch` has how many cases it has.
+    Instruction(u8),
 }
 
 /// A line of the table.
 #[derive(Drop)]
 struct Row {
     name: &'static [u8],
-    fields: &'static [Field],
+    fields: Fields,
+}
+
+/// The fields of a line of the table.
+#[derive(Clone, Copy)]
+pub enum Fields {
+    /// These.
+    Listed(&'static [Field]),
+    /// Those of operands of these kinds.
+    Operands(&'static [Kind]),
+}
+
+impl Fields {
+    fn len(self) -> usize
+        ensures { result ≡ length (fields_in self) }
+    {
+        match self {
+            Fields::Listed(fields) => fields.len(),
+            Fields::Operands(kinds) => kinds.len(),
+        }
+    }
+
+    fn at(self, at: usize) -> Field
+        requires { at < length (fields_in self) }
+        ensures { result ≡ slice_index_or (fields_in self) at result }
+    {
+        match self {
+            Fields::Listed(fields) => fields[at],
+            Fields::Operands(kinds) => operand_field(kinds[at]),
+        }
+    }
 }
 
 /// The fields of an entry point: its address, the sizes of its tables, and the bytes that are kept.
@@ -130,7 +166,7 @@ impl Keyword {
         requires { at < length (fields_of self) }
         ensures { result ≡ slice_index_or (fields_of self) at result }
     {
-        self.row().fields[at]
+        self.row().fields.at(at)
     }
 
     /// Whether a line of it begins with this word, and has so many others.
@@ -142,7 +178,7 @@ impl Keyword {
 
     fn row(self) -> Row
         ensures name { result.name.now ≡ name_of self }
-        ensures fields { result.fields.now ≡ fields_of self }
+        ensures fields { fields_in result.fields ≡ fields_of self }
     {
         use Field::{Address, BlockName, Jump, Name, Offset, Uint2, Uint4, Ubyte, Value};
         match self {
@@ -172,6 +208,7 @@ impl Keyword {
             Keyword::Case => begins(b"case", &[Ubyte, Value, Jump]),
             Keyword::Default => begins(b"default", &[Jump]),
             Keyword::Label => begins(b"", &[]),
+            Keyword::Instruction(opcode) => instruction_row(opcode),
         }
     }
 }
@@ -179,19 +216,57 @@ impl Keyword {
 /// A line of the table.
 fn begins(name: &'static [u8], fields: &'static [Field]) -> Row
     ensures name { result.name.now ≡ name.now }
-    ensures fields { result.fields.now ≡ fields.now }
+    ensures fields { fields_in result.fields ≡ fields.now }
 {
-    Row { name, fields }
+    Row {
+        name,
+        fields: Fields::Listed(fields),
+    }
+}
+
+/// The line of an opcode's instruction.
+fn instruction_row(opcode: u8) -> Row
+    ensures name { result.name.now ≡ (row_at (instr_at opcode)).name }
+    ensures fields { fields_in result.fields ≡ (row_at (instr_at opcode)).fields }
+{
+    match shape_of(opcode) {
+        Some(shape) => Row {
+            name: shape.name.as_bytes(),
+            fields: Fields::Operands(shape.kinds),
+        },
+        None => begins(b"", &[]),
+    }
 }
 
 /// The keyword of a line that begins with this word, and has so many others.
-#[tactic(auto, using(crate::proofs::Forms::found_form), unfolding(crate::specs::Keywords::keyword_of))]
+#[tactic(auto, unfolding(crate::specs::Keywords::keyword_of))]
 pub(crate) fn keyword_named(word: &[u8], count: usize) -> Option<Keyword>
     ensures keyword { result ≡ keyword_of word.now count }
     ensures count { IfSome result (λ keyword. length (fields_of keyword) ≡ count) }
+{
+    match listed_keyword(word, count) {
+        Some(keyword) => Some(keyword),
+        None => instruction(word, count),
+    }
+}
+
+fn listed_keyword(word: &[u8], count: usize) -> Option<Keyword>
+    ensures { result ≡ find (is_form_of word.now count) keywords }
 {
     KEYWORDS
         .iter()
         .copied()
         .find(|keyword| keyword.is_form(word, count))
+}
+
+/// The instruction of a line that begins with this word, and has so many others.
+fn instruction(word: &[u8], count: usize) -> Option<Keyword>
+    ensures { result ≡ if_form word.now count (opcode_named word.now) }
+{
+    match opcode(word) {
+        Some(opcode) if Keyword::Instruction(opcode).is_form(word, count) => {
+            Some(Keyword::Instruction(opcode))
+        }
+        _ => None,
+    }
 }

@@ -21,6 +21,7 @@
 mod argument;
 mod field;
 mod hexadecimal;
+mod instruction;
 mod keyword;
 mod labels;
 mod laws;
