@@ -1,5 +1,5 @@
 -- What is found of names and opcodes among the instructions.
-use Rattle.std.proofs.Common.{◌≡◌, ◌≢◌, ℕ, zero, suc, arith, Bool, true, false, cond, List, [], ◌∷◌, map, Option, Some, None, refl, ap, sym, subst, ◌∙◌}
+use Rattle.std.proofs.Common.{◌≡◌, ℕ, zero, suc, arith, Bool, true, false, cond, List, [], ◌∷◌, map, Option, Some, None, refl, ap, sym, subst, ◌∙◌}
 use Rattle.std.specs.Prelude.{◌==◌, nat_lt, find, IfSome}
 use Rattle.std.specs.List.{list_all}
 use Rattle.std.specs.Str.{IsUtf8, IsAscii}
@@ -243,7 +243,7 @@ ascii_named word instr is = on_some (instr_named word) (λ i. is_ascii_name i �
 pub no_text : (word : List ℕ) → ¬ IsUtf8 word → None ≡ opcode_named word
 no_text word never =
     no_instr (instr_named word) (λ instr is.
-      never (subst IsUtf8 (named_so word instr is) (IsUtf8-from_ascii (instr_row instr).name (ascii_from (instr_row instr).name (ascii_named word instr is)))))
+    never (subst IsUtf8 (named_so word instr is) (IsUtf8-from_ascii (instr_row instr).name (ascii_from (instr_row instr).name (ascii_named word instr is)))))
 
 -- ---- rows
 

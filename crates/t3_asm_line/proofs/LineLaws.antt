@@ -1,8 +1,7 @@
 -- The lines of a listing read back.
-use Rattle.std.proofs.Common.{◌≡◌, ℕ, zero, suc, ◌+◌, ◌^◌, ◌<◌, ◌≤◌, Bool, true, false, ◌&&◌, not, cond, map, append_assoc, List, [], ◌∷◌, ◌++◌, length, refl, ap, sym, ◌∙◌, Option, Some, None, Result, Ok, Err, lit<, lit≤, arith}
-use Rattle.std.specs.Prelude.{pos, codes, nat_le, ◌==◌}
+use Rattle.std.proofs.Common.{◌≡◌, ℕ, suc, ◌^◌, ◌<◌, true, not, map, append_assoc, List, [], ◌∷◌, ◌++◌, length, refl, ap, ◌∙◌, Some, None, Ok, lit<, lit≤, arith}
+use Rattle.std.specs.Prelude.{nat_le, ◌==◌}
 use Rattle.std.specs.List.{AllByRecursion}
-use Rattle.std.specs.Fmt.{decimal}
 use Rattle.std.proofs.lemmas.Bool.{le-leb, and_from, and_parts, not-true}
 use Rattle.std.proofs.lemmas.List.Folds.{list_all-append}
 use Rattle.t3_asm_line.specs.declared.argument.Argument.{Argument}
@@ -17,12 +16,12 @@ use Rattle.t3_asm_line.specs.declared.words.Mode.TheVariants.{Plain}
 use Rattle.t3_asm_line.specs.Fields.{layout_of, IsSound}
 use Rattle.t3_asm_line.specs.Keywords.{name_of, fields_of, keyword_of}
 use Rattle.t3_asm_line.specs.Labels.{label_put}
-use Rattle.t3_asm_line.specs.Line.{line_of, spoken, spoken_by, mapped, parsed_line, keyword_line, labelled_line}
+use Rattle.t3_asm_line.specs.Line.{line_of, spoken, spoken_by, mapped, parsed_line}
 use Rattle.t3_asm_line.specs.Lines.{lines_of}
 use Rattle.t3_asm_line.specs.declared.line.ParsedLine.{ParsedLine}
-use Rattle.t3_asm_line.specs.Listing.{spelled, spelled_in, spelled_fields, listed_line, FitsIn, FitFields, IsNamed, IsListed, IsListedLine, listing_of, quoted_text, hex_text}
-use Rattle.t3_asm_line.specs.Values.{value_of, value_in, values_of, joined}
-use Rattle.t3_asm_line.specs.Words.{words_from, words_of, closed}
+use Rattle.t3_asm_line.specs.Listing.{spelled, spelled_in, spelled_fields, listed_line, FitsIn, FitFields, IsNamed, IsListed, IsListedLine, listing_of}
+use Rattle.t3_asm_line.specs.Values.{value_of, value_in, values_of}
+use Rattle.t3_asm_line.specs.Words.{words_from, words_of}
 use Rattle.t3_asm_line.proofs.Clipping.{width_limit}
 use Rattle.t3_asm_line.proofs.QuotedLaws.{quoted_of-quoted_text, IsWord-quoted}
 use Rattle.t3_asm_line.proofs.ValueLaws.{number_of-decimal, hex_of-hex_text, IsWord-decimal, IsWord-hex}

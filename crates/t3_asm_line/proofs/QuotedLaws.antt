@@ -1,11 +1,11 @@
 -- Quoted texts of a listing read back.
-use Rattle.std.proofs.Common.{◌≡◌, ℕ, zero, suc, ◌+◌, ◌*◌, ◌/◌, ◌%◌, ◌<◌, ◌≤◌, Bool, true, false, ◌&&◌, not, cond, List, [], ◌∷◌, ◌++◌, length, get_or, refl, ap, subst, sym, ◌∙◌, append_assoc, Option, Some, None, arith}
+use Rattle.std.proofs.Common.{◌≡◌, ℕ, zero, suc, ◌+◌, ◌*◌, ◌/◌, ◌%◌, ◌<◌, Bool, true, false, ◌&&◌, not, List, [], ◌∷◌, ◌++◌, length, get_or, refl, ap, subst, sym, ◌∙◌, append_assoc, Some, arith}
 use Rattle.std.specs.Prelude.{◌==◌, slice_index}
 use Rattle.std.specs.List.{list_all, flat_map}
 use Rattle.std.proofs.lemmas.Bool.{and_parts, and_from, cond_both, eqb-true}
 use Rattle.std.proofs.lemmas.List.Folds.{list_all-append}
 use Rattle.std.proofs.lemmas.List.{append-nil}
-use Rattle.hex.specs.Hex.{hex_digit_value, lower_digits, encode_lower, encode_with}
+use Rattle.hex.specs.Hex.{lower_digits, encode_lower, encode_with}
 use Rattle.hex.proofs.HexLemmas.{IsDigits-lower_digits}
 use Rattle.t3_holder.specs.NumberText.{AreBytes}
 use Rattle.t3_asm_line.specs.declared.quoted.Due.TheVariants.{AnyByte}

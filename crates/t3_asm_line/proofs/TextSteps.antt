@@ -5,7 +5,7 @@ use Rattle.std.proofs.lemmas.List.{at_drop_more}
 use Rattle.t3_asm_line.specs.declared.quoted.Due.{Due}
 use Rattle.t3_asm_line.specs.declared.quoted.Due.TheVariants.{AnyByte}
 use Rattle.t3_asm_line.specs.declared.quoted.Turn.{Turn}
-use Rattle.t3_asm_line.specs.declared.quoted.Turn.TheVariants.{Give, Await}
+use Rattle.t3_asm_line.specs.declared.quoted.Turn.TheVariants.{Give}
 use Rattle.t3_asm_line.specs.Quoted.{text_from, with_byte}
 use Rattle.t3_asm_line.specs.Inner.Escaped.{text_behind}
 

@@ -1,20 +1,20 @@
 -- What a listing spells in a field reads back as it.
-use Rattle.std.proofs.Common.{◌≡◌, ℕ, zero, suc, ◌+◌, ◌*◌, ◌/◌, ◌%◌, ◌^◌, ◌<◌, ◌≤◌, ◌≢◌, Bool, true, false, ◌&&◌, not, cond, List, [], ◌∷◌, ◌++◌, length, get_or, take, refl, ap, subst, sym, ◌∙◌, Option, Some, None, Result, Ok, Err, ◌⊎◌, inl, inr, arith}
-use Rattle.std.specs.Prelude.{◌==◌, pos, ℤ, nat_eq, codes, nat_le, nat_lt}
+use Rattle.std.proofs.Common.{◌≡◌, ℕ, zero, suc, ◌/◌, ◌%◌, ◌^◌, ◌<◌, Bool, true, false, ◌&&◌, List, [], ◌∷◌, length, refl, ap, Some, ◌⊎◌, inl, inr, arith}
+use Rattle.std.specs.Prelude.{◌==◌, pos, nat_eq, codes, nat_lt}
 use Rattle.std.specs.Char.{is_digit, digit_value}
 use Rattle.std.specs.Fmt.{decimal}
 use Rattle.std.specs.Int.{IsInRange}
 use Rattle.std.specs.List.{list_all, starts_with}
 use Rattle.std.specs.Str.{bytes_eq}
-use Rattle.std.specs.Str.Parse.{AllDigits, digits_value}
-use Rattle.std.proofs.lemmas.Bool.{and_parts, and_from, eqb-true, ne_eqb, lt-ltb, le-leb}
+use Rattle.std.specs.Str.Parse.{AllDigits}
+use Rattle.std.proofs.lemmas.Bool.{and_from, ne_eqb, lt-ltb}
 use Rattle.std.proofs.lemmas.Fmt.{decimal_is_IsNumeral}
 use Rattle.std.proofs.lemmas.Slice.Eq.{bytes_eq-Decides}
-use Rattle.std.proofs.lemmas.Str.Parse.{digit_at, digit_from_value}
-use Rattle.hex.specs.Hex.{encode_lower, encode_with, lower_digits, decode_of, IsBytes}
+use Rattle.std.proofs.lemmas.Str.Parse.{digit_from_value}
+use Rattle.hex.specs.Hex.{encode_lower, encode_with, lower_digits, IsBytes}
 use Rattle.hex.proofs.HexLemmas.{decode_of-encode_lower, length-encode_with}
 use Rattle.t3_holder.specs.NumberText.{AreBytes}
-use Rattle.t3_asm_line.specs.Numbers.{number_of, is_numeral, natural_of}
+use Rattle.t3_asm_line.specs.Numbers.{number_of}
 use Rattle.t3_asm_line.specs.Hexadecimal.{hex_of}
 use Rattle.t3_asm_line.specs.Listing.{hex_text}
 use Rattle.t3_asm_line.proofs.WordLaws.{is_bare, IsWord, IsWord-bare}

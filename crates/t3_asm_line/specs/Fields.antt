@@ -1,5 +1,5 @@
 -- The fields of lines: how each is written, and what it holds.
-use Rattle.std.specs.Prelude.{ℕ, ◌^◌, ◌-◌, ◌≤◌, ◌<◌, Option, Some, None}
+use Rattle.std.specs.Prelude.{ℕ, ◌^◌, ◌-◌, ◌≤◌, ◌<◌, Some, None}
 use Rattle.t3_asm_line.specs.declared.field.Field.{Field}
 use Rattle.t3_asm_line.specs.declared.field.Field.TheVariants as fields
 use Rattle.t3_asm_line.specs.declared.field.Layout.{Layout}

@@ -1,5 +1,5 @@
 -- Instructions as lines of source: the name of an instruction, and the fields of its operands.
-use Rattle.std.specs.Prelude.{ℕ, pos, ◌==◌, List, [], ◌∷◌, map, Option, Some, None, find}
+use Rattle.std.specs.Prelude.{ℕ, pos, ◌==◌, List, [], ◌∷◌, map, Option, find}
 use Rattle.std.specs.Option.{option_map}
 use Rattle.std.specs.Str.{bytes_eq}
 use Rattle.t3_methods.specs.declared.kind.Kind.{Kind}
@@ -13,7 +13,7 @@ use Rattle.t3_methods.specs.declared.instr.StackCode.TheVariants.{Getlcl1, Getlc
 use Rattle.t3_methods.specs.declared.instr.JumpCode.TheVariants.{Switch, Jmp, Jt, Jf, Je, Jne, Jgt, Jge, Jlt, Jle, Jst, Jsf, Ljsr, Lret}
 use Rattle.t3_methods.specs.declared.instr.MakeCode.TheVariants.{Say, Builtina, Builtinb, Builtinc, Builtind, Builtin1, Throw, Sayval, Index, New1, New2, Trnew1, Trnew2}
 use Rattle.t3_methods.specs.declared.instr.LocalCode.TheVariants.{Inclcl, Declcl, Addilcl1, Addilcl4, Addtolcl, Subfromlcl, Zerolcl1, Zerolcl2, Nillcl1, Nillcl2, Onelcl1, Onelcl2, Setlcl1, Setlcl2, Setarg1, Setarg2, Setind, Setprop, Ptrsetprop, Setpropself, Objsetprop, Nop}
-use Rattle.t3_methods.specs.Operands.{Operand, kind_of}
+use Rattle.t3_methods.specs.Operands.{kind_of}
 use Rattle.t3_methods.specs.InstructionTable.{row_of as instr_row}
 use Rattle.t3_asm_line.specs.declared.field.Field.{Field}
 use Rattle.t3_asm_line.specs.declared.field.Field.TheVariants as fields

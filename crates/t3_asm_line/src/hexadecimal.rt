@@ -8,8 +8,8 @@ use hex::FromHexError;
 use std::alloc::Global;
 use t3_holder::NoMemory;
 
-#[tactic(auto, unfolding(crate::specs::Hexadecimal::hex_of))]
 /// The bytes that a word says in hexadecimal digits, or none for `-`; `None` where it says none.
+#[tactic(auto, unfolding(crate::specs::Hexadecimal::hex_of))]
 pub(crate) fn hex_bytes(alloc: Global, word: &[u8]) -> Result<Option<Vec<u8>>, NoMemory>
     ensures { IfOk result (λ bytes. option_map (λ bytes. bytes.items) bytes ≡ hex_of word.now) }
 {

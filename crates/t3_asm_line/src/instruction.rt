@@ -5,8 +5,8 @@ ghost use Rattle.t3_asm_line.specs.Instructions.{field_of, opcode_named as opcod
 use crate::field::Field;
 use t3_methods::{Kind, opcode_named};
 
-#[tactic(auto, using(crate::proofs::Instructions::opcode_is, crate::proofs::Instructions::no_text))]
 /// The opcode of the instruction of a name.
+#[tactic(auto, using(crate::proofs::Instructions::opcode_is, crate::proofs::Instructions::no_text))]
 pub(crate) fn opcode(word: &[u8]) -> Option<u8>
     ensures { result ≡ opcode_of word.now }
 {

@@ -85,6 +85,7 @@ pub enum Fields {
 }
 
 impl Fields {
+    /// How many fields there are.
     fn len(self) -> usize
         ensures { result ≡ length (fields_in self) }
     {
@@ -94,6 +95,7 @@ impl Fields {
         }
     }
 
+    /// One of them, counted from 0.
     fn at(self, at: usize) -> Field
         requires { at < length (fields_in self) }
         ensures { result ≡ slice_index_or (fields_in self) at result }
@@ -147,7 +149,7 @@ const KEYWORDS: [Keyword; 25] = [
 ];
 
 impl Keyword {
-    /// The word that begins a line of it; nothing for a label.
+    /// The word that begins a line of it; nothing for a label, and for a byte that is no opcode.
     pub fn name(self) -> &'static [u8]
         ensures { result.now ≡ name_of self }
     {
@@ -176,6 +178,7 @@ impl Keyword {
         self.name() == word && self.field_count() == count
     }
 
+    /// Its line of the table.
     fn row(self) -> Row
         ensures name { result.name.now ≡ name_of self }
         ensures fields { fields_in result.fields ≡ fields_of self }
@@ -213,7 +216,7 @@ impl Keyword {
     }
 }
 
-/// A line of the table.
+/// A line that begins by this name.
 fn begins(name: &'static [u8], fields: &'static [Field]) -> Row
     ensures name { result.name.now ≡ name.now }
     ensures fields { fields_in result.fields ≡ fields.now }
@@ -250,6 +253,7 @@ pub(crate) fn keyword_named(word: &[u8], count: usize) -> Option<Keyword>
     }
 }
 
+/// The same, but for instructions.
 fn listed_keyword(word: &[u8], count: usize) -> Option<Keyword>
     ensures { result ≡ find (is_form_of word.now count) keywords }
 {

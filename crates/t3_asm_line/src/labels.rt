@@ -23,8 +23,8 @@ fn is_label_byte(byte: u8) -> bool
     byte.is_ascii_alphanumeric() || byte == b'_'
 }
 
-#[tactic(auto, unfolding(crate::specs::Labels::label_put))]
 /// The label that a word puts: all of it but the colon at its end.
+#[tactic(auto, unfolding(crate::specs::Labels::label_put))]
 pub(crate) fn label_put(word: &[u8]) -> Option<&[u8]>
     ensures { option_copied result ≡ put word.now }
 {

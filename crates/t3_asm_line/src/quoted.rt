@@ -38,8 +38,8 @@ pub enum Turn {
     Await(Due),
 }
 
-#[tactic(auto, unfolding(crate::specs::Quoted::quoted_of))]
 /// The text that a word says between quotes; `None` where it is no quoted text.
+#[tactic(auto, unfolding(crate::specs::Quoted::quoted_of))]
 pub(crate) fn quoted(alloc: Global, word: &[u8]) -> Result<Option<Vec<u8>>, NoMemory>
     ensures { IfOk result (λ text. option_map (λ text. text.items) text ≡ quoted_of word.now) }
 {

@@ -296,6 +296,52 @@ fn reads_each_line_of_a_method(rt: HostRuntime) -> Result<(), Fail> {
     )
 }
 
+#[test]
+fn reads_instructions(rt: HostRuntime) -> Result<(), Fail> {
+    check_rows(
+        &rt,
+        rt.alloc(),
+        &[
+            (b"nop", "Instruction(242)"),
+            (b"nop;x", "Instruction(242)"),
+            (b"NOP", "Word"),
+            (b"nop 0", "Word"),
+            (b"nop: nop", "Word"),
+            (b"\xF2", "Word"),
+            (b"push_0", "Instruction(1)"),
+            (b"pushint8 -128", "Instruction(3) 128"),
+            (b"pushint8 127", "Instruction(3) 127"),
+            (b"pushint8 128", "Range"),
+            (b"pushint8 -129", "Range"),
+            (b"pushint -2147483648", "Instruction(4) 2147483648"),
+            (b"pushint 2147483647", "Instruction(4) 2147483647"),
+            (b"pushint 4294967295", "Range"),
+            (b"pushint @L", "Number"),
+            (b"pushstr @cave", "Instruction(5) @63617665"),
+            (b"pushobj 0", "Instruction(7) 0"),
+            (b"pushobj @o", "Instruction(7) @6f"),
+            (b"getprop 0", "Instruction(96) 0"),
+            (b"getprop 65536", "Range"),
+            (b"getprop ~L", "Number"),
+            (b"call 1 @move", "Instruction(88) 1 @6d6f7665"),
+            (b"call 256 @move", "Range"),
+            (b"call 1", "Word"),
+            (b"objcallprop 1 2 3", "Instruction(103) 1 2 3"),
+            (b"expinherit 1 2 3", "Instruction(116) 1 2 3"),
+            (b"expinherit 1 65536 x", "Number"),
+            (b"jmp @loop", "Instruction(145) @6c6f6f70"),
+            (b"jmp -1", "Instruction(145) 65535"),
+            (b"jmp 32768", "Range"),
+            (b"jmp ~loop", "Number"),
+            (b"switch 65535", "Instruction(144) 65535"),
+            (b"switch", "Word"),
+            (b"switch 1 2", "Word"),
+            (b"builtin1 1 2 3", "Instruction(181) 1 2 3"),
+            (b"addilcl4 65535 -1", "Instruction(211) 65535 4294967295"),
+        ],
+    )
+}
+
 /// A line of a keyword and a quoted text of so many bytes, and what it says: its size again, or the rule
 /// that it breaks.
 fn size_told(alloc: Global, keyword: &str, size: usize) -> Result<String, Fail> {

@@ -62,8 +62,8 @@ fn value(alloc: Global, field: Field, word: &[u8]) -> Result<Argument, LineRefus
     }
 }
 
-#[tactic(auto, using(crate::proofs::Clipping::width_limit))]
 /// The bits of a number that a field of so many bytes holds.
+#[tactic(auto, using(crate::proofs::Clipping::width_limit))]
 fn number_value(width: u8, below: u32, most: u32, z: i64) -> Result<Argument, LineRefusal>
     requires width { width ≤ 4 }
     requires below { below ≤ 256 ^ width }

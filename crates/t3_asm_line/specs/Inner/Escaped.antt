@@ -1,5 +1,5 @@
 -- What one byte of a quoted text does.
-use Rattle.std.specs.Prelude.{◌≡◌, ℕ, ◌<◌, List, Option, Some, None}
+use Rattle.std.specs.Prelude.{ℕ, ◌<◌, List, Option, Some, None}
 use Rattle.t3_asm_line.specs.Quoted.{text_from, text_end, with_byte}
 use Rattle.t3_asm_line.specs.declared.quoted.Due.{Due}
 use Rattle.t3_asm_line.specs.declared.quoted.Due.TheVariants.{AnyByte, Escape, FirstDigit, SecondDigit}

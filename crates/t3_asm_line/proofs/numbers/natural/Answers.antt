@@ -1,6 +1,5 @@
-use Rattle.std.proofs.Common.{◌≡◌, ◌<◌, true, length, get_or, arith, ◌∙◌, ap, min, ◌*◌, ◌+◌, take}
+use Rattle.std.proofs.Common.{◌<◌, length, get_or, arith, ◌∙◌, ap, min, ◌*◌, ◌+◌, take}
 use Rattle.std.specs.Char.{is_digit, digit_value}
-use Rattle.std.specs.List.{list_all}
 use Rattle.std.specs.Str.Parse.{digits_value}
 use Rattle.std.proofs.lemmas.Bool.{and_from, lt-ltb}
 use Rattle.std.proofs.lemmas.List.Folds.{list_all_more}

@@ -1,4 +1,4 @@
-use Rattle.std.proofs.Common.{◌≡◌, ◌<◌, length, arith}
+use Rattle.std.proofs.Common.{◌<◌, length, arith}
 use Rattle.t3_asm_line.specs.declared.quoted.Turn.TheVariants.{Await}
 use Rattle.t3_asm_line.proofs.TextSteps.{text_from-behind, text_from-give}
 use Rattle.t3_asm_line.proofs.quoted.text.Goals as goal

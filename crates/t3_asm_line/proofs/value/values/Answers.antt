@@ -1,4 +1,4 @@
-use Rattle.std.proofs.Common.{◌≡◌, ◌+◌, ap, sym, ◌∙◌, map, drop, arith}
+use Rattle.std.proofs.Common.{◌+◌, ap, sym, ◌∙◌, map, drop, arith}
 use Rattle.t3_asm_line.specs.Keywords.{fields_of}
 use Rattle.t3_asm_line.specs.Values.{values_of, joined}
 use Rattle.t3_asm_line.specs.Inner.Reading.{behind_values}

@@ -1,4 +1,4 @@
-use Rattle.std.proofs.Common.{◌≡◌, ◌<◌, length, arith, sym, ◌∙◌}
+use Rattle.std.proofs.Common.{◌<◌, length, arith, sym, ◌∙◌}
 use Rattle.t3_asm_line.proofs.WordSteps.{words_from-space, words_from-other}
 use Rattle.t3_asm_line.proofs.words.words.Goals as goal
 use Rattle.t3_asm_line.proofs.words.words.Goals.{then-ends_word+in_ok-push_word-2, else-ends_word}
