@@ -1,0 +1,12 @@
+pub mod Clipping
+pub mod TextSteps
+pub mod WordSteps
+pub mod Forms
+pub mod Appended
+pub mod WordLaws
+pub mod QuotedLaws
+pub mod ValueLaws
+pub mod LineLaws
+pub mod LineEnds
+pub mod ReadingSteps
+pub mod Instructions

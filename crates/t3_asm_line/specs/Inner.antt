@@ -1,0 +1,5 @@
+-- What only private functions cite.
+pub mod Clipped
+pub mod Escaped
+pub mod Reading
+pub mod Rows

@@ -1,0 +1,14 @@
+pub mod Words
+pub mod Numbers
+pub mod Quoted
+pub mod Labels
+pub mod Hexadecimal
+pub mod Fields
+pub mod Values
+pub mod Instructions
+pub mod Keywords
+pub mod Line
+pub mod Lines
+pub mod Listing
+pub mod Appending
+pub mod Inner
