@@ -1,5 +1,5 @@
 -- What a decoder finds of an address: an instruction, or why none stands there.
-use Rattle.std.proofs.Common.{◌≡◌, ◌≢◌, ℕ, ◌+◌, ◌<◌, ◌≤◌, List, [], ◌∷◌, map, Some, None, refl, sym, ap, ◌∙◌, subst, arith}
+use Rattle.std.proofs.Common.{◌≡◌, ◌≢◌, ℕ, ◌+◌, List, [], ◌∷◌, map, Some, None, refl, sym, ap, ◌∙◌, subst, arith}
 use Rattle.std.specs.FinMap.{get}
 use Rattle.t3_pools.specs.Pool.{Pool}
 use Rattle.t3_methods.specs.declared.kind.Kind.{Kind}
@@ -9,7 +9,7 @@ use Rattle.t3_methods.specs.declared.window.Window.{Window}
 use Rattle.t3_methods.specs.Operands.{Operand, kind_of, width_of, HasOperands, sizes_of}
 use Rattle.t3_methods.specs.InstructionTable.{row_of}
 use Rattle.t3_methods.specs.Answers.{Stands, HasOtherByte, HasOpcodeAlone}
-use Rattle.t3_methods.specs.Inner.Window.{Shows, number_at, operands_by}
+use Rattle.t3_methods.specs.Inner.Window.{Shows, IsWhole, number_at, operands_by}
 use Rattle.t3_methods.specs.Inner.Rows.{HasNoRow, IsRow}
 use Rattle.t3_methods.specs.Inner.Cases.{EndsOperands, FindsEnds}
 use Rattle.t3_methods.proofs.Operating.{kind_of-operand_by}
@@ -29,11 +29,6 @@ opcode_there : (code : Pool) (address opcode : ℕ) (w : Window) → Shows code 
 opcode_there code address opcode w shows some is =
     let here : address + 0 ≡ address = omega arith in
     ap (get code) (sym here) ∙ byte_there code address 0 opcode w shows (omega (arith, some)) is
-
-pub no_byte_there : (code : Pool) (address : ℕ) (w : Window) → Shows code address w → w.count ≡ 0 → get code address ≡ None
-no_byte_there code address w shows none =
-    let here : address ≡ address + w.count = omega (arith, none) in
-    ap (get code) here ∙ shows.ends (omega (arith, none))
 
 pub other_there : (code : Pool) (address opcode : ℕ) (w : Window) → Shows code address w → w.count ≢ 0 → opcode ≡ number_at 1 w.bytes 0
     → HasNoRow row_of opcode → HasOtherByte code address opcode
@@ -55,8 +50,8 @@ stands_there code address opcode end w found shows some is row ends =
     }
 
 pub alone_there : (code : Pool) (address opcode : ℕ) (w : Window) (found : TableRow Instr) → Shows code address w → w.count ≢ 0
-    → opcode ≡ number_at 1 w.bytes 0 → IsRow row_of opcode w found → FindsEnds code w 1 found.kinds.now None → HasOpcodeAlone code address
-alone_there code address opcode w found shows some is row none =
+    → opcode ≡ number_at 1 w.bytes 0 → IsRow row_of opcode w found → FindsEnds code w 1 found.kinds.now None → IsWhole code w → HasOpcodeAlone code address
+alone_there code address opcode w found shows some is row none whole =
     let there = opcode_there code address opcode w shows some is in
     let known : (row_of found.code).opcode ≡ opcode = ap (λ r. r.opcode) row.row_is in
     let kinds : map kind_of (row_of found.code).operands ≡ found.kinds.now =
@@ -69,6 +64,6 @@ alone_there code address opcode w found shows some is row none =
       bare = λ instr size stands.
           let same : Some (row_of instr).opcode ≡ Some opcode = sym stands.opcode ∙ there in
           let opcode_is : (row_of instr).opcode ≡ opcode = cc in
-          none (row_of instr).operands (one_layout instr found.code (opcode_is ∙ sym known) ∙ kinds)
+          none whole (row_of instr).operands (one_layout instr found.code (opcode_is ∙ sym known) ∙ kinds)
           (subst (λ (n : ℕ). HasOperands code n (row_of instr).operands) here stands.operands);
     }

@@ -1,12 +1,11 @@
 -- Where operands end that stand at a place of a window, and that there are none.
-use Rattle.std.proofs.Common.{◌≡◌, ◌≢◌, ℕ, zero, suc, ℤ, ◌+◌, ◌*◌, ◌^◌, ◌<◌, ◌≤◌, Bool, true, false, ◌==◌, List, [], ◌∷◌, length, map, Option, Some, None, refl, sym, ap, ◌∙◌, subst, arith}
-use Rattle.t3_holder.specs.NumberText.{little_endian}
+use Rattle.std.proofs.Common.{◌≡◌, ◌≢◌, ℕ, ◌+◌, ◌*◌, ◌^◌, ◌<◌, ◌≤◌, true, false, ◌==◌, List, [], ◌∷◌, length, map, Option, Some, None, refl, sym, ap, ◌∙◌, subst, arith}
 use Rattle.t3_holder.proofs.Numbers.{length-little_endian}
 use Rattle.t3_pools.specs.Pool.{Pool}
 use Rattle.t3_methods.specs.declared.kind.Kind.{Kind}
 use Rattle.t3_methods.specs.declared.kind.Kind.TheVariants as kinds
 use Rattle.t3_methods.specs.declared.window.Window.{Window}
-use Rattle.t3_methods.specs.Operands.{Operand, Cases, kind_of, width_of, number_of, operand_text, HasCases, HasJump, HasRest, HasOperand, HasOperands, size_of, sizes_of}
+use Rattle.t3_methods.specs.Operands.{Operand, Cases, kind_of, width_of, number_of, operand_text, HasRest, HasOperand, HasOperands, size_of, sizes_of}
 use Rattle.t3_methods.specs.Inner.Window.{Shows, number_at, operand_by, operands_by, is_cases_last}
 use Rattle.t3_methods.specs.Inner.Cases.{IsNamed, HasSwitch, operand_in, EndsOperand, FindsEnd, EndsOperands, FindsEnds}
 use Rattle.t3_methods.proofs.Shown.{number_less, number_stands, short}
@@ -63,11 +62,11 @@ end_fixed code w place kind shows le is other =
       shown = λ _. le;
     }
 
-pub end_short : (code : Pool) (w : Window) (place : ℕ) (kind : Kind) → Shows code w.address w → place + width_of kind ≤ 10 → place ≤ w.count
+pub end_short : (code : Pool) (w : Window) (place : ℕ) (kind : Kind) → place + width_of kind ≤ 10 → place ≤ w.count
     → w.count < place + width_of kind → FindsEnd code w place kind None
-end_short code w place kind shows room behind less o same has =
+end_short code w place kind room behind less whole o same has =
     let long : length (operand_text o) ≡ width_of kind = length-little_endian (width_of (kind_of o)) (number_of o) ∙ ap width_of same in
-    short code w.address place (width_of kind) w (operand_text o) shows room behind less long has.number
+    short code place (width_of kind) w (operand_text o) whole room behind less long has.number
 
 -- the number of an operand is the one that the window says
 number_shown : (code : Pool) (w : Window) (place : ℕ) (kind : Kind) (o : Operand) → Shows code w.address w → place + width_of kind ≤ w.count
@@ -78,7 +77,7 @@ number_shown code w place kind o shows le same has =
 
 pub end_unnamed : (code : Pool) (w : Window) (place : ℕ) (kind : Kind) → Shows code w.address w → place + width_of kind ≤ w.count
     → ¬ IsNamed kind (number_at (width_of kind) w.bytes place) → FindsEnd code w place kind None
-end_unnamed code w place kind shows le none o same has =
+end_unnamed code w place kind shows le none whole o same has =
     let number = number_shown code w place kind o shows le same has in
     none (subst (λ (n : ℕ). IsNamed kind n) number (subst (λ (k : Kind). IsNamed k (number_of o)) same (named o has.fits)))
 
@@ -100,7 +99,7 @@ end_cases code w place count same shows le has below =
 
 pub end_uncased : (code : Pool) (w : Window) (place count : ℕ) → count ≡ number_at 2 w.bytes place → Shows code w.address w → place + 2 ≤ w.count
     → ¬ HasSwitch code (w.address + place + 2) count → FindsEnd code w place kinds.Cases None
-end_uncased code w place count is_count shows le none o same has =
+end_uncased code w place count is_count shows le none whole o same has =
     let at : ℕ = w.address + place in
     let n : ℕ = number_at 2 w.bytes place in
     let number = number_shown code w place kinds.Cases o shows le same has in
@@ -122,7 +121,7 @@ none_first code at kind rest none (o ∷ os) same have = let first : kind_of o �
 
 pub ends_first : (code : Pool) (w : Window) (place : ℕ) (kind : Kind) (rest : List Kind) → FindsEnd code w place kind None
     → FindsEnds code w place (kind ∷ rest) None
-ends_first code w place kind rest none = none_first code (w.address + place) kind rest none
+ends_first code w place kind rest none = λ whole. none_first code (w.address + place) kind rest (none whole)
 
 pub ends_one : (code : Pool) (w : Window) (place : ℕ) (kind : Kind) (found : Option ℕ) → FindsEnd code w place kind found
     → FindsEnds code w place (kind ∷ []) found
@@ -172,13 +171,13 @@ none_behind code at first rest has none (o ∷ os) same have =
 
 pub ends_more : (code : Pool) (w : Window) (place mid : ℕ) (kind : Kind) (rest : List Kind) (found : Option ℕ) → kind ≢ kinds.Cases
     → EndsOperand code w place kind mid → FindsEnds code w mid rest found → FindsEnds code w place (kind ∷ rest) found
-ends_more code w place mid kind rest None other first none =
+ends_more code w place mid kind rest None other first none = λ whole.
     let at : ℕ = w.address + place in
     let o : Operand = operand_in w place kind in
     let kind_is : kind_of o ≡ kind = kind_of-operand_by kind at (number_at (width_of kind) w.bytes place) in
     let there : w.address + mid ≡ at + size_of o = omega (arith, first.end_is) in
     let behind : (os : List Operand) → map kind_of os ≡ rest → ¬ HasOperands code (at + size_of o) os =
-    subst (λ (m : ℕ). (os : List Operand) → map kind_of os ≡ rest → ¬ HasOperands code m os) there none in
+    subst (λ (m : ℕ). (os : List Operand) → map kind_of os ≡ rest → ¬ HasOperands code m os) there (none whole) in
     subst (λ (k : Kind). (os : List Operand) → map kind_of os ≡ k ∷ rest → ¬ HasOperands code at os) kind_is
     (none_behind code at o rest first.has behind)
 ends_more code w place mid kind rest (Some end) other first ends =

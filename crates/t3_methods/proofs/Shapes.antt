@@ -1,6 +1,5 @@
 -- The shape of an opcode, and the opcode of a name.
-use Rattle.std.proofs.Common.{◌≡◌, ◌≢◌, ℕ, ◌+◌, ◌<◌, ◌≤◌, List, Option, Some, None, Bool, true, false, map, refl, sym, ap, ◌∙◌, arith}
-use Rattle.t3_methods.specs.declared.kind.Kind.{Kind}
+use Rattle.std.proofs.Common.{◌≡◌, ◌≢◌, ℕ, ◌<◌, ◌≤◌, List, Some, None, map, refl, sym, ap, ◌∙◌, arith}
 use Rattle.t3_methods.specs.declared.instr.Instr.{Instr}
 use Rattle.t3_methods.specs.declared.rows.TableRow.{TableRow}
 use Rattle.t3_methods.specs.declared.window.Window.{Window}

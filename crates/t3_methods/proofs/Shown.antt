@@ -1,6 +1,6 @@
 -- What a window shows of code: the numbers in it stand there, and behind its bytes none does.
-use Rattle.std.proofs.Common.{◌≡◌, ℕ, zero, suc, ◌+◌, ◌-◌, ◌^◌, ◌<◌, ◌≤◌, List, [], ◌∷◌, ◌++◌, length, take, drop, Some, None, refl, sym, ap, ◌∙◌, subst, arith}
-use Rattle.std.proofs.lemmas.List.{take-append-drop, length-take-le, length-take, length-drop, drop-take, take-take}
+use Rattle.std.proofs.Common.{◌≡◌, ℕ, zero, suc, ◌+◌, ◌-◌, ◌^◌, ◌<◌, ◌≤◌, List, [], ◌∷◌, ◌++◌, length, take, drop, Some, None, sym, ap, ◌∙◌, subst, arith}
+use Rattle.std.proofs.lemmas.List.{take-append-drop, length-take-le, length-drop, drop-take, take-take}
 use Rattle.std.specs.FinMap.{get}
 use Rattle.t3_holder.specs.NumberText.{little_endian, value_of, AreBytes}
 use Rattle.t3_holder.proofs.Numbers.{little_endian-value_of, value_fits}
@@ -8,7 +8,7 @@ use Rattle.t3_blocks.proofs.Lists.{AreBytes-take, AreBytes-drop}
 use Rattle.t3_pools.specs.Pool.{Pool, HasBytes}
 use Rattle.t3_pools.proofs.Standing.{stands_right, stands_take}
 use Rattle.t3_methods.specs.declared.window.Window.{Window}
-use Rattle.t3_methods.specs.Inner.Window.{Shows, number_at}
+use Rattle.t3_methods.specs.Inner.Window.{Shows, ShowsAll, IsWhole, number_at}
 
 -- a byte of them that isn't there
 pub not_there : (code : Pool) (at k : ℕ) (bytes : List ℕ) → k < length bytes → get code (at + k) ≡ None → HasBytes code at bytes → ⊥
@@ -65,9 +65,16 @@ number_stands code address place width w shows le =
     (part code address place width w shows le)
 
 -- so many bytes that aren't all there
-pub short : (code : Pool) (address place width : ℕ) (w : Window) (text : List ℕ) → Shows code address w → place + width ≤ 10 → place ≤ w.count
-    → w.count < place + width → length text ≡ width → ¬ HasBytes code (address + place) text
-short code address place width w text shows room behind less long has =
+pub short : (code : Pool) (place width : ℕ) (w : Window) (text : List ℕ) → IsWhole code w → place + width ≤ 10 → place ≤ w.count
+    → w.count < place + width → length text ≡ width → ¬ HasBytes code (w.address + place) text
+short code place width w text whole room behind less long has =
     let k : ℕ = w.count - place in
-    let there : (address + place) + k ≡ address + w.count = omega arith in
-    not_there code (address + place) k text (omega arith) (ap (get code) there ∙ shows.ends (omega arith)) has
+    let there : (w.address + place) + k ≡ w.address + w.count = omega arith in
+    not_there code (w.address + place) k text (omega arith) (ap (get code) there ∙ whole (omega arith)) has
+
+-- the same at the address that it shows
+pub short_at : (code : Pool) (address place width : ℕ) (w : Window) (text : List ℕ) → ShowsAll code address w → place + width ≤ 10 → place ≤ w.count
+    → w.count < place + width → length text ≡ width → ¬ HasBytes code (address + place) text
+short_at code address place width w text shows room behind less long has =
+    short code place width w text shows.whole room behind less long
+    (subst (λ (n : ℕ). HasBytes code (n + place) text) (sym shows.shows.at) has)

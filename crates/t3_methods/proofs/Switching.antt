@@ -1,8 +1,8 @@
 -- The cases of a switch: which stands at an address, and what is known of them while they are gone over.
-use Rattle.std.proofs.Common.{◌≡◌, ℕ, zero, suc, ℤ, ◌+◌, ◌*◌, ◌^◌, ◌<◌, ◌≤◌, List, [], ◌∷◌, ◌++◌, length, take, drop, Option, Some, None, IfSome, is_some, Bool, IsTrue, true, false, inl, inr, refl, sym, ap, ◌∙◌, subst, rules, arith, w16, Fits}
+use Rattle.std.proofs.Common.{◌≡◌, ℕ, zero, suc, ℤ, ◌+◌, ◌*◌, ◌^◌, ◌<◌, ◌≤◌, List, length, take, Option, Some, None, IfSome, is_some, Bool, IsTrue, inl, inr, sym, ap, ◌∙◌, subst, rules, arith, w16}
 use mir.Val.{to_z, of_z}
 use Rattle.std.proofs.lemmas.Bool.{cases_lt}
-use Rattle.std.proofs.lemmas.Int.{of_z-to_z, to_z-of_z, ints}
+use Rattle.std.proofs.lemmas.Int.{of_z-to_z, ints}
 use Rattle.std.specs.Int.RustNames.{FitsSigned}
 use Rattle.std.specs.FinMap.{get}
 use Rattle.t3_holder.specs.NumberText.{little_endian, twos_complement}
@@ -10,15 +10,14 @@ use Rattle.t3_holder.specs.HolderText.{raw_text, IsRaw, Means}
 use Rattle.t3_holder.specs.declared.holder.Raw.{Raw}
 use Rattle.t3_holder.specs.declared.holder.Holder.{Holder}
 use Rattle.t3_holder.proofs.Numbers.{length-little_endian}
-use Rattle.t3_holder.proofs.Holders.{one_raw, one_holder}
+use Rattle.t3_holder.proofs.Holders.{one_raw}
 use Rattle.t3_pools.specs.Pool.{Pool, HasBytes}
-use Rattle.t3_pools.specs.Constants.{HasHolder}
 use Rattle.t3_pools.proofs.Standing.{same_bytes}
 use Rattle.t3_methods.specs.declared.window.Window.{Window}
 use Rattle.t3_methods.specs.Operands.{HasJump, HasCase, HasCases}
-use Rattle.t3_methods.specs.Inner.Window.{Shows, number_at}
-use Rattle.t3_methods.specs.Inner.Cases.{HasSwitch, DecidesSwitch, FindsJump, ReadsCase}
-use Rattle.t3_methods.proofs.Shown.{part, number_less, number_stands, short}
+use Rattle.t3_methods.specs.Inner.Window.{Shows, ShowsAll, number_at}
+use Rattle.t3_methods.specs.Inner.Cases.{DecidesSwitch, FindsJump}
+use Rattle.t3_methods.proofs.Shown.{part, number_less, number_stands, short_at}
 
 -- ---- a distance
 
@@ -42,10 +41,10 @@ jump_shown code address place w z shows le is =
       stands = subst (λ (m : ℕ). HasBytes code (address + place) (little_endian 2 m)) (sym number) (number_stands code address place 2 w shows le);
     })
 
-pub no_jump : (code : Pool) (address place : ℕ) (w : Window) (z : ℤ) → Shows code address w → place + 2 ≤ 10 → place ≤ w.count → w.count < place + 2
+pub no_jump : (code : Pool) (address place : ℕ) (w : Window) (z : ℤ) → ShowsAll code address w → place + 2 ≤ 10 → place ≤ w.count → w.count < place + 2
     → ¬ HasJump code (address + place) z
 no_jump code address place w z shows room behind less has =
-    short code address place 2 w _ shows room behind less (length-little_endian 2 _) has.stands
+    short_at code address place 2 w _ shows room behind less (length-little_endian 2 _) has.stands
 
 -- ---- a holder
 
@@ -72,13 +71,13 @@ case_shown code at w raw holder z shows le text fits means is =
       has_jump = jump_shown code at 5 w z shows (omega arith) is;
     }
 
-pub case_short : (code : Pool) (at : ℕ) (w : Window) → Shows code at w → w.count < 7 → (holder : Holder) (jump : ℤ) → ¬ HasCase code at holder jump
+pub case_short : (code : Pool) (at : ℕ) (w : Window) → ShowsAll code at w → w.count < 7 → (holder : Holder) (jump : ℤ) → ¬ HasCase code at holder jump
 case_short code at w shows less holder jump has =
     let here : at + 0 ≡ at = omega arith in
     let raw = has.has_holder.raw in
     let first = subst (λ (n : ℕ). HasBytes code n (raw_text raw)) (sym here) has.has_holder.stands in
     elim (cases_lt w.count 5) [
-      | inl few ↦ short code at 0 5 w (raw_text raw) shows (omega arith) (omega arith) (omega arith) (length-raw_text raw) first
+      | inl few ↦ short_at code at 0 5 w (raw_text raw) shows (omega arith) (omega arith) (omega arith) (length-raw_text raw) first
       | inr some ↦ no_jump code at 5 w jump shows (omega arith) (omega arith) (omega arith) has.has_jump
     ]
 

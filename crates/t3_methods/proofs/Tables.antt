@@ -1,5 +1,5 @@
 -- Exception tables: the entry at an address, what is known of a table while it is gone over, and the handler that it gives.
-use Rattle.std.proofs.Common.{◌≡◌, ℕ, zero, suc, ◌+◌, ◌*◌, ◌^◌, ◌<◌, ◌≤◌, Bool, true, false, cond, List, [], ◌∷◌, ◌++◌, length, Option, Some, None, refl, sym, ap, ◌∙◌, subst, arith}
+use Rattle.std.proofs.Common.{◌≡◌, ℕ, zero, suc, ◌+◌, ◌*◌, ◌^◌, ◌<◌, ◌≤◌, true, false, cond, List, [], ◌∷◌, ◌++◌, length, Option, Some, None, refl, sym, ap, ◌∙◌, subst, arith}
 use Rattle.std.proofs.lemmas.List.{length-append, append-nil}
 use Rattle.std.specs.List.{flat_map, find, AllByRecursion}
 use Rattle.std.specs.Option.{option_map}
@@ -10,9 +10,9 @@ use Rattle.t3_pools.specs.Pool.{Pool, HasBytes}
 use Rattle.t3_pools.proofs.Standing.{stands_left, stands_right, stands_both, same_bytes}
 use Rattle.t3_methods.specs.declared.window.Window.{Window}
 use Rattle.t3_methods.specs.ExceptionTable.{Entry, IsEntry, entry_text, HasTable, catches, handler_among}
-use Rattle.t3_methods.specs.Inner.Window.{Shows, number_at}
+use Rattle.t3_methods.specs.Inner.Window.{Shows, ShowsAll, number_at}
 use Rattle.t3_methods.specs.Inner.Tables.{HasEntry, earlier_of}
-use Rattle.t3_methods.proofs.Shown.{short, number_less, number_stands}
+use Rattle.t3_methods.proofs.Shown.{short_at, number_less, number_stands}
 
 at_start : (code : Pool) (at : ℕ) (bytes : List ℕ) → HasBytes code at bytes → HasBytes code (at + 0) bytes
 at_start code at bytes = subst (λ (n : ℕ). HasBytes code n bytes) (let e : at ≡ at + 0 = omega arith in e)
@@ -30,9 +30,9 @@ length-entry_text entry =
     let d = length-little_endian 2 entry.handler in
     simp (length-append) (omega (arith, a, b, c, d))
 
-pub entry_short : (code : Pool) (at : ℕ) (w : Window) → Shows code at w → w.count < 10 → (entry : Entry) → ¬ HasEntry code at entry
+pub entry_short : (code : Pool) (at : ℕ) (w : Window) → ShowsAll code at w → w.count < 10 → (entry : Entry) → ¬ HasEntry code at entry
 entry_short code at w shows less entry has =
-    short code at 0 10 w (entry_text entry) shows (omega arith) (omega arith) (omega arith) (length-entry_text entry)
+    short_at code at 0 10 w (entry_text entry) shows (omega arith) (omega arith) (omega arith) (length-entry_text entry)
     (at_start code at (entry_text entry) has.stands)
 
 -- a number that a window says stands in front of what stands behind it
@@ -156,10 +156,10 @@ count_there code table count w entries shows le is has =
     let long = length-little_endian 2 (length entries) ∙ sym (length-little_endian 2 count) in
     same_number 2 (length entries) count (omega (arith, has.fits)) fits (same_bytes code _ _ table front here long)
 
-pub table_short : (code : Pool) (table : ℕ) (w : Window) → Shows code table w → w.count < 2 → (entries : List Entry) → ¬ HasTable code table entries
+pub table_short : (code : Pool) (table : ℕ) (w : Window) → ShowsAll code table w → w.count < 2 → (entries : List Entry) → ¬ HasTable code table entries
 table_short code table w shows less entries has =
     let front = stands_left code (little_endian 2 (length entries)) (flat_map entry_text entries) table has.stands in
-    short code table 0 2 w (little_endian 2 (length entries)) shows (omega arith) (omega arith) (omega arith)
+    short_at code table 0 2 w (little_endian 2 (length entries)) shows (omega arith) (omega arith) (omega arith)
     (length-little_endian 2 (length entries)) (at_start code table _ front)
 
 pub table_gap : (code : Pool) (table count nth next : ℕ) (w : Window) → Shows code table w → 2 ≤ w.count → count ≡ number_at 2 w.bytes 0

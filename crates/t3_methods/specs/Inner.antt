@@ -2,3 +2,4 @@ pub mod Window
 pub mod Rows
 pub mod Cases
 pub mod Tables
+pub mod Decoding

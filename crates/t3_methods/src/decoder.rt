@@ -2,13 +2,15 @@
 //! whether the operands stand whole.
 ghost use Rattle.std.specs.Prelude.{◌≡◌, ◌+◌, ◌<◌, ◌^◌, IfOk};
 ghost use Rattle.t3_methods.specs.Answers.{FindsInstr, found_of, IsOfRow};
+ghost use Rattle.t3_methods.specs.Inner.Window.{Shows};
+ghost use Rattle.t3_methods.specs.Inner.Decoding.{FindsInWindow};
 
 use crate::decoded::Decoded;
 use crate::instr::Instr;
 use crate::operands::operands_end;
 use crate::refusal::CodeRefusal;
 use crate::rows::row_at;
-use crate::window::Window;
+use crate::window::{WINDOW_SIZE, Window};
 use t3_pools::Pools;
 
 /// The instruction at an address in code, and how many bytes it has.
@@ -35,15 +37,42 @@ pub fn decode_at(pools: &Pools, address: u32) -> Result<Decoded, CodeRefusal>
     ensures row { IfOk result IsOfRow }
     ensures within { IfOk result (λ decoded. address + decoded.size < 2 ^ 31) }
 {
+    let window = Window::in_page(pools, address);
+    match decode(pools, &window) {
+        Ok(decoded) => Ok(decoded),
+        Err(CodeRefusal::Operand) if window.count < WINDOW_SIZE => decode_over(pools, address),
+        Err(refusal) => Err(refusal),
+    }
+}
+
+/// As `decode_at`, where the instruction may go over the border of a page.
+#[cold]
+#[inline(never)]
+fn decode_over(pools: &Pools, address: u32) -> Result<Decoded, CodeRefusal>
+    ensures finds { FindsInstr pools.now.code address (found_of result) }
+    ensures row { IfOk result IsOfRow }
+    ensures within { IfOk result (λ decoded. address + decoded.size < 2 ^ 31) }
+{
     let window = Window::at(pools, address);
+    decode(pools, &window)
+}
+
+/// The instruction at the front of a window, as far as that tells.
+#[inline(always)]
+fn decode(pools: &Pools, window: &Window) -> Result<Decoded, CodeRefusal>
+    requires { Shows pools.now.code window.now.address window.now }
+    ensures finds { FindsInWindow pools.now.code window.now (found_of result) }
+    ensures row { IfOk result IsOfRow }
+    ensures within { IfOk result (λ decoded. window.now.address + decoded.size < 2 ^ 31) }
+{
     if window.count == 0 {
         return Err(CodeRefusal::NoByte);
     }
     let opcode = window.ubyte(0);
-    let Some(row) = row_at(opcode, &window) else {
+    let Some(row) = row_at(opcode, window) else {
         return Err(CodeRefusal::Opcode(opcode));
     };
-    let Some(size) = operands_end(pools, &window, 1, row.kinds) else {
+    let Some(size) = operands_end(pools, window, 1, row.kinds) else {
         return Err(CodeRefusal::Operand);
     };
     Ok(Decoded {

@@ -70,6 +70,25 @@ fn decodes_each_opcode(rt: HostRuntime) -> Result<(), Fail> {
     Ok(())
 }
 
+/// Each opcode of the table, with its bytes cut into pages of each size.
+#[test]
+fn decodes_over_borders(rt: HostRuntime) -> Result<(), Fail> {
+    let alloc = rt.alloc();
+    for (code, want) in ROWS {
+        let whole = format!(in alloc; "Ok(({want}, {}))", code.len())?;
+        for size in 1..code.len() {
+            let mut parts = Vec::new(alloc);
+            for part in code.chunks(size) {
+                parts.push(part)?;
+            }
+            let pages = paged(alloc, size as u32, &parts)?;
+            let found = format!(in alloc; "{:?}", instr_at(&pages, 0))?;
+            assert_eq!(rt; found.as_str(), whole.as_str(), "pages of {size}");
+        }
+    }
+    Ok(())
+}
+
 /// A page with a method, at each of its addresses.
 #[test]
 fn reads_a_header_at_each_address(rt: HostRuntime) -> Result<(), Fail> {

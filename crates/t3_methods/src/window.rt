@@ -26,6 +26,18 @@ fn first_bytes(run: &[u8]) -> [u8; WINDOW_SIZE]
     bytes
 }
 
+/// The bytes of a run that has at most as many as a window, and 0 behind them.
+#[inline(always)]
+fn padded(run: &[u8]) -> [u8; WINDOW_SIZE]
+    requires { length run.now ≤ 10 }
+    ensures front { take (length run.now) result ≡ run.now }
+    ensures are { AreBytes result }
+{
+    let mut bytes = [0; WINDOW_SIZE];
+    bytes[..run.len()].copy_from_slice(run);
+    bytes
+}
+
 /// The bytes from an address of code on.
 #[derive(Drop)]
 pub(crate) struct Window {
@@ -38,16 +50,17 @@ pub(crate) struct Window {
 }
 
 impl Window {
-    ghost use Rattle.t3_methods.specs.Inner.Window.{number_at, Shows};
+    ghost use Rattle.t3_methods.specs.Inner.Window.{number_at, Shows, ShowsAll, EndsPage};
 
-    /// The bytes from an address on.
+    /// The bytes from an address on that stand in its page.
     #[inline(always)]
-    pub(crate) fn at(pools: &Pools, address: u32) -> Window
-        ensures { Shows pools.now.code address result }
+    pub(crate) fn in_page(pools: &Pools, address: u32) -> Window
+        ensures shows { Shows pools.now.code address result }
+        ensures beyond { (far : ℕ) → 2 ^ 31 ≤ far → get pools.now.code far ≡ None }
     {
         let run = pools.run(CODE, address);
         if run.len() < WINDOW_SIZE {
-            return Window::over(pools, address);
+            return Window::of_end(address, run);
         }
         Window {
             address,
@@ -56,12 +69,36 @@ impl Window {
         }
     }
 
+    /// The bytes of a run that are fewer than the window has room for.
+    #[inline(always)]
+    fn of_end(address: u32, run: &[u8]) -> Window
+        requires { length run.now ≤ 10 }
+        ensures { EndsPage address run.now result }
+    {
+        Window {
+            address,
+            count: run.len(),
+            bytes: padded(run),
+        }
+    }
+
+    /// The bytes from an address on, over the borders of pages.
+    pub(crate) fn at(pools: &Pools, address: u32) -> Window
+        ensures { ShowsAll pools.now.code address result }
+    {
+        let window = Window::in_page(pools, address);
+        if window.count < WINDOW_SIZE {
+            return Window::over(pools, address);
+        }
+        window
+    }
+
     /// As `at`, byte by byte, where a page ends within the window.
     #[cold]
     #[inline(never)]
     fn over(pools: &Pools, address: u32) -> Window
         requires { (far : ℕ) → 2 ^ 31 ≤ far → get pools.now.code far ≡ None }
-        ensures { Shows pools.now.code address result }
+        ensures { ShowsAll pools.now.code address result }
     {
         let mut bytes = [0; WINDOW_SIZE];
         let mut next = address;

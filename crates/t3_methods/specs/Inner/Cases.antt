@@ -6,7 +6,7 @@ use Rattle.t3_methods.specs.declared.kind.Kind.{Kind}
 use Rattle.t3_methods.specs.declared.kind.Kind.TheVariants as kinds
 use Rattle.t3_methods.specs.declared.window.Window.{Window}
 use Rattle.t3_methods.specs.Operands.{Operand, kind_of, width_of, HasCases, HasCase, HasJump, HasOperand, HasOperands, size_of, sizes_of}
-use Rattle.t3_methods.specs.Inner.Window.{number_at, operand_by, operands_by}
+use Rattle.t3_methods.specs.Inner.Window.{number_at, operand_by, operands_by, IsWhole}
 
 -- so many cases, and one more distance behind them
 pub record HasSwitch (code : Pool) (at count : ℕ) : Type 0 where
@@ -56,9 +56,10 @@ pub record EndsOperand (code : Pool) (window : Window) (place : ℕ) (kind : Kin
   pub bounded : window.address + end < 2 ^ 31
   pub shown : width_of kind ≡ size_of (operand_in window place kind) → end ≤ window.count
 
--- where the operand of a kind at a place ends, or none of it stands there
+-- where the operand of a kind at a place ends, or none of it stands there, as far as a whole window tells
 abbrev pub FindsEnd : Pool → Window → ℕ → Kind → Option ℕ → Type 0
-FindsEnd code window place kind None = (operand : Operand) → kind_of operand ≡ kind → ¬ HasOperand code (window.address + place) operand
+FindsEnd code window place kind None =
+    IsWhole code window → (operand : Operand) → kind_of operand ≡ kind → ¬ HasOperand code (window.address + place) operand
 FindsEnd code window place kind (Some end) = EndsOperand code window place kind end
 
 -- operands stand from a place of the window on, and end there
@@ -67,8 +68,8 @@ pub record EndsOperands (code : Pool) (window : Window) (place : ℕ) (kinds : L
   pub end_is : end ≡ place + sizes_of (operands_by window.address window.bytes place kinds)
   pub bounded : window.address + end < 2 ^ 31
 
--- where operands of these kinds end, or they don't stand there
+-- where operands of these kinds end, or they don't stand there, as far as a whole window tells
 abbrev pub FindsEnds : Pool → Window → ℕ → List Kind → Option ℕ → Type 0
-FindsEnds code window place kinds None = (operands : List Operand) → map kind_of operands ≡ kinds
-    → ¬ HasOperands code (window.address + place) operands
+FindsEnds code window place kinds None =
+    IsWhole code window → (operands : List Operand) → map kind_of operands ≡ kinds → ¬ HasOperands code (window.address + place) operands
 FindsEnds code window place kinds (Some end) = EndsOperands code window place kinds end

@@ -1,8 +1,6 @@
 -- What is found of an opcode.
 use Rattle.std.specs.Prelude.{◌≡◌, ◌≢◌, ℕ, Bool, true, false, List, Option, Some, None}
-use Rattle.t3_methods.specs.declared.kind.Kind.{Kind}
 use Rattle.t3_methods.specs.declared.instr.Instr.{Instr}
-use Rattle.t3_methods.specs.declared.decoded.Slot.{Slot}
 use Rattle.t3_methods.specs.declared.window.Window.{Window}
 use Rattle.t3_methods.specs.declared.rows.TableRow.{TableRow}
 use Rattle.t3_methods.specs.InstructionTable.{Row, row, row_of}

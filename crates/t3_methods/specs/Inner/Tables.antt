@@ -1,5 +1,5 @@
 -- What the functions that read exception tables answer.
-use Rattle.std.specs.Prelude.{◌≡◌, ℕ, ◌+◌, List, Option, Some, None, if◌then◌else◌}
+use Rattle.std.specs.Prelude.{◌≡◌, ℕ, List, Option, Some, None, if◌then◌else◌}
 use Rattle.t3_pools.specs.Pool.{Pool, HasBytes}
 use Rattle.t3_methods.specs.declared.handler.TableEntry.{TableEntry}
 use Rattle.t3_methods.specs.ExceptionTable.{Entry, IsEntry, entry_text, HasTable, catches, handler_among}

@@ -9,15 +9,32 @@ use Rattle.t3_methods.specs.declared.kind.Kind.{Kind}
 use Rattle.t3_methods.specs.declared.kind.Kind.TheVariants as kinds
 use Rattle.t3_methods.specs.Operands.{Operand, Ubyte, Sbyte, Uint2, Jump, Uint4, Int4, Property, Object, Cases, width_of}
 
--- a window shows the bytes that stand from an address on: as many as it has room for, or all of them
+-- a window shows bytes that stand from an address on; none only where none stands there
 pub record Shows (code : Pool) (address : ℕ) (window : Window) : Type 0 where
   pub at : window.address ≡ address
   pub few : window.count ≤ 10
   pub long : length window.bytes ≡ 10
   pub are : AreBytes window.bytes
   pub stands : HasBytes code address (take window.count window.bytes)
-  pub ends : window.count < 10 → get code (address + window.count) ≡ None
+  pub empty : window.count ≡ 0 → get code address ≡ None
   pub bounded : 0 < window.count → address + window.count < 2 ^ 31
+
+-- a window shows these bytes alone
+pub record EndsPage (address : ℕ) (run : List ℕ) (window : Window) : Type 0 where
+  pub at : window.address ≡ address
+  pub count : window.count ≡ length run
+  pub long : length window.bytes ≡ 10
+  pub are : AreBytes window.bytes
+  pub front : take (length run) window.bytes ≡ run
+
+-- as many as it has room for, or all of them
+abbrev pub IsWhole : Pool → Window → Type 0
+IsWhole code window = window.count < 10 → get code (window.address + window.count) ≡ None
+
+-- a window shows all of the bytes that it has room for, and no byte stands at 2^31 or beyond
+pub record ShowsAll (code : Pool) (address : ℕ) (window : Window) : Type 0 where
+  pub shows : Shows code address window
+  pub whole : IsWhole code window
   pub beyond : (far : ℕ) → 2 ^ 31 ≤ far → get code far ≡ None
 
 -- the number in so many bytes from a place on, its lowest byte first

@@ -1,4 +1,4 @@
-use Rattle.std.proofs.Common.{◌≡◌, ◌+◌, ◌*◌, ℕ, suc, sym, subst, ap, arith}
+use Rattle.std.proofs.Common.{◌≡◌, ◌+◌, ◌*◌, ℕ, suc, sym, subst, arith}
 use Rattle.t3_methods.specs.Operands.{HasCases}
 use Rattle.t3_methods.proofs.Switching.{SomeCase, cases-more, cases-each, switch_told}
 use Rattle.t3_methods.proofs.cases.has_switch.Goals as goal

@@ -7,12 +7,12 @@ returns-then-window-clause-reads c = case_short c.args.pools.now.code c.args.at 
 
 pub returns-in_default-clause-reads : goal.returns-in_default-clause-reads
 returns-in_default-clause-reads c =
-    case_unmeant c.args.pools.now.code c.args.at c.at-window.result c.read_raw.result c.holder_of.result c.at-window.ensures c.if-window.false
+    case_unmeant c.args.pools.now.code c.args.at c.at-window.result c.read_raw.result c.holder_of.result c.at-window.ensures.shows c.if-window.false
     (c.read_raw.ensures ∙ c.five.ensures)
     (search rules) c.in_default.is c.holder_of.ensures.meant
 
 pub returns-clause-reads : goal.returns-clause-reads
 returns-clause-reads c =
-    case_shown c.args.pools.now.code c.args.at c.at-window.result c.read_raw.result c.in-Some.holder c.int2.result c.at-window.ensures c.if-window.false
+    case_shown c.args.pools.now.code c.args.at c.at-window.result c.read_raw.result c.in-Some.holder c.int2.result c.at-window.ensures.shows c.if-window.false
     (c.read_raw.ensures ∙ c.five.ensures)
     (search rules) c.in-Some.ensures.means c.int2.ensures

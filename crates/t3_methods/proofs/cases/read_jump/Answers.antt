@@ -1,4 +1,4 @@
-use Rattle.std.proofs.Common.{ℕ, ◌≡◌, ◌+◌, ℤ, sym, subst, arith, w16}
+use Rattle.std.proofs.Common.{ℕ, ◌≡◌, ◌+◌, subst, arith, w16}
 use mir.Val.{to_z, of_z}
 use Rattle.t3_methods.specs.Operands.{HasJump}
 use Rattle.t3_methods.proofs.Switching.{jump_shown, no_jump}
@@ -18,4 +18,4 @@ returns-clause-finds c =
     let here : c.args.at + 0 ≡ c.args.at = omega arith in
     let enough = c.if-window-lt2.false in
     subst (λ (n : ℕ). HasJump code n (to_z w16 (of_z w16 c.int2.result))) here
-    (jump_shown code c.args.at 0 c.at-window.result c.int2.result c.at-window.ensures (omega arith) c.int2.ensures)
+    (jump_shown code c.args.at 0 c.at-window.result c.int2.result c.at-window.ensures.shows (omega arith) c.int2.ensures)

@@ -8,4 +8,4 @@ returns-then-window-lt-WINDOW_SIZE-clause-reads c =
 pub returns-clause-reads : goal.returns-clause-reads
 returns-clause-reads c =
     entry_shown c.args.pools.now.code c.args.at c.uint2.result c.uint2-2.result c.uint4.result c.uint2-3.result c.at-window.result
-    c.at-window.ensures c.if-window-lt-WINDOW_SIZE.false c.uint2.ensures c.uint2-2.ensures c.uint4.ensures c.uint2-3.ensures
+    c.at-window.ensures.shows c.if-window-lt-WINDOW_SIZE.false c.uint2.ensures c.uint2-2.ensures c.uint4.ensures c.uint2-3.ensures

@@ -8,7 +8,7 @@ returns-then-window-lt2 c = table_short c.args.pools.now.code c.args.table c.at-
 
 pub returns-in_default : goal.returns-in_default
 returns-in_default c =
-    table_gap c.args.pools.now.code c.args.table c.uint2-count.result c.loop.counter c.loop.next c.at-window.result c.at-window.ensures
+    table_gap c.args.pools.now.code c.args.table c.uint2-count.result c.loop.counter c.loop.next c.at-window.result c.at-window.ensures.shows
     c.if-window-lt2.false c.uint2-count.ensures c.loop-test.true c.loop.invariant.next c.in_default.ensures.reads
 
 pub loop-preserved : goal.loop-preserved
@@ -26,4 +26,4 @@ returns c =
     let most = c.loop.auto.counter-end in
     let all : c.loop.counter ≡ c.uint2-count.result = omega arith in
     table_whole c.args.pools.now.code c.args.table c.args.method c.args.place c.args.classes.now c.uint2-count.result c.loop.counter
-    c.loop.handler c.at-window.result c.at-window.ensures c.if-window-lt2.false c.uint2-count.ensures all c.loop.invariant.passed
+    c.loop.handler c.at-window.result c.at-window.ensures.shows c.if-window-lt2.false c.uint2-count.ensures all c.loop.invariant.passed

@@ -1,4 +1,4 @@
-use Rattle.std.proofs.Common.{◌≡◌, ◌+◌, ◌*◌, ◌^◌, ◌<◌}
+use Rattle.std.proofs.Common.{◌≡◌, ◌+◌, ◌*◌}
 use Rattle.t3_methods.proofs.Tables.{Passed}
 use Rattle.t3_methods.proofs.handler.handler_by.Given as goal
 

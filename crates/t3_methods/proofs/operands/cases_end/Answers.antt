@@ -1,4 +1,4 @@
-use Rattle.std.proofs.Common.{◌≡◌, refl, ℕ, ◌+◌, ◌*◌, sym, subst, ap, arith}
+use Rattle.std.proofs.Common.{refl, ℕ, ◌+◌, ◌*◌, sym, subst}
 use Rattle.t3_methods.specs.declared.kind.Kind.TheVariants.{Cases}
 use Rattle.t3_methods.specs.Inner.Cases.{EndsOperand}
 use Rattle.t3_methods.proofs.Ending.{end_cases, end_uncased}

@@ -6,7 +6,7 @@ use Rattle.t3_methods.proofs.operands.operand_end.Goals as goal
 pub returns-then-window-end : goal.returns-then-window-end
 returns-then-window-end c =
     let less = c.if-window-end.true in
-    end_short c.args.pools.now.code c.args.window.now c.args.place c.args.kind c.requires.shows c.requires.room c.requires.behind
+    end_short c.args.pools.now.code c.args.window.now c.args.place c.args.kind c.requires.room c.requires.behind
     (omega (arith, c.width.ensures))
 
 pub returns-then-not-is_named : goal.returns-then-not-is_named

@@ -1,27 +1,9 @@
-use Rattle.std.proofs.Common.{◌≡◌, ℕ, ◌≢◌, List, [], length, take, refl, sym, ap, subst, ◌∙◌, arith}
-use Rattle.std.proofs.lemmas.List.{length-take-le}
-use Rattle.t3_pools.specs.Pool.{HasBytes}
-use Rattle.t3_pools.proofs.Standing.{stands_take}
-use Rattle.t3_methods.proofs.Windows.{take-same}
+use Rattle.std.proofs.Common.{arith}
 use Rattle.t3_methods.proofs.window.Window.at.Goals as goal
 
 pub returns : goal.returns
-returns c =
-    let code = c.args.pools.now.code in
-    let run : List ℕ = c.run-run.result.now in
-    let enough = c.if-run-lt-WINDOW_SIZE.false in
-    let long : length c.first_bytes.result ≡ 10 = ap length c.first_bytes.ensures.same ∙ length-take-le 10 run enough in
-    let some : run ≢ [] = λ none. (let short : length run ≡ 0 = ap length none in absurd (omega arith)) in
-    let bounded = c.run-run.ensures.bounded some in
-    record {
-      at = refl;
-      few = omega arith;
-      long = long;
-      are = c.first_bytes.ensures.are;
-      stands = subst (λ (b : List ℕ). HasBytes code c.args.address b)
-          (sym (ap (take 10) c.first_bytes.ensures.same ∙ take-same 10 run))
-          (stands_take code run c.args.address 10 c.run-run.ensures.stand);
-      ends = λ less. absurd (omega arith);
-      bounded = λ _. omega arith;
-      beyond = c.run-run.ensures.beyond;
-    }
+returns c = record {
+  shows = c.in_page-window.ensures.shows;
+  whole = λ less. absurd (omega arith);
+  beyond = c.in_page-window.ensures.beyond;
+}

@@ -1,4 +1,4 @@
-use Rattle.std.proofs.Common.{◌≡◌, ◌+◌, ℕ, List, [], ◌∷◌, length, take, refl, sym, ap, subst, ◌∙◌, arith}
+use Rattle.std.proofs.Common.{◌≡◌, ◌+◌, ℕ, List, [], ◌∷◌, None, length, take, refl, sym, ap, subst, ◌∙◌, arith}
 use Rattle.std.specs.FinMap.{get}
 use Rattle.std.proofs.lemmas.List.{length-take-le, length-set, take_more_set}
 use Rattle.t3_pools.specs.Pool.{HasBytes}
@@ -18,7 +18,7 @@ loop-count-preserved c =
       at = omega arith;
       below = λ some. omega arith;
       long = length-set bytes count c.in-Some.byte ∙ c.loop-count.invariant.long;
-      are = AreBytes-set bytes count c.in-Some.byte (omega (arith, c.byte.type_inv)) c.loop-count.invariant.are;
+      are = AreBytes-set bytes count c.in-Some.byte (omega arith) c.loop-count.invariant.are;
       stands = subst (λ (b : List ℕ). HasBytes code c.args.address b) (sym (take_more_set bytes count c.in-Some.byte (omega arith)))
           (stands_both code (take count bytes) (c.in-Some.byte ∷ []) c.args.address c.loop-count.invariant.stands
           (ap (λ a. get code a) here ∙ sym c.in-Some.ensures.byte, tt));
@@ -30,14 +30,18 @@ returns-in_default c =
     let code = c.args.pools.now.code in
     let kept = c.loop-count.invariant in
     let inside = c.loop-count-test.true in
+    let none : get code (c.args.address + c.loop-count.count) ≡ None = ap (λ a. get code a) (sym kept.at) ∙ sym c.in_default.ensures.byte in
     record {
-      at = refl;
-      few = omega arith;
-      long = kept.long;
-      are = kept.are;
-      stands = kept.stands;
-      ends = λ _. ap (λ a. get code a) (sym kept.at) ∙ sym c.in_default.ensures.byte;
-      bounded = λ some. omega (arith, kept.below some);
+      shows = record {
+        at = refl;
+        few = omega arith;
+        long = kept.long;
+        are = kept.are;
+        stands = kept.stands;
+        empty = λ zero. (let here : c.args.address ≡ c.args.address + c.loop-count.count = omega (arith, zero) in ap (get code) here ∙ none);
+        bounded = λ some. omega (arith, kept.below some);
+      };
+      whole = λ _. none;
       beyond = kept.beyond;
     }
 
@@ -48,12 +52,15 @@ returns c =
     let most = c.loop-count.auto.count-end in
     let all : c.loop-count.count ≡ 10 = omega arith in
     record {
-      at = refl;
-      few = omega arith;
-      long = kept.long;
-      are = kept.are;
-      stands = subst (λ (n : ℕ). HasBytes c.args.pools.now.code c.args.address (take n c.loop-count.bytes)) all kept.stands;
-      ends = λ less. absurd (omega arith);
-      bounded = λ some. omega (arith, kept.below (omega arith));
+      shows = record {
+        at = refl;
+        few = omega arith;
+        long = kept.long;
+        are = kept.are;
+        stands = subst (λ (n : ℕ). HasBytes c.args.pools.now.code c.args.address (take n c.loop-count.bytes)) all kept.stands;
+        empty = λ zero. absurd (omega (arith, zero));
+        bounded = λ some. omega (arith, kept.below (omega arith));
+      };
+      whole = λ less. absurd (omega arith);
       beyond = kept.beyond;
     }
