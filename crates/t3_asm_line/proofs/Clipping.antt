@@ -16,7 +16,8 @@ clipped_negated (Some zero) = refl
 clipped_negated (Some (suc n)) = refl
 
 -- one digit more of a number that was clipped
-pub near_more : (value digits base digit : ℕ) → value ≡ min digits far → 1 ≤ base → min far (value * base + digit) ≡ min (digits * base + digit) far
+pub near_more : (value digits base digit : ℕ) → value ≡ min digits far → 1 ≤ base
+    → min far (value * base + digit) ≡ min (digits * base + digit) far
 near_more value digits base digit e some =
     let at_least : digits * 1 ≤ digits * base = mul-le-mul_left digits some in
     let far_least : far * 1 ≤ far * base = mul-le-mul_left far some in

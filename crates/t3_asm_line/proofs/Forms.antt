@@ -36,7 +36,8 @@ if_true P keyword true h = h refl
 if_true P keyword false h = tt
 
 -- an instruction too
-pub instruction_form : (word : List ℕ) (count : ℕ) (opcode : Option ℕ) → IfSome (if_form word count opcode) (λ keyword. length (fields_of keyword) ≡ count)
+pub instruction_form : (word : List ℕ) (count : ℕ) (opcode : Option ℕ)
+    → IfSome (if_form word count opcode) (λ keyword. length (fields_of keyword) ≡ count)
 instruction_form word count None = tt
 instruction_form word count (Some opcode) =
     if_true (λ keyword. length (fields_of keyword) ≡ count) (Instruction opcode) (is_form word count (Instruction opcode))

@@ -193,7 +193,8 @@ on_some None P x is h = absurd cc
 named_so : (word : List ℕ) (instr : Instr) → instr_named word ≡ Some instr → (instr_row instr).name ≡ word
 unfolding instr_named
 named_so word instr is =
-    (bytes_eq-Decides (instr_row instr).name word).0 (on_some (instr_named word) _ instr is (found (λ i. bytes_eq (instr_row i).name word) every))
+    (bytes_eq-Decides (instr_row instr).name word).0 (on_some (instr_named word) _ instr is (found (λ i. bytes_eq
+    (instr_row i).name word) every))
 
 opcode_so : (opcode : ℕ) (instr : Instr) → instr_at opcode ≡ Some instr → opcode_of instr ≡ opcode
 unfolding instr_at
@@ -237,13 +238,15 @@ ascii_from (byte ∷ bytes) h (suc i) = ascii_from bytes (and_parts (nat_lt byte
 
 ascii_named : (word : List ℕ) (instr : Instr) → instr_named word ≡ Some instr → is_ascii_name instr ≡ true
 unfolding instr_named every
-ascii_named word instr is = on_some (instr_named word) (λ i. is_ascii_name i ≡ true) instr is (all_pass (λ i. bytes_eq (instr_row i).name word) is_ascii_name every refl)
+ascii_named word instr is = on_some (instr_named word) (λ i. is_ascii_name i ≡ true) instr is (all_pass (λ i. bytes_eq
+    (instr_row i).name word) is_ascii_name every refl)
 
 -- a word that is no text is no name
 pub no_text : (word : List ℕ) → ¬ IsUtf8 word → None ≡ opcode_named word
 no_text word never =
     no_instr (instr_named word) (λ instr is.
-    never (subst IsUtf8 (named_so word instr is) (IsUtf8-from_ascii (instr_row instr).name (ascii_from (instr_row instr).name (ascii_named word instr is)))))
+    never (subst IsUtf8 (named_so word instr is) (IsUtf8-from_ascii (instr_row instr).name (ascii_from (instr_row instr).name
+    (ascii_named word instr is)))))
 
 -- ---- rows
 
@@ -251,7 +254,8 @@ map_map : (operands : List Operand) → map (λ o. field_of (kind_of o)) operand
 map_map [] = refl
 map_map (o ∷ operands) = ap (λ f. field_of (kind_of o) ∷ f) (map_map operands)
 
-row_by : (o : Option Instr) (opcode : ℕ) (name : List ℕ) (kinds : List Kind) → option_map opcode_of o ≡ Some opcode → HasShape opcode name kinds
+row_by : (o : Option Instr) (opcode : ℕ) (name : List ℕ) (kinds : List Kind) → option_map opcode_of o ≡ Some opcode
+    → HasShape opcode name kinds
     → row_at o ≡ row name (map field_of kinds)
 row_by None opcode name kinds is shape = absurd cc
 row_by (Some instr) opcode name kinds is shape =
@@ -261,7 +265,8 @@ row_by (Some instr) opcode name kinds is shape =
     ap (λ n. row n (operand_fields instr)) each.0 ∙ ap (row name) fields
 
 -- the row of an opcode is that of its shape
-pub row_found : (opcode : ℕ) (name : List ℕ) (kinds : List Kind) → HasShape opcode name kinds → row_at (instr_at opcode) ≡ row name (map field_of kinds)
+pub row_found : (opcode : ℕ) (name : List ℕ) (kinds : List Kind) → HasShape opcode name kinds
+    → row_at (instr_at opcode) ≡ row name (map field_of kinds)
 row_found opcode name kinds shape =
     let instr = shape.known.0 in
     let at : option_map opcode_of (instr_at opcode) ≡ Some opcode = rw shape.known.1 at (is_found instr).at in

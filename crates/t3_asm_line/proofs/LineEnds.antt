@@ -16,7 +16,8 @@ lines_of-first (byte ∷ text) (suc at) less is before =
     rw (other, later) refl
 
 -- without a newline a text is one line
-pub lines_of-one : (byte : ℕ) (text : List ℕ) → ((k : ℕ) → k < length (byte ∷ text) → get_or (byte ∷ text) k 0 ≡ 10 → ⊥) → lines_of (byte ∷ text) ≡ (byte ∷ text) ∷ []
+pub lines_of-one : (byte : ℕ) (text : List ℕ) → ((k : ℕ) → k < length (byte ∷ text) → get_or (byte ∷ text) k 0 ≡ 10 → ⊥)
+    → lines_of (byte ∷ text) ≡ (byte ∷ text) ∷ []
 lines_of-one byte [] before =
     let other : byte == 10 ≡ false = ne_eqb byte 10 (λ e. before 0 (omega arith) e) in
     rw other refl

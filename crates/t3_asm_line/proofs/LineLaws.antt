@@ -71,7 +71,8 @@ reads_back (Hex least most) (arguments.Offset label) holds fits = absurd fits
 reads_back (Hex least most) (arguments.Text bytes) holds fits =
     record { value = rw (hex_of-hex_text bytes fits.0, fits.1) refl; word = IsWord-hex bytes fits.0 }
 
-pub value_of-spelled : (field : Field) (argument : Argument) → FitsIn (layout_of field) argument → value_of field (spelled field argument) ≡ Ok argument
+pub value_of-spelled : (field : Field) (argument : Argument) → FitsIn (layout_of field) argument
+    → value_of field (spelled field argument) ≡ Ok argument
 unfolding value_of spelled
 value_of-spelled field argument fits = (reads_back (layout_of field) argument (sound field) fits).value
 
@@ -95,7 +96,8 @@ values_of-spelled (field ∷ fields) [] fit = absurd fit
 values_of-spelled (field ∷ fields) (argument ∷ arguments) fit =
     rw (value_of-spelled field argument fit.0, values_of-spelled fields arguments fit.1) refl
 
-length-spelled_words : (fields : List Field) (arguments : List Argument) → FitFields fields arguments → length (spelled_words fields arguments) ≡ length fields
+length-spelled_words : (fields : List Field) (arguments : List Argument) → FitFields fields arguments
+    → length (spelled_words fields arguments) ≡ length fields
 unfolding spelled_words
 length-spelled_words [] arguments fit = refl
 length-spelled_words (field ∷ fields) [] fit = absurd fit
@@ -110,7 +112,8 @@ words_from-spelled front (field ∷ fields) [] some fit = absurd fit
 words_from-spelled front (field ∷ fields) (argument ∷ arguments) some fit =
     let word = IsWord-spelled field argument fit.0 in
     ap (λ w. w ++ words_from Plain [] (spelled field argument ++ spelled_fields fields arguments)) (closed-some front some)
-    ∙ ap (λ w. front ∷ w) (word.whole [] (spelled_fields fields arguments) ∙ words_from-spelled (spelled field argument) fields arguments word.some fit.1)
+    ∙ ap (λ w. front ∷ w) (word.whole [] (spelled_fields fields arguments)
+    ∙ words_from-spelled (spelled field argument) fields arguments word.some fit.1)
 
 -- ---- keywords
 
@@ -168,14 +171,16 @@ pub line_of-listed_line : (keyword : Keyword) (arguments : List Argument) → Is
 unfolding line_of listed_line
 line_of-listed_line keyword arguments listed =
     let is = found keyword listed.named in
-    let words : words_of (name_of keyword ++ spelled_fields (fields_of keyword) arguments) ≡ name_of keyword ∷ spelled_words (fields_of keyword) arguments =
+    let words : words_of (name_of keyword ++ spelled_fields (fields_of keyword) arguments) ≡ name_of keyword ∷ spelled_words
+    (fields_of keyword) arguments =
     is.word.whole [] (spelled_fields (fields_of keyword) arguments)
     ∙ words_from-spelled (name_of keyword) (fields_of keyword) arguments is.word.some listed.fit in
     ap spoken_by words ∙ ap (mapped Some) (spoken-spelled keyword arguments listed)
 
 -- ---- listings
 
-one_line_fields : (fields : List Field) (arguments : List Argument) → FitFields fields arguments → is_one_line (spelled_fields fields arguments) ≡ true
+one_line_fields : (fields : List Field) (arguments : List Argument) → FitFields fields arguments
+    → is_one_line (spelled_fields fields arguments) ≡ true
 one_line_fields [] [] fit = refl
 one_line_fields [] (argument ∷ arguments) fit = absurd fit
 one_line_fields (field ∷ fields) [] fit = absurd fit
@@ -183,7 +188,8 @@ one_line_fields (field ∷ fields) (argument ∷ arguments) fit =
     list_all-append (λ byte. not (byte == 10)) (spelled field argument) (spelled_fields fields arguments)
     ∙ and_from _ _ (IsWord-spelled field argument fit.0).one (one_line_fields fields arguments fit.1)
 
-one_line_listed : (keyword : Keyword) (arguments : List Argument) → IsListed keyword arguments → is_one_line (listed_line keyword arguments) ≡ true
+one_line_listed : (keyword : Keyword) (arguments : List Argument) → IsListed keyword arguments
+    → is_one_line (listed_line keyword arguments) ≡ true
 unfolding listed_line
 one_line_listed keyword arguments listed =
     list_all-append (λ byte. not (byte == 10)) (name_of keyword) (spelled_fields (fields_of keyword) arguments)

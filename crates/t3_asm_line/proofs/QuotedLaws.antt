@@ -57,16 +57,27 @@ two_more front a b = append_assoc front (a ∷ []) (b ∷ [])
 
 four_more : (front : List ℕ) (a b c d : ℕ) → (((front ++ a ∷ []) ++ b ∷ []) ++ c ∷ []) ++ d ∷ [] ≡ front ++ (a ∷ b ∷ c ∷ d ∷ [])
 four_more front a b c d =
-    ap (λ w. (w ++ c ∷ []) ++ d ∷ []) (two_more front a b) ∙ two_more (front ++ (a ∷ b ∷ [])) c d ∙ append_assoc front (a ∷ b ∷ []) (c ∷ d ∷ [])
+    ap (λ w. (w ++ c ∷ []) ++ d ∷ []) (two_more front a b) ∙ two_more (front ++ (a ∷ b ∷ [])) c d
+    ∙ append_assoc front (a ∷ b ∷ []) (c ∷ d ∷ [])
 
 Escapes-quote : Escapes 34 (92 ∷ 34 ∷ [])
 Escapes-quote = record { reads = λ rest. refl; whole = λ front rest. ap (λ w. words_from Quoted w rest) (two_more front 92 34); one = refl }
 
 Escapes-backslash : Escapes 92 (92 ∷ 92 ∷ [])
-Escapes-backslash = record { reads = λ rest. refl; whole = λ front rest. ap (λ w. words_from Quoted w rest) (two_more front 92 92); one = refl }
+Escapes-backslash = record {
+  reads = λ rest. refl;
+  whole = λ front rest. ap (λ w. words_from Quoted w rest)
+      (two_more front 92 92);
+  one = refl;
+}
 
 Escapes-newline : Escapes 10 (92 ∷ 110 ∷ [])
-Escapes-newline = record { reads = λ rest. refl; whole = λ front rest. ap (λ w. words_from Quoted w rest) (two_more front 92 110); one = refl }
+Escapes-newline = record {
+  reads = λ rest. refl;
+  whole = λ front rest. ap (λ w. words_from Quoted w rest)
+      (two_more front 92 110);
+  one = refl;
+}
 
 Escapes-plain : (byte : ℕ) → byte == 34 ≡ false → byte == 92 ≡ false → byte == 10 ≡ false → Escapes byte (byte ∷ [])
 Escapes-plain byte quote backslash newline = record {
@@ -88,7 +99,8 @@ Escapes-digits byte h =
     record {
       reads = λ rest. rw (high_is, low_is) (ap (λ b. with_byte (Some b) (text_from AnyByte rest)) whole_byte);
       whole = λ front rest. rw (first.quote, first.backslash, second.quote, second.backslash)
-          (ap (λ w. words_from Quoted w rest) (four_more front 92 120 (slice_index lower_digits (byte / 16)) (slice_index lower_digits (byte % 16))));
+          (ap (λ w. words_from Quoted w rest) (four_more front 92 120 (slice_index lower_digits (byte / 16))
+          (slice_index lower_digits (byte % 16))));
       one = rw (first.newline, second.newline) refl;
     }
 
@@ -137,7 +149,8 @@ IsWord-quoted bytes h = record {
   whole = λ front rest.
       ap (words_from Quoted (front ++ 34 ∷ [])) (append_assoc (flat_map escape_of bytes) (34 ∷ []) rest)
       ∙ escapes_whole bytes h (front ++ 34 ∷ []) (34 ∷ rest)
-      ∙ ap (λ w. words_from Plain w rest) (append_assoc (front ++ 34 ∷ []) (flat_map escape_of bytes) (34 ∷ []) ∙ append_assoc front (34 ∷ []) (flat_map escape_of bytes ++ 34 ∷ []));
+      ∙ ap (λ w. words_from Plain w rest) (append_assoc (front ++ 34 ∷ []) (flat_map escape_of bytes) (34 ∷ [])
+      ∙ append_assoc front (34 ∷ []) (flat_map escape_of bytes ++ 34 ∷ []));
   some = omega arith;
   one = escapes_line bytes h;
 }

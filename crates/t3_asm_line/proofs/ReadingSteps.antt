@@ -8,7 +8,8 @@ use Rattle.t3_asm_line.specs.declared.refusal.LineRefusal.TheVariants.{Range}
 use Rattle.t3_asm_line.specs.Values.{value_of, values_of, joined}
 use Rattle.t3_asm_line.specs.Inner.Reading.{behind_values}
 
-pub values_of-more : (fields : List Field) (words : List (Bor (List ℕ))) (i : ℕ) (field : Field) (e : Bor (List ℕ)) → field ≡ get_or fields i field
+pub values_of-more : (fields : List Field) (words : List (Bor (List ℕ))) (i : ℕ) (field : Field) (e : Bor (List ℕ))
+    → field ≡ get_or fields i field
     → i < length fields → i < length words
     → values_of (drop i fields) (map (λ w. w.now) (drop i words))
     ≡ joined (value_of field (get_or words i e).now) (values_of (drop (i + 1) fields) (map (λ w. w.now) (drop (i + 1) words)))

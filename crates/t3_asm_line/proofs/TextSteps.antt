@@ -9,7 +9,8 @@ use Rattle.t3_asm_line.specs.declared.quoted.Turn.TheVariants.{Give}
 use Rattle.t3_asm_line.specs.Quoted.{text_from, with_byte}
 use Rattle.t3_asm_line.specs.Inner.Escaped.{text_behind}
 
-given : (front : List ℕ) (byte : ℕ) (text : Option (List ℕ)) → option_map (λ more. (front ++ byte ∷ []) ++ more) text ≡ option_map (λ more. front ++ more) (with_byte (Some byte) text)
+given : (front : List ℕ) (byte : ℕ) (text : Option (List ℕ))
+    → option_map (λ more. (front ++ byte ∷ []) ++ more) text ≡ option_map (λ more. front ++ more) (with_byte (Some byte) text)
 given front byte None = refl
 given front byte (Some text) = ap Some (append_assoc front (byte ∷ []) text)
 

@@ -48,7 +48,11 @@ and-false true = refl
 and-false false = refl
 
 not_digit : (byte digit : ℕ) → (byte < 48) ⊎ (57 < byte) → IsInRange 48 57 digit → nat_eq byte digit ≡ false
-not_digit byte digit apart h = ne_eqb byte digit (λ (e : byte ≡ digit). elim apart [ inl low ↦ omega (arith, h.0) | inr high ↦ omega (arith, h.1) ])
+not_digit byte digit apart h = ne_eqb byte digit (λ (e : byte ≡ digit). elim apart [
+  | inl low ↦ omega
+      (arith, h.0)
+  | inr high ↦ omega (arith, h.1)
+])
 
 -- digits begin with neither `0x` nor `-`
 no_prefix : (digits : List ℕ) → AllDigits 10 digits → 0 < length digits

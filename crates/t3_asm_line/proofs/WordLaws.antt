@@ -39,7 +39,8 @@ pub record IsWord (word : List ℕ) : Type 0 where
   pub some : 0 < length word
   pub one : is_one_line word ≡ true
 
-bare_step : (byte : ℕ) (front rest : List ℕ) → IsBare byte → words_from Plain front (byte ∷ rest) ≡ words_from Plain (front ++ byte ∷ []) rest
+bare_step : (byte : ℕ) (front rest : List ℕ) → IsBare byte
+    → words_from Plain front (byte ∷ rest) ≡ words_from Plain (front ++ byte ∷ []) rest
 bare_step byte front rest bare = rw (bare.comment, bare.space, bare.quote) refl
 
 bare_whole : (word : List ℕ) → list_all is_bare word ≡ true → (front rest : List ℕ)

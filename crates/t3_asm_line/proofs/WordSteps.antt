@@ -7,13 +7,15 @@ use Rattle.t3_asm_line.specs.declared.words.Mode.{Mode}
 use Rattle.t3_asm_line.specs.declared.words.Mode.TheVariants.{Plain, Quoted, Escaped}
 use Rattle.t3_asm_line.specs.Words.{mode_behind, is_plain, closed, words_from}
 
-by_space : (mode : Mode) (word : List ℕ) (byte : ℕ) (bytes : List ℕ) → (is_plain mode && byte == 59) ≡ false → (is_plain mode && byte == 32) ≡ true
+by_space : (mode : Mode) (word : List ℕ) (byte : ℕ) (bytes : List ℕ) → (is_plain mode && byte == 59) ≡ false
+    → (is_plain mode && byte == 32) ≡ true
     → words_from mode word (byte ∷ bytes) ≡ closed word ++ words_from mode [] bytes
 by_space Plain word byte bytes keeps ends = rw (keeps, ends) refl
 by_space Quoted word byte bytes keeps ends = absurd cc
 by_space Escaped word byte bytes keeps ends = absurd cc
 
-by_other : (mode : Mode) (word : List ℕ) (byte : ℕ) (bytes : List ℕ) → (is_plain mode && byte == 59) ≡ false → (is_plain mode && byte == 32) ≡ false
+by_other : (mode : Mode) (word : List ℕ) (byte : ℕ) (bytes : List ℕ) → (is_plain mode && byte == 59) ≡ false
+    → (is_plain mode && byte == 32) ≡ false
     → words_from mode word (byte ∷ bytes) ≡ words_from (mode_behind mode byte) (word ++ byte ∷ []) bytes
 by_other mode word byte bytes keeps never = rw (keeps, never) refl
 
@@ -21,7 +23,8 @@ by_other mode word byte bytes keeps never = rw (keeps, never) refl
 pub words_from-space : (mode : Mode) (line : List ℕ) (start at : ℕ) (front words : List (List ℕ)) → at < length line
     → (is_plain mode && get_or line at 0 == 59) ≡ false → (is_plain mode && get_or line at 0 == 32) ≡ true
     → front ++ words_from mode (take (at - start) (drop start line)) (drop at line) ≡ words
-    → (front ++ closed (take (at - start) (drop start line))) ++ words_from mode (take (at + 1 - (at + 1)) (drop (at + 1) line)) (drop (at + 1) line) ≡ words
+    → (front ++ closed (take (at - start) (drop start line))) ++ words_from mode (take (at + 1 - (at + 1)) (drop (at + 1) line))
+    (drop (at + 1) line) ≡ words
 words_from-space mode line start at front words inside keeps ends is =
     let word = take (at - start) (drop start line) in
     let none : at + 1 - (at + 1) ≡ 0 = omega arith in

@@ -11,7 +11,8 @@ use Rattle.t3_asm_line.specs.declared.field.Reference.TheVariants.{Nothing, Addr
 abbrev pub unsigned : ℕ → Reference → Layout
 unsigned width reference = Number width 0 (256 ^ width - 1) reference
 
--- the table of fields: of a number how many bytes it has, how far below 0 it goes and its greatest; of a text its least size and its greatest
+-- the table of fields: of a number how many bytes it has, how far below 0 it goes and its greatest;
+-- of a text its least size and its greatest
 abbrev pub layout_of : Field → Layout
 layout_of fields.Ubyte = unsigned 1 Nothing
 layout_of fields.Uint2 = unsigned 2 Nothing

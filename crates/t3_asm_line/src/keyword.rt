@@ -8,8 +8,8 @@ use crate::field::Field;
 use crate::instruction::{opcode, operand_field};
 use t3_methods::{Kind, shape_of};
 
-/// What a line begins with, and so which fields follow. `image` and `prop` have a keyword for each number
-/// of fields.
+/// What a line begins with, and so which fields follow. `image` and `prop` have a keyword for each
+/// number of fields.
 #[derive(Clone, Copy, Debug, PartialEq, Eq, Hash)]
 pub enum Keyword {
     /// `image`

@@ -16,7 +16,8 @@ ghost use Rattle.t3_asm_line.specs.declared.keyword.Keyword.{Keyword as AnyKeywo
 pub fn lines_read()
     ensures fields { (field : AnyField) (argument : AnyArgument) → FitsIn (layout_of field) argument
         → value_of field (spelled field argument) ≡ Ok argument }
-    ensures lines { (keyword : AnyKeyword) (arguments : List AnyArgument) → IsListed keyword arguments
+    ensures lines { (keyword : AnyKeyword) (arguments : List AnyArgument)
+        → IsListed keyword arguments
         → line_of (listed_line keyword arguments) ≡ Ok (Some (parsed_line keyword arguments)) }
     ensures listing { (lines : List AnyLine) → AllByRecursion IsListedLine lines
         → map line_of (lines_of (listing_of lines)) ≡ map (λ line. Ok (Some line)) lines }

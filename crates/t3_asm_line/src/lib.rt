@@ -1,8 +1,8 @@
 //! One line of assembler source, read and spelled.
 //!
-//! A line is words, and the first of them says what the others are: it is a keyword of the table of lines,
-//! or the name of an instruction. What a line says is its keyword and its arguments; else it breaks the
-//! rule on words, on values or on ranges, the first of these.
+//! A line is words, and the first of them says what the others are: it is a keyword of the table of
+//! lines, or the name of an instruction. What a line says is its keyword and its arguments; else it
+//! breaks the rule on words, on values or on ranges, the first of these.
 //!
 //! ```
 //! let line = parse_line(alloc, b"pool 1 0x10 256 ; code")?.expect(&rt, "it has words");

@@ -1,5 +1,5 @@
 //! A line of source.
-ghost use Rattle.std.specs.Prelude.{◌≡◌, map};
+ghost use Rattle.std.specs.Prelude.{map};
 ghost use Rattle.t3_asm_line.specs.Line.{line_of, spoken as spoken_of, label_line as label_line_of};
 ghost use Rattle.t3_asm_line.specs.Values.{Gives};
 
@@ -21,8 +21,8 @@ pub struct ParsedLine {
 
 /// What a line says, which has no newline; `None` where it has no word.
 ///
-/// `Word` comes before `Number`, and `Number` before `Range`, wherever in the line the words stand that
-/// break them.
+/// `Word` comes before `Number`, and `Number` before `Range`, wherever in the line the words stand
+/// that break them.
 #[tactic(auto, unfolding(crate::specs::Line::line_of))]
 pub fn parse_line(alloc: Global, line: &[u8]) -> Result<Option<ParsedLine>, LineRefusal>
     ensures { Gives result (line_of line.now) }

@@ -7,8 +7,8 @@ ghost use Rattle.t3_asm_line.specs.Inner.Clipped.{clipped, near};
 /// A number that is further from 0 than this is kept as this.
 const FAR: u64 = 1 << 40;
 
-/// The number that a word says, exact where it is at most 2 to the power 40 from 0, and else that limit
-/// with its sign.
+/// The number that a word says, exact where it is at most 2 to the power 40 from 0, and else that
+/// limit with its sign.
 #[tactic(auto, using(crate::proofs::Clipping::clipped_pos, crate::proofs::Clipping::clipped_negated), unfolding(crate::specs::Numbers::number_of))]
 pub(crate) fn number(word: &[u8]) -> Option<i64>
     ensures { result ≡ option_map clipped (number_of word.now) }

@@ -2,7 +2,7 @@
 ghost use Rattle.std.specs.Prelude.{◌≡◌, ◌<◌, ◌∷◌, ℕ, List, IfOk, IfSome, Option, None};
 ghost use Rattle.std.specs.Option.{option_map};
 ghost use Rattle.hex.specs.Hex.{hex_digit_value};
-ghost use Rattle.t3_asm_line.specs.Quoted.{text_from, quoted_of, escaped_byte};
+ghost use Rattle.t3_asm_line.specs.Quoted.{text_from, quoted_of};
 ghost use Rattle.t3_asm_line.specs.Inner.Escaped.{text_behind, IsDue, TurnsWell};
 
 use std::alloc::Global;
@@ -93,7 +93,8 @@ fn turn_at(due: Due, byte: u8) -> Turn
 
 /// What a byte does that no backslash stands before.
 fn plain(byte: u8) -> Turn
-    ensures behind { (bytes : List ℕ) → text_from Due.AnyByte (byte ∷ bytes) ≡ text_behind result bytes }
+    ensures behind { (bytes : List ℕ)
+        → text_from Due.AnyByte (byte ∷ bytes) ≡ text_behind result bytes }
     ensures well { TurnsWell result }
 {
     match byte {
@@ -105,7 +106,8 @@ fn plain(byte: u8) -> Turn
 
 /// What a byte does right behind a backslash.
 fn escape(byte: u8) -> Turn
-    ensures behind { (bytes : List ℕ) → text_from Due.Escape (byte ∷ bytes) ≡ text_behind result bytes }
+    ensures behind { (bytes : List ℕ)
+        → text_from Due.Escape (byte ∷ bytes) ≡ text_behind result bytes }
     ensures well { TurnsWell result }
 {
     match byte {

@@ -182,6 +182,7 @@ fn reads_quoted_texts(rt: HostRuntime) -> Result<(), Fail> {
             (b"text \"\t\x80\"", "Text =0980"),
             (b"block \"ENTP\" 1", "Block =454e5450 1"),
             (b"block \"ENT\" 1", "Range"),
+            (b"block \"ENTPX\" 1", "Range"),
             (b"block \"ENTPX\" 65536", "Range"),
             (b"block ENTP 65536", "Number"),
         ],
@@ -244,6 +245,22 @@ fn reads_each_line_of_an_image(rt: HostRuntime) -> Result<(), Fail> {
                 "ImageHead =0000000000000000000000000000000000000000000000000000000000000000 =202020202020202020202020202020202020202020202020",
             ),
             (
+                b"image 00000000000000000000000000000000000000000000000000000000000000 202020202020202020202020202020202020202020202020",
+                "Range",
+            ),
+            (
+                b"image 000000000000000000000000000000000000000000000000000000000000000000 202020202020202020202020202020202020202020202020",
+                "Range",
+            ),
+            (
+                b"image 0000000000000000000000000000000000000000000000000000000000000000 2020202020202020202020202020202020202020202020",
+                "Range",
+            ),
+            (
+                b"image 0000000000000000000000000000000000000000000000000000000000000000 20202020202020202020202020202020202020202020202020",
+                "Range",
+            ),
+            (
                 b"entry @main 10 10 0 0 0 65535 -",
                 "Entry @6d61696e 10 10 0 0 0 65535 =",
             ),
@@ -256,6 +273,8 @@ fn reads_each_line_of_an_image(rt: HostRuntime) -> Result<(), Fail> {
             (b"objects 0 65535", "Objects 0 65535"),
             (b"object 4294967295", "Object 4294967295"),
             (b"object @a", "Number"),
+            (b"object 0", "Object 0"),
+            (b"object 4294967296", "Range"),
             (
                 b"metaclass \"tads-object/030005\" 2 -",
                 "Metaclass =746164732d6f626a6563742f303330303035 2 =",
@@ -264,6 +283,7 @@ fn reads_each_line_of_an_image(rt: HostRuntime) -> Result<(), Fail> {
             (b"prop 7", "Prop 7"),
             (b"prop 65535 0aff", "PropBytes 65535 =0aff"),
             (b"prop 65536", "Range"),
+            (b"prop 0", "Prop 0"),
             (b"prop 1 2 3", "Word"),
             (b"function-set \"t3vm\"", "FunctionSet =7433766d"),
             (b"symbol 6 -1 \"\"", "Symbol 6 4294967295 ="),
@@ -316,6 +336,8 @@ fn reads_instructions(rt: HostRuntime) -> Result<(), Fail> {
             (b"pushint -2147483648", "Instruction(4) 2147483648"),
             (b"pushint 2147483647", "Instruction(4) 2147483647"),
             (b"pushint 4294967295", "Range"),
+            (b"pushint 2147483648", "Range"),
+            (b"pushint -2147483649", "Range"),
             (b"pushint @L", "Number"),
             (b"pushstr @cave", "Instruction(5) @63617665"),
             (b"pushobj 0", "Instruction(7) 0"),

@@ -1,9 +1,7 @@
 //! What words say in the fields of a line.
-ghost use Rattle.std.specs.Prelude.{◌≡◌, ◌^◌, ◌≤◌, ℕ, [], length, map};
+ghost use Rattle.std.specs.Prelude.{◌≡◌, ◌^◌, ◌≤◌, [], length, map};
 ghost use Rattle.std.specs.Option.{option_map};
-ghost use Rattle.t3_holder.specs.NumberText.{twos_complement};
 ghost use Rattle.t3_asm_line.specs.Keywords.{fields_of};
-ghost use Rattle.t3_asm_line.specs.Numbers.{number_of};
 ghost use Rattle.t3_asm_line.specs.Values.{Gives, value_of, values_of, number_value as number_value_of, reference_value as reference_value_of, text_value as text_value_of, holds as holds_of, is_size as is_size_of};
 
 use crate::argument::{Argument, Arguments};
@@ -17,7 +15,8 @@ use crate::refusal::LineRefusal;
 use std::alloc::Global;
 use t3_holder::Bytes;
 
-/// What words say in a keyword's fields. A word that says nothing comes before one that is out of range.
+/// What words say in a keyword's fields. A word that says nothing comes before one that is out of
+/// range.
 pub(crate) fn values(
     alloc: Global,
     keyword: Keyword,

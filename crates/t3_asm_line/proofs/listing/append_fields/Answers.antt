@@ -16,4 +16,5 @@ pub loop-at-preserved : goal.loop-at-preserved
 loop-at-preserved c =
     rw add-one
     (appended_more c.args.out.now.items c.loop-at.out.items c.append_field.new.out.items _ _ _ c.in_ok-append_field.ensures c.loop-at.invariant
-    (rw (← c.field.ensures) at (spelled_fields_more (fields_of c.args.keyword) c.args.arguments.now c.loop-at.at c.field.result (Number 0) (omega arith) (omega arith))))
+    (rw (← c.field.ensures) at (spelled_fields_more (fields_of c.args.keyword) c.args.arguments.now c.loop-at.at c.field.result
+    (Number 0) (omega arith) (omega arith))))

@@ -15,7 +15,8 @@ loop-digit-preserved c =
     let base = c.args.base in
     let inside : i < length digits = omega arith in
     let read = rw c.from.ensures at c.in-Some.ensures.value in
-    let step = near_more c.loop-digit.value (digits_value base (take i digits)) base c.in-Some.digit c.loop-digit.invariant.value (omega arith) in
+    let step = near_more c.loop-digit.value (digits_value base (take i digits)) base c.in-Some.digit c.loop-digit.invariant.value
+    (omega arith) in
     record {
       digits = list_all_more (λ digit. is_digit digit base) digits i 0 inside
           ∙ and_from _ _ c.loop-digit.invariant.digits (lt-ltb (digit_value (get_or digits i 0)) base read.0);

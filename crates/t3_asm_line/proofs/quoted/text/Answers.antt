@@ -19,6 +19,7 @@ loop-at-preserved c =
       | in-Await w ↦ record {
         due = rw w.due-is (rw w.in-Await.is at c.turn_at.ensures.well);
         is = rw (w.due-is, w.text-is)
-            (text_from-behind due (Await w.in-Await.next) bytes c.loop-at.at _ _ inside (rw w.in-Await.is at behind) c.loop-at.invariant.is);
+            (text_from-behind due (Await w.in-Await.next) bytes c.loop-at.at _ _ inside
+            (rw w.in-Await.is at behind) c.loop-at.invariant.is);
       }
     ]

@@ -20,5 +20,6 @@ loop-at-preserved c =
       | in-Err-Range w ↦
           rw (w.values-is, w.has_far-is)
           (behind-Range c.loop-at.has_far c.loop-at.values.items rest
-          ∙ ap (λ first. before (joined first rest)) (sym (rw w.in-Err-Range.field-0-is at w.in-Err-Range.ensures)) ∙ ap before (sym more) ∙ c.loop-at.invariant)
+          ∙ ap (λ first. before (joined first rest)) (sym (rw w.in-Err-Range.field-0-is at w.in-Err-Range.ensures))
+          ∙ ap before (sym more) ∙ c.loop-at.invariant)
     ]

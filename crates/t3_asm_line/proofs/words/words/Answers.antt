@@ -13,7 +13,8 @@ loop-at-preserved c =
       | then-ends_word+in_ok-push_word-2 w ↦ record {
         begun = omega arith;
         is = rw (w.words-is, w.mode-is, w.start-is, w.in_ok-push_word-2.ensures)
-            (words_from-space c.loop-at.mode line c.loop-at.start at _ _ inside keeps (sym c.ends_word.ensures ∙ w.if-ends_word.true) c.loop-at.invariant.is);
+            (words_from-space c.loop-at.mode line c.loop-at.start at _ _ inside keeps (sym c.ends_word.ensures
+            ∙ w.if-ends_word.true) c.loop-at.invariant.is);
       }
       | else-ends_word w ↦ record {
         begun = omega arith;

@@ -6,5 +6,6 @@ use Rattle.t3_asm_line.proofs.words.words.Given as goal
 abbrev pub invariant-loop-at : goal.invariant-loop-at
 invariant-loop-at l = record {
   begun : l.start ≤ l.at;
-  is : map (λ word. word.now) l.words.items ++ words_from l.mode (take (l.at - l.start) (drop l.start l.line)) (drop l.at l.line) ≡ words_of l.line;
+  is : map (λ word. word.now) l.words.items ++ words_from l.mode (take (l.at - l.start) (drop l.start l.line))
+      (drop l.at l.line) ≡ words_of l.line;
 }
