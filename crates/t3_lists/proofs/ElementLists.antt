@@ -343,7 +343,8 @@ more-places old new count all is number least most =
     ∙ contains-insert cell_cmp_total old (cells.Elem (count + 1)) (cells.Elem number)
     ∙ by (number == count + 1) refl
   where
-    by : (b : Bool) → (number == count + 1) ≡ b → (same (cells.Elem number) (cells.Elem (count + 1)) || contains old (cells.Elem number)) ≡ true
+    by : (b : Bool) → (number == count + 1) ≡ b
+        → (same (cells.Elem number) (cells.Elem (count + 1)) || contains old (cells.Elem number)) ≡ true
     by true e = ap (λ b. b || contains old (cells.Elem number)) (same-Elem number (count + 1) ∙ e)
     by false e =
         let apart = eqb-false _ _ e in

@@ -29,7 +29,8 @@ Elements = List (Option Holder)
 abbrev present_from : ℕ → Elements → List (Cell × Present)
 present_from number [] = []
 present_from number (None ∷ elements) = present_from (suc number) elements
-present_from number (Some value ∷ elements) = (cells.Elem number, record { tick = None; value = value }) ∷ present_from (suc number) elements
+present_from number (Some value ∷ elements) =
+    (cells.Elem number, record { tick = None; value = value }) ∷ present_from (suc number) elements
 
 -- a lower element comes first
 put-first : (n number : ℕ) (p : Present) (elements : Elements) → n < number
@@ -37,7 +38,8 @@ put-first : (n number : ℕ) (p : Present) (elements : Elements) → n < number
 put-first n number p [] h = refl
 put-first n number p (None ∷ elements) h = put-first n (suc number) p elements (omega arith)
 put-first n number p (Some value ∷ elements) h =
-    ap (λ r. by_order (ordering_then r Equal) ((cells.Elem n, p) ∷ (cells.Elem number, record { tick = None; value = value }) ∷ present_from (suc number) elements)
+    ap (λ r. by_order (ordering_then r Equal)
+    ((cells.Elem n, p) ∷ (cells.Elem number, record { tick = None; value = value }) ∷ present_from (suc number) elements)
     ((cells.Elem number, p) ∷ present_from (suc number) elements)
     ((cells.Elem number, record { tick = None; value = value }) ∷ put cell_cmp (cells.Elem n) p (present_from (suc number) elements)))
     (sym (nat_cmp_is n number Less h))
@@ -51,7 +53,8 @@ entries-numbered number (None ∷ elements) =
     ∙ ap seen (lookup-below (suc number) number elements (omega arith))))
     ∙ entries-numbered (suc number) elements
 entries-numbered number (Some value ∷ elements) =
-    entries-insert cell_cmp_total (slots.parts_of (numbered (suc number) elements)) (cells.Elem number) (record { tick = None; value = value })
+    entries-insert cell_cmp_total (slots.parts_of (numbered (suc number) elements)) (cells.Elem number)
+    (record { tick = None; value = value })
     ∙ ap (put cell_cmp (cells.Elem number) (record { tick = None; value = value })) (entries-numbered (suc number) elements)
     ∙ put-first number (suc number) (record { tick = None; value = value }) elements (omega arith)
 

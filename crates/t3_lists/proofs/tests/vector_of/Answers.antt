@@ -13,7 +13,8 @@ loop-item-init c = ap parts_of c.new-vector.ensures
 pub push-requires : goal.push-requires
 push-requires c =
     let before : List Holder = take c.loop-item.item-index c.args.items.now in
-    let few : length before ≡ c.loop-item.item-index = length-take-le c.loop-item.item-index c.args.items.now c.loop-item.auto.item-index-end in
+    let few : length before ≡ c.loop-item.item-index =
+    length-take-le c.loop-item.item-index c.args.items.now c.loop-item.auto.item-index-end in
     let are : length (items_of (parts_of c.loop-item.vector)) ≡ length before =
     ap (λ (parts : Parts). length (items_of parts)) c.loop-item.invariant ∙ ap length (items-filled before) in
     record { whole = (before, c.loop-item.invariant); few = omega (arith, few, are, c.loop-item-test.true, c.requires) }

@@ -8,7 +8,8 @@ use Rattle.t3_lists.proofs.vector.VectorMetaclass.get.Goals as goal
 -- what the call answers, of the vector's elements
 answered : (c : goal.After-content_in) → shown c.content_in.result ≡ shown (content_in c.args.self.now (index_of c.args.cell.now))
 answered c = ap shown c.content_in.ensures
-    ∙ ap (λ (elements : List (Option Holder)). shown (content_in elements (index_of c.args.cell.now))) (c.deref.ensures.value ∙ c.self.view_is)
+    ∙ ap (λ (elements : List (Option Holder)). shown (content_in elements (index_of c.args.cell.now)))
+    (c.deref.ensures.value ∙ c.self.view_is)
 
 pub returns-clause-content : goal.returns-clause-content
 returns-clause-content c = answered c ∙ sym (get-parts c.args.self.now c.args.cell.now)
