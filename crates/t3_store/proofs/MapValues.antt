@@ -337,11 +337,14 @@ pub values-empty : values empty ≡ empty
 unfolding values
 values-empty = λ i. from_entries (map (λ (e : ℕ × (Shape × Parts)). (e.0, value_of e.1)) (entries-empty i))
 
+pub units_in-empty : units_in empty ≡ 0
+units_in-empty = ap (sum_by (λ (e : ℕ × Value). units_of e.1)) entries-empty
+
 pub none-persistent : IsPersistent empty
 none-persistent = record {
   numbered = λ q h. get-empty nat_cmp q;
   few = let none = len-empty nat_cmp Value in omega arith;
-  few_units = let none : units_in empty ≡ 0 = ap (sum_by (λ (e : ℕ × Value). units_of e.1)) entries-empty in omega arith;
+  few_units = let none = units_in-empty in omega arith;
 }
 
 drop-all : (items : List PropValue) → drop (length items) items ≡ []

@@ -1,4 +1,22 @@
 //! Objects by their numbers: those that an image brings, and the store in which a run keeps them.
+//!
+//! A [`Persistent`] holds the objects of an image. A [`Store`] holds those of a run, in two halves: the
+//! persistent ones, which a savepoint keeps, and the transient ones, which it doesn't:
+//!
+//! ```text
+//! let none = Persistent::new(alloc);
+//! let mut store = Store::start(alloc, limits, image, none, 71)?;
+//! let object = store.create(NewObject::Tads { supers, class, props }, false)?; // number 71
+//! store.savepoint();                                                // takes no memory
+//! store.write(object, Cell::Prop(5), Some(Holder::Int(1)))?;        // a further property is a unit
+//! store.overwrite(object, Cell::Prop(5), Holder::Int(2));           // one that is there takes no memory
+//! store.undo();                                                     // true: property 5 is absent again
+//! store.undo();                                                     // false: no savepoint is held
+//! ```
+//!
+//! Contracts see finite maps from numbers to values, and each held savepoint as a whole copy of one. A store
+//! has a limit for its objects and one for its units, which are what the objects count by their contents: a
+//! call that would go past one answers `Full`, and changes nothing.
 #![tactic(auto)]
 
 mod entries;
