@@ -85,7 +85,8 @@ kept-value s t key l old value o false e is = by (value_at s o)
     by None = refl
     by (Some v) = ap (λ b. Some (cond b value v)) (sym (key-symm key l ∙ e))
 
-pairs-changed : (key : Key) (value : Holder) (es : Entries) → map pair_of (changed (renewed key value) es) ≡ map (with_value key value) (map pair_of es)
+pairs-changed : (key : Key) (value : Holder) (es : Entries) → map pair_of (changed (renewed key value) es)
+    ≡ map (with_value key value) (map pair_of es)
 unfolding changed renewed
 pairs-changed key value [] = refl
 pairs-changed key value (e ∷ es) = λ i. by (same_key key e.0.1) i ∷ pairs-changed key value es i
@@ -109,14 +110,20 @@ entries-kept parts key tick old value stands =
     ∙ pairs-changed key value (entries (ordered parts))
 
 -- a key taken away leaves the others in their order
-pairs-filter : (key : Key) (es : Entries) → map pair_of (where_key place_cmp (λ q. not (same_key key q.1)) es)
-    ≡ filter (λ pair. not (same_key key pair.key)) (map pair_of es)
+abbrev others : Key → Entries → Entries
+others key es = where_key place_cmp (λ q. not (same_key key q.1)) es
+
+abbrev other_pairs : Key → List Pair → List Pair
+other_pairs key pairs = filter (λ pair. not (same_key key pair.key)) pairs
+
+pairs-filter : (key : Key) (es : Entries) → map pair_of (others key es)
+    ≡ other_pairs key (map pair_of es)
 pairs-filter key [] = refl
 pairs-filter key (e ∷ es) = by (not (same_key key e.0.1)) (pairs-filter key es)
   where
-    by : (b : Bool) → map pair_of (where_key place_cmp (λ q. not (same_key key q.1)) es) ≡ filter (λ pair. not (same_key key pair.key)) (map pair_of es)
-        → map pair_of (cond b (e ∷ where_key place_cmp (λ q. not (same_key key q.1)) es) (where_key place_cmp (λ q. not (same_key key q.1)) es))
-        ≡ cond b (pair_of e ∷ filter (λ pair. not (same_key key pair.key)) (map pair_of es)) (filter (λ pair. not (same_key key pair.key)) (map pair_of es))
+    by : (b : Bool) → map pair_of (others key es) ≡ other_pairs key (map pair_of es)
+        → map pair_of (cond b (e ∷ others key es) (others key es))
+        ≡ cond b (pair_of e ∷ other_pairs key (map pair_of es)) (other_pairs key (map pair_of es))
     by true rest = ap (λ xs. pair_of e ∷ xs) rest
     by false rest = rest
 
@@ -127,14 +134,15 @@ away-value s key l o false = refl
 pub entries-away : OthersStay
 unfolding entries_of
 entries-away parts key =
-    ap (map pair_of) (known (set_at parts (cells.Key key) None) (where_key place_cmp (λ q. not (same_key key q.1)) (entries (ordered parts)))
+    ap (map pair_of) (known (set_at parts (cells.Key key) None) (others key (entries (ordered parts)))
     (is_sorted-where_key place_cmp (λ q. not (same_key key q.1)) (entries (ordered parts)) (entries_sorted (ordered parts)))
     (λ s l.
     ap (value_at s) (get-set_at cell_cmp_total parts (cells.Key key) None (cells.Key l))
     ∙ away-value s key l (get parts (cells.Key l)) (same_key l key)
     ∙ ap (λ b. cond (not b) (value_at s (get parts (cells.Key l))) None) (key-symm l key)
     ∙ ap (λ o. cond (not (same_key key l)) o None) (sym (found-before parts s l))
-    ∙ sym (find-where_key place_cmp (λ q. not (same_key key q.1)) (s, l) (λ x e. ap (λ (q : Place). not (same_key key q.1)) (sym (place_cmp-IsAntisymmetric (s, l) x e)))
+    ∙ sym (find-where_key place_cmp (λ q. not (same_key key q.1)) (s, l)
+    (λ x e. ap (λ (q : Place). not (same_key key q.1)) (sym (place_cmp-IsAntisymmetric (s, l) x e)))
     (entries (ordered parts)))))
     ∙ pairs-filter key (entries (ordered parts))
 
@@ -147,14 +155,16 @@ below-last q last v [] below less = by (is_lt (place_cmp q last)) less
     by true h = tt
     by false h = h
 below-last q last v (e ∷ es) below less =
-    both (is_lt (place_cmp q e.0)) (below_all place_cmp q (es ++ (last, v) ∷ [])) (first (is_lt (place_cmp q e.0)) (below_all place_cmp q es) below)
+    both (is_lt (place_cmp q e.0)) (below_all place_cmp q (es ++ (last, v) ∷ []))
+    (first (is_lt (place_cmp q e.0)) (below_all place_cmp q es) below)
     (below-last q last v es (second (is_lt (place_cmp q e.0)) (below_all place_cmp q es) below) less)
   where
     both : (a b : Bool) → T a → T b → T (a && b)
     both true b h g = g
     both false b h g = h
 
-sorted-last : (last : Place) (v : Holder) (es : Entries) → T (is_sorted place_cmp es) → AllByRecursion (λ (e : Place × Holder). T (is_lt (place_cmp e.0 last))) es
+sorted-last : (last : Place) (v : Holder) (es : Entries) → T (is_sorted place_cmp es)
+    → AllByRecursion (λ (e : Place × Holder). T (is_lt (place_cmp e.0 last))) es
     → T (is_sorted place_cmp (es ++ (last, v) ∷ []))
 sorted-last last v [] sorted all = tt
 sorted-last last v (e ∷ es) sorted all =
@@ -170,7 +180,8 @@ pairs-push : (es : Entries) (e : Place × Holder) → map pair_of (es ++ e ∷ [
 pairs-push [] e = refl
 pairs-push (f ∷ es) e = ap (λ xs. pair_of f ∷ xs) (pairs-push es e)
 
-value-below : (s tick : ℕ) (o : Option Present) (v : Holder) → ((present : Present) (t : ℕ) → o ≡ Some present → present.tick ≡ Some t → t < tick)
+value-below : (s tick : ℕ) (o : Option Present) (v : Holder)
+    → ((present : Present) (t : ℕ) → o ≡ Some present → present.tick ≡ Some t → t < tick)
     → value_at s o ≡ Some v → s < tick
 value-below s tick None v below e = cc
 value-below s tick (Some present) v below e = by present.tick refl e
@@ -194,7 +205,8 @@ unfolding entries_of
 entries-last parts key tick value none below =
     ap (map pair_of) (known (set_at parts (cells.Key key) (shown (Slot tick value))) (entries (ordered parts) ++ ((tick, key), value) ∷ [])
     (sorted-last (tick, key) value (entries (ordered parts)) (entries_sorted (ordered parts))
-    (all-found place_cmp_total (λ (q : Place) (v : Holder). T (is_lt (place_cmp q (tick, key)))) (entries (ordered parts)) (entries_sorted (ordered parts))
+    (all-found place_cmp_total (λ (q : Place) (v : Holder). T (is_lt (place_cmp q (tick, key)))) (entries (ordered parts))
+    (entries_sorted (ordered parts))
     (λ q v found. less-last q (tick, key) (value-below q.0 tick (get parts (cells.Key q.1)) v (below (cells.Key q.1))
     (sym (found-before parts q.0 q.1) ∙ found)))))
     (λ s l.

@@ -148,9 +148,12 @@ find-gathered t k ((cells.Key l, p) ∷ es) sorted =
         ∙ ap (option_or (at_tick t p.tick p.value)) (none-gathered t k es none)
         ∙ or-None (at_tick t p.tick p.value)
     by rest false e = find-gathered-Key t k l p.tick p.value (gathered es) false e ∙ rest
-find-gathered t k ((cells.Prop n, p) ∷ es) sorted = find-gathered t k es (second (below_all cell_cmp (cells.Prop n) es) (is_sorted cell_cmp es) sorted)
-find-gathered t k ((cells.Elem n, p) ∷ es) sorted = find-gathered t k es (second (below_all cell_cmp (cells.Elem n) es) (is_sorted cell_cmp es) sorted)
-find-gathered t k ((cells.Default, p) ∷ es) sorted = find-gathered t k es (second (below_all cell_cmp cells.Default es) (is_sorted cell_cmp es) sorted)
+find-gathered t k ((cells.Prop n, p) ∷ es) sorted =
+    find-gathered t k es (second (below_all cell_cmp (cells.Prop n) es) (is_sorted cell_cmp es) sorted)
+find-gathered t k ((cells.Elem n, p) ∷ es) sorted =
+    find-gathered t k es (second (below_all cell_cmp (cells.Elem n) es) (is_sorted cell_cmp es) sorted)
+find-gathered t k ((cells.Default, p) ∷ es) sorted =
+    find-gathered t k es (second (below_all cell_cmp cells.Default es) (is_sorted cell_cmp es) sorted)
 
 -- under a tick and a key stands the key's value, if that is its tick
 pub get-ordered : (parts : Parts) (t : ℕ) (k : Key) → get (ordered parts) (t, k) ≡ value_at t (get parts (cells.Key k))
@@ -231,9 +234,11 @@ entries-with_entry parts (cells.Key k) (Some p) none = by p.tick
     by (Some t) =
         sym (entries-insert place_cmp_total (ordered parts) (t, k) p.value) ∙ ap entries (sym (ordered-new parts t k p.value none))
 entries-with_entry parts (cells.Prop n) (Some p) none =
-    ap entries (sym (ordered-alike parts (cells.Prop n) (Some p) (λ k. get-set_at cell_cmp_total parts (cells.Prop n) (Some p) (cells.Key k))))
+    ap entries (sym (ordered-alike parts (cells.Prop n) (Some p)
+    (λ k. get-set_at cell_cmp_total parts (cells.Prop n) (Some p) (cells.Key k))))
 entries-with_entry parts (cells.Elem n) (Some p) none =
-    ap entries (sym (ordered-alike parts (cells.Elem n) (Some p) (λ k. get-set_at cell_cmp_total parts (cells.Elem n) (Some p) (cells.Key k))))
+    ap entries (sym (ordered-alike parts (cells.Elem n) (Some p)
+    (λ k. get-set_at cell_cmp_total parts (cells.Elem n) (Some p) (cells.Key k))))
 entries-with_entry parts cells.Default (Some p) none = ap entries (sym (ordered-Default parts (Some p)))
 
 -- to insert into ordered entries is to put
@@ -257,13 +262,16 @@ pub all-found : {K X : Type 0} {R : K → K → Ordering} → IsTotalOrder R →
 all-found total P [] sorted each = tt
 all-found {R = R} total P (e ∷ es) sorted each = (
   each e.0 e.1 (ap (λ b. cond b (Some e.1) (find R e.0 es)) ((eq_by_cmp_equiv total).refl e.0)),
-  all-found total P es (second (below_all R e.0 es) (is_sorted R es) sorted) (λ q v found. each q v (by q v found (eq_by_cmp R q e.0) refl ∙ found)),
+  all-found total P es (second (below_all R e.0 es) (is_sorted R es) sorted)
+      (λ q v found. each q v (by q v found (eq_by_cmp R q e.0) refl ∙ found)),
 )
   where
     by : (q : _) (v : _) → find R q es ≡ Some v → (b : Bool) → eq_by_cmp R q e.0 ≡ b
         → cond b (Some e.1) (find R q es) ≡ find R q es
     by q v found true t =
-        let none : find R q es ≡ None = sym (find_tied R total q e.0 ((Equal-is (R q e.0)).0 t) es) ∙ find-below R e.0 es (first (below_all R e.0 es) (is_sorted R es) sorted) in
+        let none : find R q es ≡ None =
+        sym (find_tied R total q e.0 ((Equal-is (R q e.0)).0 t) es)
+        ∙ find-below R e.0 es (first (below_all R e.0 es) (is_sorted R es) sorted) in
         absurd (true≢false (ap is_some (sym found ∙ none)))
     by q v found false t = refl
 

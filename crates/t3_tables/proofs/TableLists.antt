@@ -71,7 +71,8 @@ value_at-is t None v e = cc
 value_at-is t (Some present) v e = at_tick-is t present.tick present.value v e
 
 -- each entry has the tick that its key has
-ticked : (parts : Parts) → AllByRecursion (λ (e : Place × Holder). tick_of (get parts (cells.Key e.0.1)) ≡ Some e.0.0) (entries (ordered parts))
+ticked : (parts : Parts) → AllByRecursion (λ (e : Place × Holder). tick_of (get parts (cells.Key e.0.1)) ≡ Some e.0.0)
+    (entries (ordered parts))
 ticked parts =
     all-found place_cmp_total (λ (q : Place) (v : Holder). tick_of (get parts (cells.Key q.1)) ≡ Some q.0) (entries (ordered parts))
     (entries_sorted (ordered parts))
@@ -94,7 +95,8 @@ module _ (tick_at : Key → Option ℕ) where
           let tick : e.0.0 ≡ f.0.0 = cc (is, all.0, ap tick_at key) in
           let place : e.0 ≡ f.0 = λ i. (tick i, key i) in
           let P : Place → Type 0 = λ p. T (is_lt (place_cmp e.0 p)) in
-          let less : T (is_lt (place_cmp e.0 e.0)) = subst P (sym place) (first (is_lt (place_cmp e.0 f.0)) (below_all place_cmp e.0 es) below) in
+          let less : T (is_lt (place_cmp e.0 e.0)) =
+          subst P (sym place) (first (is_lt (place_cmp e.0 f.0)) (below_all place_cmp e.0 es) below) in
           absurd (itself (place_cmp e.0 e.0) ((eq_by_cmp_equiv place_cmp_total).refl e.0) less)
         where
           itself : (r : Ordering) → is_eq r ≡ true → T (is_lt r) → ⊥
@@ -161,19 +163,19 @@ entries-filled default pairs apart =
     ∙ pairs-timed 1 pairs
 
 -- what is found among numbered slots
-found-numbered : (tick : ℕ) (pairs : List Pair) (cell : Cell) (content : Content) → lookup (same cell) (numbered tick pairs) ≡ Some content
-    → IsEntry cell × ((present : Present) (t : ℕ) → shown content ≡ Some present → present.tick ≡ Some t → t < tick + length pairs)
-found-numbered tick [] cell content e = cc
-found-numbered tick (pair ∷ pairs) cell content e = by (found-numbered (suc tick) pairs cell content) (same cell (cells.Key pair.key)) refl e
-  where
-    Wanted : Type 0
-    Wanted = IsEntry cell × ((present : Present) (t : ℕ) → shown content ≡ Some present → present.tick ≡ Some t → t < tick + suc (length pairs))
+abbrev IsBelow : ℕ → Content → Type 0
+IsBelow limit content = (present : Present) (t : ℕ) → shown content ≡ Some present → present.tick ≡ Some t → t < limit
 
-    by : (lookup (same cell) (numbered (suc tick) pairs) ≡ Some content → IsEntry cell
-        × ((present : Present) (t : ℕ) → shown content ≡ Some present → present.tick ≡ Some t → t < suc tick + length pairs))
+found-numbered : (tick : ℕ) (pairs : List Pair) (cell : Cell) (content : Content)
+    → lookup (same cell) (numbered tick pairs) ≡ Some content → IsEntry cell × IsBelow (tick + length pairs) content
+found-numbered tick [] cell content e = cc
+found-numbered tick (pair ∷ pairs) cell content e =
+    by (found-numbered (suc tick) pairs cell content) (same cell (cells.Key pair.key)) refl e
+  where
+    by : (lookup (same cell) (numbered (suc tick) pairs) ≡ Some content → IsEntry cell × IsBelow (suc tick + length pairs) content)
         → (b : Bool) → same cell (cells.Key pair.key) ≡ b
         → cond b (Some (Slot tick pair.value)) (lookup (same cell) (numbered (suc tick) pairs)) ≡ Some content
-        → IsEntry cell × ((present : Present) (t : ℕ) → shown content ≡ Some present → present.tick ≡ Some t → t < tick + suc (length pairs))
+        → IsEntry cell × IsBelow (tick + suc (length pairs)) content
     by rest true is e =
         let slot : Slot tick pair.value ≡ content = cc in (
           subst IsEntry (sym (same-is cell (cells.Key pair.key) is)) tt,
@@ -187,7 +189,8 @@ shows-numbered : (tick : ℕ) (pairs : List Pair) (cell : Cell) → is_some (loo
 shows-numbered tick [] cell = refl
 shows-numbered tick (pair ∷ pairs) cell = by (same cell (cells.Key pair.key)) (shows-numbered (suc tick) pairs cell)
   where
-    by : (b : Bool) → is_some (lookup (same cell) (numbered (suc tick) pairs)) ≡ is_some (seen (lookup (same cell) (numbered (suc tick) pairs)))
+    by : (b : Bool) → is_some (lookup (same cell) (numbered (suc tick) pairs))
+        ≡ is_some (seen (lookup (same cell) (numbered (suc tick) pairs)))
         → is_some (cond b (Some (Slot tick pair.value)) (lookup (same cell) (numbered (suc tick) pairs)))
         ≡ is_some (seen (cond b (Some (Slot tick pair.value)) (lookup (same cell) (numbered (suc tick) pairs))))
     by true rest = refl
@@ -197,7 +200,8 @@ some-of : {X : Type 0} (o : Option X) → is_some o ≡ true → (x : X) × (o �
 some-of None e = absurd (true≢false (sym e))
 some-of (Some x) e = (x, refl)
 
-seen-some : (o : Option Content) (present : Present) → seen o ≡ Some present → (content : Content) × ((o ≡ Some content) × (shown content ≡ Some present))
+seen-some : (o : Option Content) (present : Present) → seen o ≡ Some present
+    → (content : Content) × ((o ≡ Some content) × (shown content ≡ Some present))
 seen-some None present e = cc
 seen-some (Some content) present e = (content, (refl, e))
 

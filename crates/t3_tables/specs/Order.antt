@@ -21,7 +21,8 @@ with_value key value pair = if eq_by_cmp key_cmp key pair.key then record { key 
 abbrev pub NewComesLast : Type 0
 NewComesLast =
     (parts : Parts) (key : Key) (tick : ℕ) (value : Holder) → get parts (cells.Key key) ≡ None → AreBelow tick parts
-    → entries_of (set_at parts (cells.Key key) (shown (contents.Slot tick value))) ≡ entries_of parts ++ record { key = key; value = value } ∷ []
+    → entries_of (set_at parts (cells.Key key) (shown (contents.Slot tick value)))
+    ≡ entries_of parts ++ record { key = key; value = value } ∷ []
 
 -- a key that is present, and is set with the tick that it has, keeps its place
 abbrev pub PresentKeepsPlace : Type 0
@@ -38,7 +39,8 @@ OthersStay =
 -- whatever is put in a cell, the content that stood there puts every entry back where it stood
 abbrev pub OldStandsWhereItStood : Type 0
 OldStandsWhereItStood =
-    (parts : Parts) (cell : Cell) (content : Option Present) → entries_of (set_at (set_at parts cell content) cell (get parts cell)) ≡ entries_of parts
+    (parts : Parts) (cell : Cell) (content : Option Present)
+    → entries_of (set_at (set_at parts cell content) cell (get parts cell)) ≡ entries_of parts
 
 -- the default has no place among the entries
 abbrev pub DefaultIsApart : Type 0

@@ -69,7 +69,8 @@ tick_after next_tick (Some present) = above next_tick present.tick
 
 -- the tick is above those of all entries
 abbrev pub AreBelow : ℕ → Parts → Type 0
-AreBelow next_tick parts = (cell : Cell) (present : Present) (tick : ℕ) → get parts cell ≡ Some present → present.tick ≡ Some tick → tick < next_tick
+AreBelow next_tick parts =
+    (cell : Cell) (present : Present) (tick : ℕ) → get parts cell ≡ Some present → present.tick ≡ Some tick → tick < next_tick
 
 -- the order of entries: by their ticks, and where two were equal by their keys
 abbrev pub place_cmp : ℕ × Key → ℕ × Key → Ordering

@@ -6,5 +6,6 @@ use Rattle.t3_tables.proofs.ordered.numbered_slots.Goals as goal
 pub add-requires-clause-new : goal.add-requires-clause-new
 add-requires-clause-new c =
     new-next c.loop-key.slots (numbered 1 (map pair_of c.args.by_tick.entries)) _ _ _
-    ((λ i. c.loop-key.slots ++ numbered (length c.loop-key.slots + 1) (map pair_of (sym c.in-Some.ensures.removal i))) ∙ c.loop-key.invariant)
+    ((λ i. c.loop-key.slots ++ numbered (length c.loop-key.slots + 1) (map pair_of (sym c.in-Some.ensures.removal i)))
+    ∙ c.loop-key.invariant)
     (distinct-numbered 1 (map pair_of c.args.by_tick.entries) c.requires)

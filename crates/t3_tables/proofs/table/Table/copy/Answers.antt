@@ -17,7 +17,8 @@ abbrev Slotted : Type 0
 Slotted = List (Cell × Content)
 
 -- the slots of the copy, by the entries of the table
-module _ (made from : Slotted) (default : Holder) (now : TableValue) (is : made ≡ numbered 1 (map pair_of (entries (ordered (slots.parts_of from)))))
+module _ (made from : Slotted) (default : Holder) (now : TableValue)
+    (is : made ≡ numbered 1 (map pair_of (entries (ordered (slots.parts_of from)))))
     (same : with_default (slots.parts_of from) default ≡ parts_of now) where
   copied : made ≡ numbered 1 (entries_of (parts_of now))
   copied = is ∙ ap (λ pairs. numbered 1 pairs) (gathered-entries (slots.parts_of from) default ∙ ap entries_of same)

@@ -21,7 +21,8 @@ put-requires c = record {
 
 pub invariant_of-self-in_default : goal.invariant_of-self-in_default
 invariant_of-self-in_default c =
-    table-put c.self.inside.slots c.put.new.self c.args.cell.now (shown c.args.content) c.self.inside.next_tick c.tick_after-self-inside.result
+    table-put c.self.inside.slots c.put.new.self c.args.cell.now (shown c.args.content) c.self.inside.next_tick
+    c.tick_after-self-inside.result
     c.self.invariant c.put.ensures.parts c.put.ensures.places c.tick_after-self-inside.ensures
 
 pub returns-in-Default-clause-parts : goal.returns-in-Default-clause-parts
