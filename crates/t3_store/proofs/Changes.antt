@@ -2,19 +2,20 @@
 use Rattle.std.proofs.Common.{◌≡◌, ◌∙◌, ap, sym, subst, refl, ℕ, ◌+◌, ◌≤◌, ◌^◌, Bool, true, false, ◌&&◌, if◌then◌else◌, List, Option, None, Some, Result, Ok, Err, IsTrue, IsSome, is_some, is_none, true≢false, arith}
 use Rattle.std.specs.FinMap.{get, len}
 use Rattle.t3_undo.specs.Content.{Present}
-use Rattle.t3_undo.specs.Objects as journaled
-use Rattle.t3_undo.specs.Objects.{Objects, OldPart, Segment, adjust, part_at}
+use Rattle.t3_undo.specs.Objects.{Objects, OldPart, Segment, adjust}
 use Rattle.t3_undo.specs.Journal.{Held, note_in}
 use Rattle.t3_undo.specs.declared.cell.Cell.{Cell}
 use Rattle.t3_holder.specs.declared.holder.Holder.{Holder}
 use Rattle.t3_store.specs.Value.{Value, units_in, cell_units, holder_at, can_have_at, with_cell, without_cell}
 use Rattle.t3_store.specs.Store.{StoreValue, value_at, either, is_persistent, noted, with_value, changed_in, taken, written, set_cell, is_full_with, objects_in, store_units}
 use Rattle.t3_store.specs.Inner.Shapes.{Shape, Stored, values}
-use Rattle.t3_store.specs.Inner.Store.{marks_of, store_of, IsWritten, IsStore, AreNumbered, AreCounted, IsSound, saved_units, IsFront}
+use Rattle.t3_store.specs.Inner.Store.{marks_of, store_of, IsWritten, IsStore, AreNumbered, saved_units, IsFront}
 use Rattle.t3_store.specs.declared.limits.StoreLimits.{StoreLimits}
 use Rattle.t3_store.proofs.MapValues.{some-values, len-adjust, units_in-with, units_in-without, present-can_at}
 use Rattle.t3_store.proofs.Marks.{marks-changed}
+use Rattle.t3_store.specs.Inner.Whole.{supers_from, supers_of_both, AreWhole}
 use Rattle.t3_store.proofs.Turns.{not-full}
+use Rattle.t3_store.proofs.WholeKept.{whole-persistent, whole-transient}
 use Rattle.t3_store.proofs.Keeping.{front-of, front-changed, sound-keep, sound-noted, numbered-persistent, numbered-transient}
 
 -- a change of a persistent object, and of a transient one
@@ -96,6 +97,9 @@ persistent-kept old new t next next_transient limits j units room writes n c g w
     fits = is.counted.fits;
   };
   few_writes = more;
+  whole = subst (λ o. AreWhole (supers_from o) (supers_of_both o t.objects) next next_transient
+      (note_in j.record_limit (part n c was) j.segments)) (sym w.objects)
+      (whole-persistent old.objects t.objects next next_transient j.record_limit n j.segments c w.content (part n c was) is.whole);
 }
 
 pub transient-kept : (p old new : Stored) (next next_transient : ℕ) (limits : StoreLimits) (j : Held) (units : List ℕ) (room writes n : ℕ)
@@ -120,6 +124,8 @@ transient-kept p old new next next_transient limits j units room writes n c g wa
     fits = is.counted.fits;
   };
   few_writes = more;
+  whole = subst (λ o. AreWhole (supers_from p.objects) (supers_of_both p.objects o) next next_transient j.segments) (sym w.objects)
+      (whole-transient p.objects old.objects next next_transient n j.segments c w.content is.whole);
 }
 
 -- of a value in the one half or the other

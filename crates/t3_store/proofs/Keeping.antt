@@ -1,11 +1,10 @@
 -- What stays true of a store: numbers, what can be put back, and what is counted.
-use Rattle.std.proofs.Common.{◌≡◌, ◌∙◌, ap, sym, subst, refl, ℕ, zero, suc, ◌+◌, ◌-◌, ◌<◌, ◌≤◌, ◌^◌, Bool, true, false, cond, not, ◌&&◌, nat_lt, if◌then◌else◌, List, [], ◌∷◌, ◌++◌, append_assoc, length, map, take, drop, reverse, Option, None, Some, IsTrue, true≢false, ltb-true, arith}
-use Rattle.std.specs.List.{AllByRecursion}
+use Rattle.std.proofs.Common.{◌≡◌, ◌∙◌, ap, sym, subst, refl, ℕ, zero, suc, ◌-◌, ◌<◌, ◌≤◌, Bool, true, false, cond, not, ◌&&◌, nat_lt, if◌then◌else◌, List, [], ◌∷◌, ◌++◌, append_assoc, length, take, drop, Option, None, Some, is_some, ltb-true, arith}
 use Rattle.std.specs.Option.{option_map}
 use Rattle.std.specs.Ordering.{nat_cmp, eq_by_cmp}
 use Rattle.std.specs.Cmp.{nat_cmp_total}
 use Rattle.std.specs.FinMap.{FinMap, get}
-use Rattle.t3_undo.specs.Content.{Places, Present, is_form}
+use Rattle.t3_undo.specs.Content.{Places, Present}
 use Rattle.t3_undo.specs.Objects as journaled
 use Rattle.t3_undo.specs.Objects.{Objects, OldPart, Segment, with_part, is_noted}
 use Rattle.t3_undo.specs.Journal.{room, is_due, add, note_in}
@@ -13,7 +12,7 @@ use Rattle.t3_undo.specs.declared.cell.Cell.{Cell}
 use Rattle.t3_undo.proofs.Maps.{get-adjust}
 use Rattle.t3_store.specs.Value.{units_in}
 use Rattle.t3_store.specs.Store.{Mark, room_for, is_change_due, add_change, changed_in}
-use Rattle.t3_store.specs.Inner.Shapes.{Shape, has_place}
+use Rattle.t3_store.specs.Inner.Shapes.{Shape}
 use Rattle.t3_store.specs.Inner.Store.{CanBePut, CanAllBePut, IsSound, AreKept, AreNumbered, IsFront, saved_units}
 
 -- fronts of lists
@@ -132,6 +131,16 @@ pub none-kept : (things : Objects Shape) (n : ℕ) (c : Cell) (o : Option Presen
     → get (journaled.set_cell things n c o) q ≡ None
 none-kept things n c o q e = get-adjust nat_cmp_total things n (with_part c o) q ∙ none-set (eq_by_cmp nat_cmp q n) (with_part c o) (get things q) e
 
+pub some-set : {X : Type 0} (b : Bool) (f : X → X) (o : Option X) → is_some (cond b (option_map f o) o) ≡ is_some o
+some-set true f None = refl
+some-set true f (Some x) = refl
+some-set false f o = refl
+
+some-kept : (things : Objects Shape) (n : ℕ) (c : Cell) (o : Option Present) (q : ℕ) → is_some (get (journaled.set_cell things n c o) q) ≡ true
+    → is_some (get things q) ≡ true
+some-kept things n c o q e =
+    sym (ap is_some (get-adjust nat_cmp_total things n (with_part c o) q) ∙ some-set (eq_by_cmp nat_cmp q n) (with_part c o) (get things q)) ∙ e
+
 pub numbered-persistent : (p t : Objects Shape) (next next_transient n : ℕ) (c : Cell) (o : Option Present) → AreNumbered p t next next_transient
     → AreNumbered (journaled.set_cell p n c o) t next next_transient
 numbered-persistent p t next next_transient n c o are = record {
@@ -141,6 +150,7 @@ numbered-persistent p t next next_transient n c o are = record {
   next_fits = are.next_fits;
   transient_from = are.transient_from;
   transient_fits = are.transient_fits;
+  distinct = λ q h. are.distinct q (some-kept p n c o q h);
 }
 
 pub numbered-transient : (p t : Objects Shape) (next next_transient n : ℕ) (c : Cell) (o : Option Present) → AreNumbered p t next next_transient
@@ -152,4 +162,5 @@ numbered-transient p t next next_transient n c o are = record {
   next_fits = are.next_fits;
   transient_from = are.transient_from;
   transient_fits = are.transient_fits;
+  distinct = λ q h. none-kept t n c o q (are.distinct q h);
 }

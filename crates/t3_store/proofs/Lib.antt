@@ -9,3 +9,4 @@ pub mod Keeping
 pub mod Changes
 pub mod PuttingBack
 pub mod Turns
+pub mod WholeKept

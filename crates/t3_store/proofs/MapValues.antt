@@ -1,20 +1,19 @@
 -- The values of objects, as finite maps: what changes of the objects do to them, and to the units that they count.
-use Rattle.std.proofs.Common.{◌≡◌, ◌∙◌, ap, sym, subst, refl, ℕ, zero, suc, ◌+◌, ◌-◌, ◌<◌, ◌≤◌, nat_eq, get_or, drop, Bool, true, false, cond, ◌&&◌, T, IsTrue, IsSome, length, List, [], ◌∷◌, map, Option, None, Some, is_some, true≢false, nat_lt, arith}
+use Rattle.std.proofs.Common.{◌≡◌, ◌∙◌, ap, sym, refl, ℕ, zero, suc, ◌+◌, ◌-◌, ◌<◌, ◌≤◌, nat_eq, get_or, drop, Bool, true, false, cond, ◌&&◌, T, IsTrue, IsSome, length, List, [], ◌∷◌, map, Option, None, Some, is_some, true≢false, arith}
 use Rattle.std.specs.declared.cmp.Ordering.{Ordering}
 use Rattle.std.specs.declared.cmp.Ordering.TheVariants.{Less, Equal, Greater}
-use Rattle.std.specs.Ordering.{nat_cmp, eq_by_cmp, is_eq, is_lt}
+use Rattle.std.specs.Ordering.{nat_cmp, is_eq, is_lt}
 use Rattle.std.specs.Option.{option_map}
 use Rattle.std.specs.Cmp.{nat_cmp_total, ranked, unsigned_tied}
 use Rattle.std.specs.List.{AllByRecursion, sum_by, IsDistinct, filter_map}
 use Rattle.std.proofs.lemmas.List.Sums.{sum_by-cons}
-use Rattle.std.specs.FinMap.{FinMap, get, get-empty, empty, len, len-insert, len-empty, len-entries, insert, entries, from_entries, entries_sorted, same_map, get-insert, get-from_entries, get-entries, get-retain_keys, retain_keys, entries-insert, nat_cmp-IsAntisymmetric}
+use Rattle.std.specs.FinMap.{FinMap, get, get-empty, empty, len, len-insert, len-empty, len-entries, insert, entries, from_entries, entries_sorted, same_map, get-insert, get-from_entries, get-entries, entries-insert, nat_cmp-IsAntisymmetric}
 use Rattle.std.specs.FinMap.Entries.{find, put, by_order, below_all, is_sorted}
 use Rattle.t3_undo.specs.Content.{Present, Parts}
-use Rattle.t3_undo.specs.Objects.{Objects, adjust, adjusted, below, part_of, part_at, with_part, set_cell}
+use Rattle.t3_undo.specs.Objects.{Objects, adjust, adjusted, part_of, part_at, with_part, set_cell}
 use Rattle.t3_undo.specs.declared.cell.Cell.{Cell}
 use Rattle.t3_holder.specs.declared.holder.Holder.{Holder}
 use Rattle.t3_undo.proofs.Maps.{get-adjust}
-use Rattle.t3_undo.proofs.PuttingBack.{get-below}
 use Rattle.t3_store.specs.Value.{Value, units_of, units_in, cell_units, holder_in, holder_at, can_have_at, with_cell, without_cell, pair_of, IsNextAbove}
 use Rattle.t3_tadsobj.specs.Object as Tadsobject
 use Rattle.t3_tadsobj.specs.Object.{props_of, prop_in, bare}

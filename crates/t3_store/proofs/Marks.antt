@@ -1,18 +1,18 @@
 -- Savepoints as whole copies, which the journal determines: what a change, a creation, a savepoint and an undo do to them.
-use Rattle.std.proofs.Common.{◌≡◌, ◌∙◌, ap, sym, subst, refl, ℕ, zero, suc, ◌+◌, ◌-◌, ◌<◌, ◌≤◌, Bool, true, false, cond, not, ◌&&◌, ◌||◌, nat_lt, if◌then◌else◌, List, [], ◌∷◌, ◌++◌, length, map, take, drop, reverse, Option, None, Some, true≢false, ltb-true, ltb-false, arith}
+use Rattle.std.proofs.Common.{◌≡◌, ◌∙◌, ap, sym, refl, ℕ, zero, suc, ◌-◌, ◌≤◌, Bool, true, false, cond, not, ◌&&◌, ◌||◌, nat_lt, if◌then◌else◌, List, [], ◌∷◌, length, map, take, drop, Option, None, Some, true≢false, ltb-false, arith}
 use Rattle.std.specs.List.{list_any}
 use Rattle.std.specs.Cmp.{nat_cmp_total}
-use Rattle.std.specs.FinMap.{get, insert, same_map, get-insert, nat_cmp-IsAntisymmetric}
+use Rattle.std.specs.FinMap.{get, insert, same_map, nat_cmp-IsAntisymmetric}
 use Rattle.t3_undo.specs.Content.{Present, Parts}
 use Rattle.t3_undo.specs.Objects as journaled
 use Rattle.t3_undo.specs.Objects.{Objects, OldPart, Segment, part_at, below, is_of, is_noted, put_back, before}
-use Rattle.t3_undo.specs.Journal.{total, room, is_due, add, note_in, newest_next, newest_record}
+use Rattle.t3_undo.specs.Journal.{total, room, is_due, add, note_in, newest_next}
 use Rattle.t3_undo.specs.UndoLaw as law
 use Rattle.t3_undo.specs.declared.cell.Cell.{Cell}
 use Rattle.t3_undo.proofs.PuttingBack.{put_back-noted, put_back-note, before-newer, before-made, get-before}
 use Rattle.t3_store.specs.Store.{Mark, room_for, is_change_of, is_change_due, add_change, changed_in, changed_cells, newest_copy, is_held, StoreValue, undone}
 use Rattle.t3_store.specs.Inner.Shapes.{Shape, values}
-use Rattle.t3_store.specs.Inner.Store.{change_of, marks_of, IsFront, saved_units}
+use Rattle.t3_store.specs.Inner.Store.{change_of, marks_of}
 
 due-split : (n next : ℕ) → (nat_lt n next && true) ≡ false → next ≤ n
 due-split n next e = by (nat_lt n next) refl e

@@ -1,5 +1,5 @@
 -- Objects in a row by rising number: where one stands, and what changes of the row do.
-use Rattle.std.proofs.Common.{◌≡◌, ◌∙◌, ap, sym, subst, refl, ℕ, zero, suc, ◌+◌, ◌-◌, ◌<◌, ◌≤◌, Bool, true, false, cond, ◌==◌, eqb-true, ltb, List, [], ◌∷◌, ◌++◌, length, map, take, drop, get_or, set, slice_get, Option, None, Some, IsTrue, is_some, true≢false, nat_lt, ltb-true, ltb-false, lt-ltb, le-ltb, add-one, arith}
+use Rattle.std.proofs.Common.{◌≡◌, ◌∙◌, ap, sym, subst, refl, ℕ, zero, suc, ◌+◌, ◌<◌, ◌≤◌, Bool, true, false, cond, eqb-true, List, [], ◌∷◌, ◌++◌, length, map, take, drop, get_or, set, slice_get, Option, None, Some, is_some, true≢false, nat_lt, ltb-true, ltb-false, arith}
 use Rattle.std.proofs.lemmas.Bool.{eqb-false}
 use Rattle.std.specs.Ordering.{nat_cmp, eq_by_cmp}
 use Rattle.std.specs.Option.{option_map}

@@ -1,27 +1,33 @@
 -- A savepoint, an undo and a creation: what stays true of a store.
-use Rattle.std.proofs.Common.{◌≡◌, ◌∙◌, ap, sym, subst, refl, ℕ, zero, suc, ◌+◌, ◌-◌, ◌<◌, ◌≤◌, ◌^◌, Bool, true, false, cond, ◌||◌, nat_lt, nat_le, if◌then◌else◌, List, [], ◌∷◌, ◌++◌, length, map, take, drop, reverse, Option, None, Some, IsTrue, is_some, true≢false, ltb-true, ltb-false, lt-ltb, leb-false, arith}
+use Rattle.std.proofs.Common.{◌≡◌, ◌∙◌, ap, sym, subst, refl, ℕ, zero, suc, ◌+◌, ◌-◌, ◌<◌, ◌≤◌, ◌^◌, Bool, true, false, cond, ◌||◌, nat_lt, List, [], ◌∷◌, ◌++◌, length, take, drop, reverse, Option, None, Some, is_some, true≢false, ltb-true, ltb-false, lt-ltb, arith}
 use Rattle.std.specs.List.{AllByRecursion}
 use Rattle.std.specs.Option.{option_map}
 use Rattle.std.specs.Ordering.{nat_cmp, eq_by_cmp}
 use Rattle.std.specs.Cmp.{nat_cmp_total}
 use Rattle.std.specs.FinMap.{FinMap, get, insert, len, len-insert, get-insert, get-retain_keys, nat_cmp-IsAntisymmetric}
 use Rattle.std.proofs.lemmas.List.{length-reverse}
-use Rattle.t3_undo.specs.Content.{Parts, Places}
-use Rattle.t3_undo.specs.Objects.{Objects, OldPart, Segment, before, put_back}
+use Rattle.t3_undo.specs.Content.{Parts, Places, Present}
+use Rattle.t3_undo.specs.Objects.{Objects, OldPart, Segment, before, put_back, with_part}
 use Rattle.t3_undo.specs.Journal.{Held, newest_next}
 use Rattle.t3_undo.specs.UndoLaw as law
 use Rattle.t3_undo.specs.declared.cell.Cell.{Cell}
+use Rattle.t3_undo.specs.Objects as journaled
 use Rattle.t3_undo.proofs.PuttingBack.{get-before}
-use Rattle.t3_store.specs.Value.{Value, units_in, units_of, is_past}
-use Rattle.t3_store.specs.Store.{Mark, StoreValue, AreLimits, AreBelow, started, objects_in, store_units, is_full_with}
+use Rattle.std.specs.Prelude.{option_and_then}
+use Rattle.t3_store.specs.Value.{Value, units_in, units_of, is_past, supers_of}
+use Rattle.t3_store.specs.Store.{either, Mark, AreLimits, AreBelow, started}
 use Rattle.t3_store.specs.Value.{Objects as Values}
 use Rattle.t3_store.specs.Inner.Shapes.{Shape, Stored, values, value_of, has_place, has_place_in, places_below}
-use Rattle.t3_store.specs.Inner.Store.{marks_of, store_of, CanBePut, CanAllBePut, IsSound, AreNumbered, IsFront, saved_units, AreCounted, IsStore, IsPersistent, newest_records}
+use Rattle.t3_store.specs.Inner.Store.{marks_of, store_of, CanAllBePut, IsSound, AreNumbered, IsFront, saved_units, IsStore, IsPersistent}
+use Rattle.t3_store.specs.Whole.{IsWhole, supers_in, supers_among}
+use Rattle.t3_store.specs.Inner.Whole.{supers_from, supers_of_both, AreWhole}
 use Rattle.t3_store.specs.declared.limits.StoreLimits.{StoreLimits}
-use Rattle.t3_store.proofs.Rows.{differs}
+use Rattle.t3_store.proofs.Rows.{differs, same, same-is}
 use Rattle.t3_store.proofs.MapValues.{get-values, values-insert, units_in-new}
-use Rattle.t3_store.proofs.Marks.{marks-saved, marks-take, marks-made, marks-undone, values-undone}
-use Rattle.t3_store.proofs.Keeping.{front-take, front-cons, front-drop}
+use Rattle.t3_store.proofs.Marks.{marks-saved, marks-take, marks-made}
+use Rattle.t3_undo.proofs.Maps.{get-adjust}
+use Rattle.t3_store.proofs.Keeping.{some-set, front-take, front-cons, front-drop}
+use Rattle.t3_store.proofs.WholeKept.{HasSupers, whole-undone, whole-created, whole-made, whole-saved, whole-started, supers-values, supers-both}
 
 -- what can be put back, where places of older objects are kept
 put-below : (old new : FinMap nat_cmp Places) (top : ℕ) (parts : List OldPart)
@@ -83,6 +89,7 @@ saved-kept p t next next_transient limits j units more room wide writes count is
     fits = omega (arith, is.counted.fits);
   };
   few_writes = is.few_writes;
+  whole = whole-saved p.objects t.objects next next_transient (j.mark_limit - 1) j.segments is.numbered is.whole;
 }
   where
     marks : List Mark
@@ -127,6 +134,24 @@ none-undone m (s ∷ ss) next places sound all q h = get-before s m q ∙ by (na
     by true t = absurd (omega (arith, ltb-true q s.next t, sound.0))
     by false t = refl
 
+adjusted-some : (m : Objects Shape) (n : ℕ) (c : Cell) (o : Option Present) (q : ℕ) → is_some (get (journaled.set_cell m n c o) q) ≡ is_some (get m q)
+adjusted-some m n c o q = ap is_some (get-adjust nat_cmp_total m n (with_part c o) q) ∙ some-set (eq_by_cmp nat_cmp q n) (with_part c o) (get m q)
+
+some-put : (rs : List OldPart) (m : Objects Shape) (q : ℕ) → is_some (get (put_back m rs) q) ≡ is_some (get m q)
+unfolding put_back
+some-put [] m q = refl
+some-put (r ∷ rs) m q =
+    some-put rs (journaled.set_cell m r.number r.cell r.old) q ∙ adjusted-some m r.number r.cell r.old q
+
+cond-some : {X : Type 0} (b : Bool) (x : Option X) → is_some (cond b x None) ≡ true → is_some x ≡ true
+cond-some true x e = e
+cond-some false x e = cc
+
+some-undone : (m : Objects Shape) (ss : List Segment) (q : ℕ) → is_some (get (law.undone m ss) q) ≡ true → is_some (get m q) ≡ true
+some-undone m [] q e = e
+some-undone m (s ∷ ss) q e =
+    sym (some-put s.records m q) ∙ cond-some (nat_lt q s.next) (get (put_back m s.records) q) (sym (ap is_some (get-before s m q)) ∙ e)
+
 kept-below : (places : FinMap nat_cmp Places) (next q : ℕ) (c : Cell) → q < next → has_place places q c ≡ true
     → has_place (places_below next places) q c ≡ true
 kept-below places next q c h placed =
@@ -168,6 +193,7 @@ undone-kept p t new next next_transient limits j units rest room wide writes cou
     next_fits = is.numbered.next_fits;
     transient_from = is.numbered.transient_from;
     transient_fits = is.numbered.transient_fits;
+    distinct = λ q h. is.numbered.distinct q (some-undone p.objects j.segments q (sym (ap (λ (s : Stored). is_some (get s.objects q)) changed) ∙ h));
   };
   sound = subst (λ (s : Stored). IsSound s.places next (drop 1 j.segments)) (sym changed) (sound-undone p.places next newest j.segments held is.sound);
   counted = record {
@@ -181,6 +207,8 @@ undone-kept p t new next next_transient limits j units rest room wide writes cou
     fits = omega (arith, is.counted.fits);
   };
   few_writes = is.few_writes;
+  whole = subst (λ (s : Stored). AreWhole (supers_from s.objects) (supers_of_both s.objects t.objects) next next_transient (drop 1 j.segments))
+      (sym changed) (whole-undone p.objects t.objects next next_transient newest j.segments is.numbered.distinct held is.whole);
 }
   where
     one : AllByRecursion (λ x. x ≤ limits.units) (count ∷ reverse rest)
@@ -224,9 +252,10 @@ pub persistent-created : (p t new : Stored) (next next_transient : ℕ) (limits 
     (thing : Shape × Parts) (own : Places) → IsStore p t next next_transient limits j units room writes → next < 2 ^ 31
     → len (values p.objects) + len (values t.objects) + 1 ≤ limits.objects
     → units_in (values p.objects) + units_in (values t.objects) + units_of (value_of thing) ≤ limits.units
+    → HasSupers (supers_from p.objects) thing
     → new ≡ record { objects = insert p.objects next thing; places = insert p.places next own }
     → IsStore new t (next + 1) next_transient limits j units room writes
-persistent-created p t new next next_transient limits j units room writes thing own is low few little changed =
+persistent-created p t new next next_transient limits j units room writes thing own is low few little has changed =
     subst (λ (s : Stored). IsStore s t (next + 1) next_transient limits j units room writes) (sym changed) (record {
       bounded = is.bounded;
       records = is.records;
@@ -238,6 +267,7 @@ persistent-created p t new next next_transient limits j units room writes thing 
         next_fits = omega arith;
         transient_from = is.numbered.transient_from;
         transient_fits = is.numbered.transient_fits;
+        distinct = λ q h. distinct q h (same q next) refl;
       };
       sound = sound-below p.places (insert p.places next own) next (next + 1) j.segments (kept-inserted p.places next own) (omega arith) is.sound;
       counted = record {
@@ -250,8 +280,15 @@ persistent-created p t new next next_transient limits j units room writes thing 
         fits = is.counted.fits;
       };
       few_writes = is.few_writes;
+      whole = whole-created p.objects t.objects next next_transient p.places j.segments thing is.numbered (omega arith) is.sound has is.whole;
     })
   where
+    distinct : (q : ℕ) → is_some (get (insert p.objects next thing) q) ≡ true → (b : Bool) → same q next ≡ b → get t.objects q ≡ None
+    distinct q h true e = is.numbered.transient_low q (let here = same-is q next e in omega arith) (let here = same-is q next e in omega arith)
+    distinct q h false e =
+        is.numbered.distinct q (sym (ap is_some (get-insert nat_cmp_total p.objects next thing q
+        ∙ ap (λ b. cond b (Some thing) (get p.objects q)) e)) ∙ h)
+
     none : get (values p.objects) next ≡ None
     none = value-none p.objects next (is.numbered.persistent_below next (omega arith))
 
@@ -265,9 +302,10 @@ pub transient-created : (p t new : Stored) (next next_transient : ℕ) (limits :
     (thing : Shape × Parts) (own : Places) → IsStore p t next next_transient limits j units room writes → next_transient < 2 ^ 32
     → len (values p.objects) + len (values t.objects) + 1 ≤ limits.objects
     → units_in (values p.objects) + units_in (values t.objects) + units_of (value_of thing) ≤ limits.units
+    → HasSupers (supers_of_both p.objects t.objects) thing
     → new ≡ record { objects = insert t.objects next_transient thing; places = insert t.places next_transient own }
     → IsStore p new next (next_transient + 1) limits j units room writes
-transient-created p t new next next_transient limits j units room writes thing own is low few little changed =
+transient-created p t new next next_transient limits j units room writes thing own is low few little has changed =
     subst (λ (s : Stored). IsStore p s next (next_transient + 1) limits j units room writes) (sym changed) (record {
       bounded = is.bounded;
       records = is.records;
@@ -280,6 +318,7 @@ transient-created p t new next next_transient limits j units room writes thing o
         next_fits = is.numbered.next_fits;
         transient_from = omega (arith, is.numbered.transient_from);
         transient_fits = omega arith;
+        distinct = λ q h. none-inserted t.objects next_transient q thing (λ e. high q h e) ∙ is.numbered.distinct q h;
       };
       sound = is.sound;
       counted = record {
@@ -292,8 +331,12 @@ transient-created p t new next next_transient limits j units room writes thing o
         fits = is.counted.fits;
       };
       few_writes = is.few_writes;
+      whole = whole-made p.objects t.objects next next_transient j.segments thing is.numbered has is.whole;
     })
   where
+    high : (q : ℕ) → is_some (get p.objects q) ≡ true → q ≡ next_transient → ⊥
+    high q h e = true≢false (sym h ∙ ap is_some (is.numbered.persistent_below q (omega (arith, is.numbered.next_fits, is.numbered.transient_from))))
+
     none : get (values t.objects) next_transient ≡ None
     none = value-none t.objects next_transient (is.numbered.transient_high next_transient (omega arith))
 
@@ -311,6 +354,13 @@ unvalued m o q same e = by (get m q) (sym (get-values m q) ∙ (λ i. get (same 
     by None e = refl
     by (Some x) e = cc
 
+valued : (m : Objects Shape) (o : Values) (q : ℕ) → values m ≡ o → is_some (get m q) ≡ true → is_some (get o q) ≡ true
+valued m o q same h = sym (ap is_some (sym (get-values m q) ∙ (λ i. get (same i) q))) ∙ some-valued (get m q) ∙ h
+  where
+    some-valued : (x : Option (Shape × Parts)) → is_some (option_map value_of x) ≡ is_some x
+    some-valued None = refl
+    some-valued (Some x) = refl
+
 marks-bare : (m : Objects Shape) → marks_of m [] ≡ []
 unfolding marks_of
 marks-bare m = refl
@@ -319,19 +369,13 @@ pub started-kept : (p t : Stored) (first passing : Values) (next : ℕ) (limits 
     → values p.objects ≡ first → values t.objects ≡ passing → AreLimits limits → next ≤ 2 ^ 31 → AreBelow next first → AreBelow next passing
     → len first + len passing ≤ limits.objects → units_in first + units_in passing ≤ limits.units
     → j ≡ record { segments = []; marks = 0; record_limit = limits.records; mark_limit = limits.savepoints } → units ≡ [] → limits.savepoints ≤ room
-    → writes ≤ 2 ^ 63 → IsStore p t next (2 ^ 31) limits j units room writes
-started-kept p t first passing next limits j units room writes one other bounded low below under few little begun none wide counted = record {
+    → writes ≤ 2 ^ 63 → ((q : ℕ) → is_some (get first q) ≡ true → get passing q ≡ None) → IsWhole (supers_in first)
+    → IsWhole (supers_among first passing) → IsStore p t next (2 ^ 31) limits j units room writes
+started-kept p t first passing next limits j units room writes one other bounded low below under few little begun none wide counted apart own both = record {
   bounded = bounded;
   records = ap (λ (h : Held). h.record_limit) begun;
   savepoints = ap (λ (h : Held). h.mark_limit) begun;
-  numbered = record {
-    persistent_below = λ q h. unvalued p.objects first q one (below q h);
-    transient_low = λ q h l. unvalued t.objects passing q other (under q h);
-    transient_high = λ q h. unvalued t.objects passing q other (under q (omega arith));
-    next_fits = low;
-    transient_from = omega arith;
-    transient_fits = omega arith;
-  };
+  numbered = numbered;
   sound = subst (λ (h : Held). IsSound p.places next h.segments) (sym begun) tt;
   counted = record {
     objects = (let a = ap len one in let b = ap len other in omega arith);
@@ -344,7 +388,22 @@ started-kept p t first passing next limits j units room writes one other bounded
     fits = wide;
   };
   few_writes = counted;
+  whole = subst (λ (h : Held). AreWhole (supers_from p.objects) (supers_of_both p.objects t.objects) next (2 ^ 31) h.segments) (sym begun)
+      (whole-started p.objects t.objects next (2 ^ 31) (supers_in first) (supers_among first passing) numbered
+      (λ q. (λ i. option_and_then supers_of (get (sym one i) q)) ∙ supers-values p.objects q)
+      (λ q. (λ i. option_and_then supers_of (either (get (sym one i) q) (get (sym other i) q))) ∙ supers-both p.objects t.objects q) own both);
 }
+  where
+    numbered : AreNumbered p.objects t.objects next (2 ^ 31)
+    numbered = record {
+      persistent_below = λ q h. unvalued p.objects first q one (below q h);
+      transient_low = λ q h l. unvalued t.objects passing q other (under q h);
+      transient_high = λ q h. unvalued t.objects passing q other (under q (omega arith));
+      next_fits = low;
+      transient_from = omega arith;
+      transient_fits = omega arith;
+      distinct = λ q h. unvalued t.objects passing q other (apart q (valued p.objects first q one h));
+    }
 
 pub started-view : (p t : Stored) (first passing : Values) (next : ℕ) (limits : StoreLimits) (j : Held) → values p.objects ≡ first
     → values t.objects ≡ passing → j ≡ record { segments = []; marks = 0; record_limit = limits.records; mark_limit = limits.savepoints }

@@ -2,4 +2,5 @@
 pub mod Shapes
 pub mod Entries
 pub mod Store
+pub mod Whole
 pub mod Numbers

@@ -1,4 +1,5 @@
 pub mod Limits
 pub mod Value
 pub mod Store
+pub mod Whole
 pub mod Inner

@@ -1,6 +1,6 @@
 -- A store: two finite maps from numbers to values, savepoints as whole copies, and what each call makes of them.
-use Rattle.std.specs.Prelude.{◌≡◌, ◌≤◌, ℕ, ◌+◌, ◌-◌, ◌^◌, Bool, true, false, ◌&&◌, ◌||◌, not, if◌then◌else◌, List, [], ◌∷◌, Option, None, Some, is_some, is_none, nat_lt, nat_le, length, take, drop, IsTrue, IsSome, refl}
-use Rattle.std.specs.List.{list_any, AllByRecursion, sum_by}
+use Rattle.std.specs.Prelude.{◌≡◌, ◌≤◌, ℕ, ◌+◌, ◌-◌, ◌^◌, Bool, true, false, ◌&&◌, ◌||◌, not, if◌then◌else◌, List, [], ◌∷◌, Option, None, Some, is_some, is_none, nat_lt, nat_le, length, take, drop, refl}
+use Rattle.std.specs.List.{list_any}
 use Rattle.std.specs.Ordering.{nat_cmp, eq_by_cmp}
 use Rattle.std.specs.FinMap.{get, insert, len}
 use Rattle.std.specs.Coded.{Coded, code_by, coded×, coded_ℕ, coded_list}
@@ -8,7 +8,7 @@ use Rattle.t3_holder.specs.declared.holder.Holder.{Holder}
 use Rattle.t3_undo.specs.Cell.{cell_cmp, coded_cell}
 use Rattle.t3_undo.specs.Objects.{adjust}
 use Rattle.t3_undo.specs.declared.cell.Cell.{Cell}
-use Rattle.t3_store.specs.Value.{Value, Objects, coded_objects, holder_at, with_cell, without_cell, can_have_at, units_of, units_in, cell_units}
+use Rattle.t3_store.specs.Value.{Value, Objects, coded_objects, holder_at, with_cell, without_cell, units_of, units_in, cell_units}
 use Rattle.t3_store.specs.declared.limits.StoreLimits.{StoreLimits}
 
 -- a savepoint: a whole copy of the persistent objects, the number that was next, and which cells of which objects were
@@ -79,7 +79,7 @@ pub record AreLimits (limits : StoreLimits) : Type 0 where
 abbrev pub AreBelow : ℕ → Objects → Type 0
 AreBelow next objects = (number : ℕ) → next ≤ number → get objects number ≡ None
 
-abbrev pub either : Option Value → Option Value → Option Value
+abbrev pub either : {X : Type 0} → Option X → Option X → Option X
 either None other = other
 either (Some value) other = Some value
 

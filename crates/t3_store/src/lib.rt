@@ -17,6 +17,9 @@
 //! Contracts see finite maps from numbers to values, and each held savepoint as a whole copy of one. A store
 //! has a limit for its objects and one for its units, which are what the objects count by their contents: a
 //! call that would go past one answers `Full`, and changes nothing.
+//!
+//! Superclasses stay whole: those of a persistent object are persistent, and no walk over superclasses comes
+//! back, whatever is made, changed and undone. [`Store::kind`] says so where a search needs it.
 #![tactic(auto)]
 
 mod entries;

@@ -3,7 +3,9 @@ ghost use Rattle.std.specs.FinMap.{get, len, entries};
 ghost use Rattle.std.specs.List.Sorted.{IsStrictlyIncreasing};
 ghost use Rattle.t3_store.specs.Value.{Objects, holder_at, can_have_at, new_value, kind_of, supers_of, is_class_at, props_at, units_of, units_in};
 ghost use Rattle.t3_store.specs.Store.{AreLimits, AreBelow, value_at, objects_in, store_units, started, is_full_with, no_number, with_object, created_in, after_write, written, taken, set_cell, saved, undone, is_held, changed_cells};
+ghost use Rattle.t3_store.specs.Whole.{AreApart, IsWhole, HasSupersIn, supers_in, supers_among, supers_of_live, supers_for};
 ghost use Rattle.t3_store.specs.Inner.Shapes.{thing_of, value_of, values};
+ghost use Rattle.t3_tadsobj.specs.Order.{IsAcyclicFrom};
 
 use crate::kind::Kind;
 use crate::limits::{StoreLimits, StoreRefusal};
@@ -72,6 +74,9 @@ impl Store {
         requires next { (0 < next) × (next ≤ 2 ^ 31) }
         requires first { AreBelow next first }
         requires passing { AreBelow next passing }
+        requires apart { AreApart first passing }
+        requires whole { IsWhole (supers_in first) }
+        requires both { IsWhole (supers_among first passing) }
         requires objects { len first + len passing ≤ limits.objects }
         requires units { units_in first + units_in passing ≤ limits.units }
         ensures store { IfOk result (λ store. store.store ≡ started limits first passing next) }
@@ -103,10 +108,12 @@ impl Store {
         self.half(number).get(number, cell).value()
     }
 
-    /// What the object of a number is.
+    /// What the object of a number is. No walk over superclasses from any number comes back.
     pub fn kind(&self, number: u32) -> Option<Kind>
-        ensures { result ≡ option_map kind_of (value_at self.now.store number) }
+        ensures kind { result ≡ option_map kind_of (value_at self.now.store number) }
+        ensures acyclic { IsAcyclicFrom (supers_of_live self.now.store) number }
     {
+        let _ = &self.alloc;
         self.half(number).kind(number)
     }
 
@@ -141,6 +148,7 @@ impl Store {
     /// Makes an object, and gives its number. `Full` comes exactly where there is no room for it, or no
     /// number is left.
     pub fn create(&mut self, what: NewObject, transient: bool) -> Result<u32, StoreRefusal>
+        requires { HasSupersIn (supers_for transient self.old.store) (new_value what) }
         ensures full { (result ≡ Err StoreRefusal.Full)
             ↔ (created_in (new_value what) transient self.old.store ≡ None) }
         ensures ok { IfOk result (λ number. created_in (new_value what) transient self.old.store
@@ -260,6 +268,7 @@ impl Store {
         requires units { units ≡ units_of (value_of (thing_of object)) }
         requires room { is_full_with 1 units self.old.store ≡ false }
         requires number { no_number false self.old.store ≡ false }
+        requires supers { HasSupersIn (supers_in self.old.store.persistent) (value_of (thing_of object)) }
         ensures number { IfOk result (λ number. number ≡ self.old.store.next) }
         ensures fresh { IfOk result (λ number. value_at self.old.store number ≡ None) }
         ensures ok { OnOk result (self.new ≡ record self.old {
@@ -278,6 +287,7 @@ impl Store {
         requires units { units ≡ units_of (value_of (thing_of object)) }
         requires room { is_full_with 1 units self.old.store ≡ false }
         requires number { no_number true self.old.store ≡ false }
+        requires supers { HasSupersIn (supers_of_live self.old.store) (value_of (thing_of object)) }
         ensures number { IfOk result (λ number. number ≡ self.old.store.next_transient) }
         ensures fresh { IfOk result (λ number. value_at self.old.store number ≡ None) }
         ensures ok { OnOk result (self.new ≡ record self.old {

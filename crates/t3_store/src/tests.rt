@@ -1,6 +1,8 @@
 //! The store as a whole, on small worked cases.
 ghost use Rattle.std.specs.Prelude.{◌≡◌, ◌<◌, ◌≤◌, ◌^◌, IfOk, OnOk};
+ghost use Rattle.std.specs.Prelude.{Some, []};
 ghost use Rattle.t3_store.specs.Store.{started};
+ghost use Rattle.t3_store.specs.Value.{new_value, supers_of};
 
 use super::*;
 use std::alloc::Global;
@@ -10,7 +12,9 @@ use t3_tadsobj::Props;
 use t3_undo::{Cell, Numbers};
 
 /// What a tads-object without anything is made of.
-fn plain(alloc: Global) -> NewObject {
+fn plain(alloc: Global) -> NewObject
+    ensures { supers_of (new_value result) ≡ Some [] }
+{
     NewObject::Tads {
         supers: Numbers(Vec::new(alloc)),
         class: false,
@@ -44,6 +48,11 @@ fn empty_store(
         Persistent::new(alloc),
         1,
     )
+}
+
+/// Makes an object without anything.
+fn create(store: &mut Store, alloc: Global, transient: bool) -> Result<u32, StoreRefusal> {
+    store.create(plain(alloc), transient)
 }
 
 /// Sets a property to a number, or takes it away. `false` where the store is full.
@@ -94,12 +103,12 @@ fn what_was_made_since_goes_and_transient_objects_stay(rt: HostRuntime) -> Resul
     let alloc = rt.alloc();
     let mut store = empty_store(alloc, 9, 9, 8, 2)?;
     savepoint(&mut store)?;
-    assert_eq!(rt; store.create(plain(alloc), false)?, 1);
-    assert_eq!(rt; store.create(plain(alloc), true)?, 2_147_483_648);
+    assert_eq!(rt; create(&mut store, alloc, false)?, 1);
+    assert_eq!(rt; create(&mut store, alloc, true)?, 2_147_483_648);
     assert!(rt; store.undo());
     assert!(rt; !store.live(1));
     assert!(rt; store.is_transient(2_147_483_648));
-    assert_eq!(rt; store.create(plain(alloc), false)?, 2);
+    assert_eq!(rt; create(&mut store, alloc, false)?, 2);
     Ok(())
 }
 
@@ -107,7 +116,7 @@ fn what_was_made_since_goes_and_transient_objects_stay(rt: HostRuntime) -> Resul
 fn one_savepoint_may_outgrow_the_journal(rt: HostRuntime) -> Result<(), Fail> {
     let alloc = rt.alloc();
     let mut store = empty_store(alloc, 9, 9, 1, 128)?;
-    let object = store.create(plain(alloc), false)?;
+    let object = create(&mut store, alloc, false)?;
     savepoint(&mut store)?;
     assert!(rt; set(&mut store, object, 1, Some(1))?);
     overwrite(&mut store, object, 1, 2)?;
@@ -122,7 +131,7 @@ fn one_savepoint_may_outgrow_the_journal(rt: HostRuntime) -> Result<(), Fail> {
 fn a_further_savepoint_drops_the_oldest(rt: HostRuntime) -> Result<(), Fail> {
     let alloc = rt.alloc();
     let mut store = empty_store(alloc, 9, 9, 3, 1)?;
-    let object = store.create(plain(alloc), false)?;
+    let object = create(&mut store, alloc, false)?;
     savepoint(&mut store)?;
     assert!(rt; set(&mut store, object, 5, Some(1))?);
     savepoint(&mut store)?;
@@ -137,8 +146,8 @@ fn a_further_savepoint_drops_the_oldest(rt: HostRuntime) -> Result<(), Fail> {
 fn limits_are_reached_and_not_passed(rt: HostRuntime) -> Result<(), Fail> {
     let alloc = rt.alloc();
     let mut store = empty_store(alloc, 1, 1, 8, 2)?;
-    let object = store.create(plain(alloc), false)?;
-    assert!(rt; store.create(plain(alloc), true) == Err(StoreRefusal::Full));
+    let object = create(&mut store, alloc, false)?;
+    assert!(rt; create(&mut store, alloc, true) == Err(StoreRefusal::Full));
     assert!(rt; set(&mut store, object, 1, Some(1))?);
     assert!(rt; !set(&mut store, object, 2, Some(2))?);
     assert!(rt; set(&mut store, object, 1, None)?);

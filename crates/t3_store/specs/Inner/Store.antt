@@ -1,5 +1,5 @@
 -- How a store's objects and journal are the value that contracts see, and what stays true of them.
-use Rattle.std.specs.Prelude.{◌≡◌, ◌<◌, ◌≤◌, ◌^◌, ℕ, ◌+◌, List, [], ◌∷◌, ◌++◌, Option, None, map, length, reverse, IsTrue}
+use Rattle.std.specs.Prelude.{◌≡◌, ◌<◌, ◌≤◌, ◌^◌, ℕ, ◌+◌, List, [], ◌∷◌, ◌++◌, Option, None, map, length, reverse, is_some, true, IsTrue}
 use Rattle.std.specs.List.{AllByRecursion}
 use Rattle.std.specs.Ordering.{nat_cmp}
 use Rattle.std.specs.FinMap.{FinMap, get, len}
@@ -11,6 +11,7 @@ use Rattle.t3_store.specs.Value.{Value, units_in}
 use Rattle.t3_store.specs.Value.{Objects as Values}
 use Rattle.t3_store.specs.Store.{Mark, StoreValue, AreLimits}
 use Rattle.t3_store.specs.Inner.Shapes.{Shape, Stored, values, has_place}
+use Rattle.t3_store.specs.Inner.Whole.{supers_from, supers_of_both, AreWhole}
 use Rattle.t3_store.specs.declared.limits.StoreLimits.{StoreLimits}
 
 -- which cell of which object a record is of
@@ -83,7 +84,7 @@ pub record IsWritten (old new : Stored) (number : ℕ) (cell : Cell) (change : V
   pub formed : IsTrue (is_form cell was)
 
 -- objects have numbers that were given: persistent ones below the next number, transient ones below it too, or from
--- 2^31 on and below the next transient number
+-- 2^31 on and below the next transient number; and none is given twice
 pub record AreNumbered (persistent transient : Objects Shape) (next next_transient : ℕ) : Type 0 where
   pub persistent_below : (q : ℕ) → next ≤ q → get persistent q ≡ None
   pub transient_low : (q : ℕ) → next ≤ q → q < 2 ^ 31 → get transient q ≡ None
@@ -91,6 +92,7 @@ pub record AreNumbered (persistent transient : Objects Shape) (next next_transie
   pub next_fits : next ≤ 2 ^ 31
   pub transient_from : 2 ^ 31 ≤ next_transient
   pub transient_fits : next_transient ≤ 2 ^ 32
+  pub distinct : (q : ℕ) → is_some (get persistent q) ≡ true → get transient q ≡ None
 
 -- the first list is a front of the second
 pub record IsFront (front whole : List ℕ) : Type 0 where
@@ -122,6 +124,8 @@ pub record IsStore (persistent transient : Stored) (next next_transient : ℕ) (
   pub sound : IsSound persistent.places next journal.segments
   pub counted : AreCounted persistent.objects transient.objects limits (marks_of persistent.objects journal.segments) units room
   pub few_writes : writes ≤ 2 ^ 63
+  pub whole : AreWhole (supers_from persistent.objects) (supers_of_both persistent.objects transient.objects) next next_transient
+      journal.segments
 
 -- numbers are below 2^31, and the sums are no greater than they may be
 pub record IsPersistent (objects : Values) : Type 0 where

@@ -1,10 +1,9 @@
-use Rattle.std.proofs.Common.{◌≡◌, ◌∙◌, ap, sym, subst, ◌<◌, ◌≤◌, Option, Some, None, List, length, take, drop, ◌++◌, ◌∷◌}
+use Rattle.std.proofs.Common.{◌∙◌, ap, sym, subst, ◌<◌, ◌≤◌, List, length}
 use Rattle.std.specs.List.{AllWithin}
 use Rattle.t3_store.specs.Inner.Shapes.{thing_of, places_of}
-use Rattle.t3_store.specs.Inner.Entries.{IsRising, object_at, things_of, places_in}
-use Rattle.t3_store.specs.declared.object.Object.{Object}
+use Rattle.t3_store.specs.Inner.Entries.{IsRising, things_of, places_in}
 use Rattle.t3_store.specs.declared.entries.Entry.{Entry}
-use Rattle.t3_store.proofs.Rows.{get-by_number, by_number-add, rising-add, none-of}
+use Rattle.t3_store.proofs.Rows.{by_number-add, rising-add, none-of}
 use Rattle.t3_store.proofs.entries.add.Goals as goal
 
 pub returns-clause-rising : goal.returns-clause-rising

@@ -1,4 +1,4 @@
-use Rattle.std.proofs.Common.{◌≡◌, Bool, true, false, ltb, ltb-true, ltb-false, rules, arith}
+use Rattle.std.proofs.Common.{◌≡◌, true, false, ltb, ltb-true, ltb-false, rules}
 use Rattle.std.proofs.lemmas.List.Sorted.{IsPartitionPoint-from_clause, IsPartitionedBy-ltb}
 use Rattle.std.specs.List.Sorted.{IsPartitionPoint}
 use Rattle.t3_store.specs.declared.entries.Entry.{Entry}

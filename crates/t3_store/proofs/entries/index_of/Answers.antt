@@ -1,4 +1,4 @@
-use Rattle.std.proofs.Common.{◌∙◌, ap, sym}
+use Rattle.std.proofs.Common.{◌∙◌, sym}
 use Rattle.t3_store.proofs.Rows.{index_of-at, index_of-none, numbered-less}
 use Rattle.t3_store.proofs.entries.index_of.Goals as goal
 

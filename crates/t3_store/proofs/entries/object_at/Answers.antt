@@ -1,4 +1,4 @@
-use Rattle.std.proofs.Common.{◌∙◌, ap, sym}
+use Rattle.std.proofs.Common.{◌∙◌, sym}
 use Rattle.t3_store.proofs.Rows.{stands-at, stands-nowhere}
 use Rattle.t3_store.proofs.entries.object_at.Goals as goal
 

@@ -1,8 +1,7 @@
-use Rattle.std.proofs.Common.{◌≡◌, ◌∙◌, ap, sym, subst, Some, None, IsTrue, true≢false}
+use Rattle.std.proofs.Common.{◌∙◌, ap, sym, None, IsTrue, true≢false}
 use Rattle.t3_undo.specs.Content.{shown}
 use Rattle.t3_undo.specs.Objects.{part_of, with_part}
 use Rattle.t3_store.specs.Inner.Shapes.{thing_of, places_of, has_place_in}
-use Rattle.t3_store.specs.Inner.Entries.{index_of, things_of, places_in}
 use Rattle.t3_store.proofs.Rows.{entry-at, no-entry, get-at, get-nowhere, rising-at, by_number-changed, by_number-kept}
 use Rattle.t3_store.proofs.entries.put.Goals as goal
 use Rattle.t3_store.proofs.entries.put.Goals.{In-None}

@@ -1,8 +1,5 @@
-use Rattle.std.proofs.Common.{◌≡◌, length}
-use Rattle.t3_undo.specs.Objects.{put_back}
-use Rattle.t3_undo.specs.Journal.{Held}
-use Rattle.t3_store.specs.Inner.Store.{CanAllBePut, newest_records, emptied}
-use Rattle.t3_store.specs.Inner.Entries.{IsRising, things_of, places_in}
+use Rattle.std.proofs.Common.{length}
+use Rattle.t3_store.specs.Inner.Store.{newest_records}
 use Rattle.t3_store.proofs.PuttingBack.{IsPutting}
 use Rattle.t3_store.proofs.entries.put_back.Given as goal
 

@@ -1,6 +1,3 @@
-use Rattle.std.proofs.Common.{◌∙◌, ap, sym, map, drop, length, arith}
-use Rattle.std.specs.FinMap.{empty, from_entries}
-use Rattle.t3_tadsobj.specs.Object.{Tads, props_of}
 use Rattle.t3_store.proofs.MapValues.{made-more, made-none}
 use Rattle.t3_store.proofs.new_object.make_tads.Goals as goal
 

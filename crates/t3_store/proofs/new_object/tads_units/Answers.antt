@@ -1,4 +1,4 @@
-use Rattle.std.proofs.Common.{◌≡◌, ◌+◌, ◌∙◌, ap, sym, length, map}
+use Rattle.std.proofs.Common.{◌+◌, ◌∙◌, ap, sym, length}
 use Rattle.t3_store.proofs.MapValues.{len-from_entries}
 use Rattle.t3_store.proofs.new_object.tads_units.Goals as goal
 

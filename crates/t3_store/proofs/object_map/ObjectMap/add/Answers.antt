@@ -1,7 +1,7 @@
-use Rattle.std.proofs.Common.{◌≡◌, ◌∙◌, ap, sym, None, arith}
+use Rattle.std.proofs.Common.{◌≡◌, ◌∙◌, ap, None, arith}
 use Rattle.std.specs.FinMap.{get}
 use Rattle.std.specs.Option.{option_map}
-use Rattle.t3_store.specs.Value.{units_in, units_of}
+use Rattle.t3_store.specs.Value.{units_in}
 use Rattle.t3_store.specs.Inner.Shapes.{thing_of, value_of, values}
 use Rattle.t3_store.specs.Inner.Entries.{things_of}
 use Rattle.t3_store.proofs.MapValues.{get-values, values-insert, units_in-new}

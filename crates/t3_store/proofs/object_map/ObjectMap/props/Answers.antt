@@ -1,4 +1,4 @@
-use Rattle.std.proofs.Common.{◌∙◌, ap, sym, subst, refl, List, map, nat_eq}
+use Rattle.std.proofs.Common.{◌∙◌, ap, sym, subst, List, map, nat_eq}
 use Rattle.std.specs.List.{IsDistinct}
 use Rattle.std.specs.FinMap.{entries}
 use Rattle.t3_tadsobj.specs.declared.props.PropValue.{PropValue}

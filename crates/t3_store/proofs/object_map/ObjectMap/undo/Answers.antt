@@ -1,4 +1,4 @@
-use Rattle.std.proofs.Common.{◌≡◌, ◌∙◌, ap, sym, arith}
+use Rattle.std.proofs.Common.{ap, arith}
 use Rattle.std.specs.FinMap.{len}
 use Rattle.t3_store.specs.Inner.Shapes.{Stored, values}
 use Rattle.t3_store.proofs.MapValues.{len-values}

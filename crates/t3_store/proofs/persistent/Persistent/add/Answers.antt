@@ -1,7 +1,7 @@
-use Rattle.std.proofs.Common.{◌≡◌, ◌∙◌, ap, sym, false}
+use Rattle.std.proofs.Common.{◌∙◌, ap, sym}
 use Rattle.std.specs.FinMap.{insert}
 use Rattle.t3_store.specs.Value.{is_past, units_of}
-use Rattle.t3_store.specs.Inner.Shapes.{Stored, values, thing_of, places_of, value_of}
+use Rattle.t3_store.specs.Inner.Shapes.{Stored, values, thing_of, places_of}
 use Rattle.t3_store.proofs.MapValues.{values-insert}
 use Rattle.t3_store.proofs.Turns.{unvalued, added-kept}
 use Rattle.t3_store.proofs.persistent.Persistent.add.Goals as goal

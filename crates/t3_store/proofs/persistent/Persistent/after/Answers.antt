@@ -1,4 +1,4 @@
-use Rattle.std.proofs.Common.{◌∙◌, ap, sym, arith}
+use Rattle.std.proofs.Common.{◌∙◌, sym, arith}
 use Rattle.std.specs.FinMap.{get}
 use Rattle.t3_store.proofs.persistent.Persistent.after.Goals as goal
 

@@ -1,7 +1,4 @@
-use Rattle.std.proofs.Common.{◌∙◌, ap, sym, subst, ℕ, arith}
-use Rattle.std.specs.Ordering.{nat_cmp}
-use Rattle.std.specs.FinMap.{get, get-empty, len, len-empty}
-use Rattle.t3_store.specs.Value.{Value, Objects, units_in}
+use Rattle.std.proofs.Common.{◌∙◌, ap, sym, subst}
 use Rattle.t3_store.specs.Inner.Shapes.{Stored, values}
 use Rattle.t3_store.specs.Inner.Store.{IsPersistent}
 use Rattle.t3_store.proofs.MapValues.{none-persistent, values-empty}

@@ -4,7 +4,7 @@ use Rattle.t3_undo.specs.Journal.{Held}
 use Rattle.t3_store.specs.Value.{with_cell}
 use Rattle.t3_store.specs.Store.{set_cell}
 use Rattle.t3_store.specs.Inner.Store.{store_of, IsStore}
-use Rattle.t3_store.proofs.Changes.{held-persistent, held-transient, persistent-changed, persistent-kept, transient-changed, transient-kept, units-overwritten}
+use Rattle.t3_store.proofs.Changes.{held-persistent, held-transient, persistent-changed, persistent-kept, transient-kept, units-overwritten}
 use Rattle.t3_store.proofs.store.Store.overwrite.Goals as goal
 
 pub overwrite-old-requires : goal.overwrite-old-requires

@@ -1,6 +1,6 @@
-use Rattle.std.proofs.Common.{◌≡◌, ◌+◌, ◌-◌, ◌∙◌, ap, sym, subst, take, vec_capacity, [], ◌∷◌}
+use Rattle.std.proofs.Common.{◌+◌, ◌-◌, ◌∙◌, ap, sym, subst, take, vec_capacity, [], ◌∷◌}
 use Rattle.t3_undo.specs.Journal.{Held}
-use Rattle.t3_store.specs.Store.{StoreValue, saved}
+use Rattle.t3_store.specs.Store.{saved}
 use Rattle.t3_store.specs.Inner.Shapes.{values}
 use Rattle.t3_store.specs.Inner.Store.{store_of, marks_of, IsStore}
 use Rattle.t3_store.proofs.Marks.{marks-saved, marks-take}

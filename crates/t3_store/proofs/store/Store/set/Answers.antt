@@ -1,11 +1,11 @@
-use Rattle.std.proofs.Common.{◌≡◌, ◌+◌, ◌∙◌, ap, sym, subst, is_some, Some, vec_capacity, arith}
+use Rattle.std.proofs.Common.{◌+◌, ◌∙◌, ap, sym, subst, Some, vec_capacity, arith}
 use Rattle.t3_undo.specs.Content.{shown}
 use Rattle.t3_undo.specs.Journal.{Held}
-use Rattle.t3_store.specs.Value.{with_cell, without_cell, holder_at, can_have_at}
-use Rattle.t3_store.specs.Store.{StoreValue, set_cell, value_at, noted, with_value}
+use Rattle.t3_store.specs.Value.{with_cell}
+use Rattle.t3_store.specs.Store.{set_cell}
 use Rattle.t3_store.specs.Inner.Store.{store_of, IsStore}
 use Rattle.t3_store.specs.declared.limits.StoreRefusal.TheVariants as refusals
-use Rattle.t3_store.proofs.Changes.{held-persistent, held-transient, can-persistent, can-transient, persistent-changed, persistent-kept, transient-kept, ok-not, units-set, written-ok, room-for}
+use Rattle.t3_store.proofs.Changes.{held-persistent, can-persistent, can-transient, persistent-changed, persistent-kept, transient-kept, ok-not, units-set, written-ok, room-for}
 use Rattle.t3_store.proofs.store.Store.set.Goals as goal
 
 pub invariant_of-self-then-has : goal.invariant_of-self-then-has

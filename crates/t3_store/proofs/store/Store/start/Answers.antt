@@ -1,7 +1,4 @@
-use Rattle.std.proofs.Common.{◌≡◌, ◌+◌, ◌∙◌, ap, sym, subst, refl, vec_capacity, arith}
-use Rattle.t3_undo.specs.Journal.{Held}
-use Rattle.t3_store.specs.Inner.Shapes.{values}
-use Rattle.t3_store.specs.Inner.Store.{store_of, marks_of, IsStore}
+use Rattle.std.proofs.Common.{vec_capacity, arith}
 use Rattle.t3_store.proofs.Turns.{started-kept, started-view}
 use Rattle.t3_store.proofs.store.Store.start.Goals as goal
 
@@ -13,6 +10,7 @@ invariant_of-result c =
     c.in_ok-journal.journal c.in_ok-units.units.items (vec_capacity c.in_ok-units.units) _ c.into_map-persistent.ensures
     c.into_map-transient.ensures c.requires.limits c.requires.next.1 c.requires.first c.requires.passing c.requires.objects c.requires.units
     c.in_ok-journal.ensures c.in_ok-units.ensures.items c.in_ok-units.ensures.capacity (omega (arith, c.from.ensures, c.from-2.ensures))
+    c.requires.apart c.requires.whole c.requires.both
 
 pub returns-clause-store : goal.returns-clause-store
 returns-clause-store c =

@@ -1,8 +1,8 @@
-use Rattle.std.proofs.Common.{◌≡◌, ◌+◌, ◌∙◌, ap, sym, subst, is_some, not, Some, vec_capacity, arith}
+use Rattle.std.proofs.Common.{◌+◌, ◌∙◌, ap, sym, subst, is_some, not, vec_capacity, arith}
 use Rattle.t3_undo.specs.Content.{shown}
 use Rattle.t3_undo.specs.Journal.{Held}
-use Rattle.t3_store.specs.Value.{with_cell, without_cell, holder_at, can_have_at}
-use Rattle.t3_store.specs.Store.{StoreValue, set_cell, value_at, noted, with_value}
+use Rattle.t3_store.specs.Value.{without_cell}
+use Rattle.t3_store.specs.Store.{StoreValue, noted, with_value}
 use Rattle.t3_store.specs.Inner.Store.{store_of, IsStore}
 use Rattle.t3_store.proofs.Changes.{held-persistent, held-transient, persistent-changed, persistent-kept, transient-kept, units-taken, taken-some}
 use Rattle.t3_store.proofs.store.Store.take.Goals as goal

@@ -1,9 +1,8 @@
-use Rattle.std.proofs.Common.{◌≡◌, ◌∙◌, ap, sym, subst, refl, vec_capacity}
+use Rattle.std.proofs.Common.{◌∙◌, ap, sym, subst, vec_capacity}
 use Rattle.t3_undo.specs.Journal.{Held}
-use Rattle.t3_undo.specs.UndoLaw as law
-use Rattle.t3_store.specs.Store.{StoreValue, undone, is_held}
-use Rattle.t3_store.specs.Inner.Shapes.{Stored, values}
-use Rattle.t3_store.specs.Inner.Store.{store_of, marks_of, IsStore}
+use Rattle.t3_store.specs.Store.{undone, is_held}
+use Rattle.t3_store.specs.Inner.Shapes.{values}
+use Rattle.t3_store.specs.Inner.Store.{store_of, IsStore}
 use Rattle.t3_store.proofs.Marks.{values-undone, marks-undone, held-marks, marks-unheld, unheld}
 use Rattle.t3_store.proofs.Turns.{has-units, popped-units, undone-kept}
 use Rattle.t3_store.proofs.store.Store.undo.Goals as goal
