@@ -2,7 +2,7 @@
 mod rows;
 
 use super::*;
-use rows::ROWS;
+use rows::{CONSTANTS_AND_NUMBERS, KNOWN, MAKING_AND_SETTING, TESTS_AND_CALLS, VALUES_AND_JUMPS};
 use std::alloc::{AllocError, Global};
 use std::test::Fail;
 use t3_image_read::ImageReader;
@@ -41,28 +41,78 @@ fn image(alloc: Global, size: u32, pages: &[&[u8]]) -> Result<Vec<u8>, AllocErro
     Ok(bytes)
 }
 
-/// Each opcode of the table whole, and without its last byte; and each byte that is none.
-#[test]
-fn decodes_each_opcode(rt: HostRuntime) -> Result<(), Fail> {
-    let alloc = rt.alloc();
-    let mut known = Vec::new(alloc);
-    for (code, want) in ROWS {
-        let size = code.len();
-        let whole = format!(in alloc; "Ok(({want}, {size}))")?;
-        let found = format!(in alloc; "{:?}", instr_at(&pools(alloc, code)?, 0))?;
-        assert_eq!(rt; found.as_str(), whole.as_str());
-        if let [opcode, operands @ ..] = code {
-            known.push(*opcode)?;
-            if !operands.is_empty() {
-                let short = code.split_last().map_or(*code, |parts| parts.1);
-                let found = instr_at(&pools(alloc, short)?, 0);
-                assert_eq!(rt; found, Err(CodeRefusal::Operand), "{want}");
-            }
-        }
+/// The instruction that code begins with, and its size, as they are printed.
+fn printed(alloc: Global, code: &[u8]) -> Result<String, Fail> {
+    let pools = pools(alloc, code)?;
+    let found = instr_at(&pools, 0);
+    Ok(format!(in alloc; "{found:?}")?)
+}
+
+fn wanted(alloc: Global, instr: &str, size: usize) -> Result<String, Fail> {
+    Ok(format!(in alloc; "Ok(({instr}, {size}))")?)
+}
+
+/// Whether a row's bytes are its instruction.
+fn is_decoded(alloc: Global, code: &[u8], instr: &str) -> Result<bool, Fail> {
+    let want = wanted(alloc, instr, code.len())?;
+    let found = printed(alloc, code)?;
+    Ok(found.as_str() == want.as_str())
+}
+
+/// Whether a row's bytes without the last are none, where it has operands.
+fn is_refused_when_cut(alloc: Global, code: &[u8]) -> Result<bool, Fail> {
+    if code.len() < 2 {
+        return Ok(true);
     }
-    assert_eq!(rt; known.len(), 112);
+    let pools = pools(alloc, &code[..code.len() - 1])?;
+    Ok(instr_at(&pools, 0) == Err(CodeRefusal::Operand))
+}
+
+#[test]
+fn decodes_constants_and_numbers(rt: HostRuntime) -> Result<(), Fail> {
+    let alloc = rt.alloc();
+    for (code, instr) in CONSTANTS_AND_NUMBERS {
+        assert!(rt; is_decoded(alloc, code, instr)?, "{instr}");
+        assert!(rt; is_refused_when_cut(alloc, code)?, "{instr}");
+    }
+    Ok(())
+}
+
+#[test]
+fn decodes_tests_and_calls(rt: HostRuntime) -> Result<(), Fail> {
+    let alloc = rt.alloc();
+    for (code, instr) in TESTS_AND_CALLS {
+        assert!(rt; is_decoded(alloc, code, instr)?, "{instr}");
+        assert!(rt; is_refused_when_cut(alloc, code)?, "{instr}");
+    }
+    Ok(())
+}
+
+#[test]
+fn decodes_values_and_jumps(rt: HostRuntime) -> Result<(), Fail> {
+    let alloc = rt.alloc();
+    for (code, instr) in VALUES_AND_JUMPS {
+        assert!(rt; is_decoded(alloc, code, instr)?, "{instr}");
+        assert!(rt; is_refused_when_cut(alloc, code)?, "{instr}");
+    }
+    Ok(())
+}
+
+#[test]
+fn decodes_making_and_setting(rt: HostRuntime) -> Result<(), Fail> {
+    let alloc = rt.alloc();
+    for (code, instr) in MAKING_AND_SETTING {
+        assert!(rt; is_decoded(alloc, code, instr)?, "{instr}");
+        assert!(rt; is_refused_when_cut(alloc, code)?, "{instr}");
+    }
+    Ok(())
+}
+
+#[test]
+fn refuses_other_bytes(rt: HostRuntime) -> Result<(), Fail> {
+    let alloc = rt.alloc();
     for opcode in 0..=u8::MAX {
-        if !known.contains(&opcode) {
+        if !KNOWN.contains(&opcode) {
             let found = instr_at(&pools(alloc, &[opcode, 1, 1, 1, 1, 1, 1, 1])?, 0);
             assert_eq!(rt; found, Err(CodeRefusal::Opcode(opcode)));
         }
@@ -70,33 +120,14 @@ fn decodes_each_opcode(rt: HostRuntime) -> Result<(), Fail> {
     Ok(())
 }
 
-/// Each opcode of the table, with its bytes cut into pages of each size.
-#[test]
-fn decodes_over_borders(rt: HostRuntime) -> Result<(), Fail> {
-    let alloc = rt.alloc();
-    for (code, want) in ROWS {
-        let whole = format!(in alloc; "Ok(({want}, {}))", code.len())?;
-        for size in 1..code.len() {
-            let mut parts = Vec::new(alloc);
-            for part in code.chunks(size) {
-                parts.push(part)?;
-            }
-            let pages = paged(alloc, size as u32, &parts)?;
-            let found = format!(in alloc; "{:?}", instr_at(&pages, 0))?;
-            assert_eq!(rt; found.as_str(), whole.as_str(), "pages of {size}");
-        }
-    }
-    Ok(())
-}
+/// A page with a method.
+const METHODS: &[u8] = b"\x81\x00\x00\x00\x02\x00\x00\x00\x00\x00\x03\x2A\xB1\x01\x00\x51";
 
-/// A page with a method, at each of its addresses.
+/// What is read at each of its addresses at which a header stands.
 #[test]
 fn reads_a_header_at_each_address(rt: HostRuntime) -> Result<(), Fail> {
     let alloc = rt.alloc();
-    let pools = pools(
-        alloc,
-        b"\x81\x00\x00\x00\x02\x00\x00\x00\x00\x00\x03\x2A\xB1\x01\x00\x51",
-    )?;
+    let pools = pools(alloc, METHODS)?;
     let rows = [
         (
             0,
@@ -128,6 +159,13 @@ fn reads_a_header_at_each_address(rt: HostRuntime) -> Result<(), Fail> {
         let want = format!(in alloc; "Ok(Header {{ {want} }})")?;
         assert_eq!(rt; found.as_str(), want.as_str(), "at {method}");
     }
+    Ok(())
+}
+
+#[test]
+fn refuses_addresses_without_a_header(rt: HostRuntime) -> Result<(), Fail> {
+    let alloc = rt.alloc();
+    let pools = pools(alloc, METHODS)?;
     for method in [3, 7, 8, 16, u32::MAX] {
         assert_eq!(rt;
             header_at(&pools, method),
@@ -138,46 +176,57 @@ fn reads_a_header_at_each_address(rt: HostRuntime) -> Result<(), Fail> {
     Ok(())
 }
 
-/// Two cases, 7 to 1 and nil to -2, and else 3: whole, cut, with a bad holder, and over page borders.
+/// Two cases, 7 to 1 and nil to -2, and else 3.
 const SWITCH: &[u8] =
     b"\x90\x02\x00\x07\x07\x00\x00\x00\x01\x00\x01\x00\x00\x00\x00\xFE\xFF\x03\x00";
 
+/// With pages of 10 bytes and of 17 a border is within a case.
 #[test]
-fn reads_the_cases_of_a_switch(rt: HostRuntime) -> Result<(), Fail> {
+fn reads_a_switch_over_borders(rt: HostRuntime) -> Result<(), Fail> {
     let alloc = rt.alloc();
-    let whole = pools(alloc, SWITCH)?;
-    let found = format!(in alloc; "{:?}", instr_at(&whole, 0))?;
-    assert_eq!(rt;
-        found.as_str(),
-        "Ok((Jump(Switch { count: 2, at: 3 }), 19))"
-    );
-    // With pages of 10 bytes and of 17 a border is within a case.
-    for size in [10, 17] {
+    let whole = instr_at(&pools(alloc, SWITCH)?, 0);
+    for size in [18, 17, 10] {
         let (first, rest) = SWITCH.split_at(size);
         let pages = paged(alloc, size as u32, &[first, rest])?;
-        assert_eq!(rt; instr_at(&pages, 0), instr_at(&whole, 0));
+        assert_eq!(rt; instr_at(&pages, 0), whole);
     }
+    Ok(())
+}
+
+#[test]
+fn refuses_a_cut_switch(rt: HostRuntime) -> Result<(), Fail> {
+    let alloc = rt.alloc();
     for size in 1..SWITCH.len() {
         let found = instr_at(&pools(alloc, &SWITCH[..size])?, 0);
         assert_eq!(rt; found, Err(CodeRefusal::Operand), "{size} bytes");
     }
-    let mut bad = SWITCH.to_vec(alloc)?;
-    if let Some(tag) = bad.get_mut(10) {
-        *tag = 13;
-    }
-    assert_eq!(rt;
-        instr_at(&pools(alloc, &bad)?, 0),
-        Err(CodeRefusal::Operand)
-    );
-    let rows = [
-        (3, 0, "Some((Int(7), 8, 1))"),
-        (3, 1, "Some((Nil, 15, -2))"),
-        (3, 2, "None"),
-        (6, 0, "None"),
-        (u32::MAX, u16::MAX, "None"),
-    ];
-    for (at, nth, want) in rows {
-        let found = format!(in alloc; "{:?}", case_at(&whole, at, nth))?;
+    Ok(())
+}
+
+/// The last case has a holder of a type that there isn't.
+#[test]
+fn refuses_a_bad_case(rt: HostRuntime) -> Result<(), Fail> {
+    let alloc = rt.alloc();
+    let code = b"\x90\x02\x00\x07\x08\x00\x00\x00\x01\x00\x0D\x00\x00\x00\x00\xFE\xFF\x00\x00";
+    let found = instr_at(&pools(alloc, code)?, 0);
+    assert_eq!(rt; found, Err(CodeRefusal::Operand));
+    Ok(())
+}
+
+const CASES: [(u32, u16, &str); 5] = [
+    (3, 0, "Some((Int(7), 8, 1))"),
+    (3, 1, "Some((Nil, 15, -2))"),
+    (3, 2, "None"),
+    (6, 0, "None"),
+    (u32::MAX, u16::MAX, "None"),
+];
+
+#[test]
+fn reads_cases(rt: HostRuntime) -> Result<(), Fail> {
+    let alloc = rt.alloc();
+    let pools = pools(alloc, SWITCH)?;
+    for (at, nth, want) in CASES {
+        let found = format!(in alloc; "{:?}", case_at(&pools, at, nth))?;
         assert_eq!(rt; found.as_str(), want, "case {nth} from {at}");
     }
     Ok(())
@@ -189,69 +238,97 @@ const HANDLERS: &[u8] = b"\xF2\xF2\x00\x00\x00\x00\x00\x00\x0A\x00\x00\x00\x03\x
 \x0A\x00\x14\x00\x05\x00\x00\x00\x64\x00\x0F\x00\x1E\x00\x00\x00\x00\x00\xC8\x00\
 \x28\x00\x28\x00\x06\x00\x00\x00\x2C\x01";
 
+/// A place, a class, and the handler that catches the class there.
+const CAUGHT: [(u32, u32, Option<u16>); 9] = [
+    (12, 5, Some(100)),
+    (22, 5, Some(100)),
+    (11, 5, None),
+    (17, 5, Some(100)),
+    (17, 9, Some(200)),
+    (23, 5, Some(200)),
+    (32, 5, Some(200)),
+    (33, 5, None),
+    (42, 6, Some(300)),
+];
+
 #[test]
 fn finds_the_first_handler(rt: HostRuntime) -> Result<(), Fail> {
     let alloc = rt.alloc();
-    let whole = pools(alloc, HANDLERS)?;
-    let rows: [(u32, &[u32], Option<u16>); 11] = [
-        (12, &[5], Some(100)),
-        (22, &[9, 5], Some(100)),
-        (11, &[5], None),
-        (17, &[5], Some(100)),
-        (17, &[9], Some(200)),
-        (17, &[], Some(200)),
-        (23, &[5], Some(200)),
-        (32, &[5], Some(200)),
-        (33, &[5], None),
-        (42, &[6], Some(300)),
-        (0, &[5, 6], None),
-    ];
-    for (place, matches, want) in rows {
+    let pools = pools(alloc, HANDLERS)?;
+    for (place, class, want) in CAUGHT {
         assert_eq!(rt;
-            handler_in(&whole, 2, place, matches),
+            handler_in(&pools, 2, place, &[class]),
             Ok(want),
             "at {place}"
         );
     }
+    Ok(())
+}
+
+/// What is thrown is of several classes, or of none.
+#[test]
+fn finds_a_handler_by_any_class(rt: HostRuntime) -> Result<(), Fail> {
+    let alloc = rt.alloc();
+    let pools = pools(alloc, HANDLERS)?;
+    assert_eq!(rt; handler_in(&pools, 2, 22, &[9, 5]), Ok(Some(100)));
+    assert_eq!(rt; handler_in(&pools, 2, 17, &[]), Ok(Some(200)));
+    assert_eq!(rt; handler_in(&pools, 2, 0, &[5, 6]), Ok(None));
+    Ok(())
+}
+
+#[test]
+fn refuses_a_cut_table(rt: HostRuntime) -> Result<(), Fail> {
+    let alloc = rt.alloc();
     for size in 12..HANDLERS.len() {
         let found = handler_in(&pools(alloc, &HANDLERS[..size])?, 2, 17, &[5]);
         assert_eq!(rt; found, Err(CodeRefusal::Table), "{size} bytes");
     }
-    // The header at 1 names a table behind the code, and the byte behind 0 isn't 0.
+    Ok(())
+}
+
+/// The header at 1 names a table behind the code, and the byte behind 0 isn't 0. A method of zeros has no
+/// table.
+#[test]
+fn tells_headers_and_tables_apart(rt: HostRuntime) -> Result<(), Fail> {
+    let alloc = rt.alloc();
+    let whole = pools(alloc, HANDLERS)?;
     assert_eq!(rt; handler_in(&whole, 1, 17, &[5]), Err(CodeRefusal::Table));
     assert_eq!(rt; handler_in(&whole, 0, 17, &[5]), Err(CodeRefusal::Header));
     assert_eq!(rt; handler_in(&whole, 40, 17, &[5]), Err(CodeRefusal::Header));
-    // A method without a table.
     let plain = pools(alloc, &[0; 10])?;
     assert_eq!(rt; handler_in(&plain, 0, 10, &[5]), Ok(None));
     Ok(())
 }
 
+const SHAPES: [(u8, &str, &[Kind]); 5] = [
+    (0x01, "push_0", &[]),
+    (
+        0x67,
+        "objcallprop",
+        &[Kind::Ubyte, Kind::Object, Kind::Property],
+    ),
+    (0x90, "switch", &[Kind::Cases]),
+    (0xB1, "builtin_a", &[Kind::Ubyte, Kind::Ubyte]),
+    (0xD3, "addilcl4", &[Kind::Uint2, Kind::Int4]),
+];
+
 #[test]
-fn tells_shapes_and_opcodes(rt: HostRuntime) -> Result<(), Fail> {
-    let rows: [(u8, &str, &[Kind]); 5] = [
-        (0x01, "push_0", &[]),
-        (
-            0x67,
-            "objcallprop",
-            &[Kind::Ubyte, Kind::Object, Kind::Property],
-        ),
-        (0x90, "switch", &[Kind::Cases]),
-        (0xB1, "builtin_a", &[Kind::Ubyte, Kind::Ubyte]),
-        (0xD3, "addilcl4", &[Kind::Uint2, Kind::Int4]),
-    ];
-    for (opcode, name, kinds) in rows {
+fn tells_the_opcode_of_a_name(rt: HostRuntime) -> Result<(), Fail> {
+    for (opcode, name, _) in SHAPES {
         assert_eq!(rt; opcode_named(name), Some(opcode));
-        match shape_of(opcode) {
-            Some(shape) => {
-                assert_eq!(rt; shape.name, name);
-                assert_eq!(rt; shape.kinds, kinds);
-            }
-            None => assert!(rt; false, "{name}"),
-        }
     }
     assert_eq!(rt; opcode_named("Push_0"), None);
     assert_eq!(rt; opcode_named(""), None);
+    Ok(())
+}
+
+#[test]
+fn tells_the_shape_of_an_opcode(rt: HostRuntime) -> Result<(), Fail> {
+    for (opcode, name, kinds) in SHAPES {
+        let shape = shape_of(opcode);
+        assert_eq!(rt; shape.map(|shape| shape.name), Some(name));
+        assert_eq!(rt; shape.map(|shape| shape.kinds), Some(kinds));
+    }
     assert!(rt; shape_of(0).is_none());
     Ok(())
 }

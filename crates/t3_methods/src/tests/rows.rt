@@ -1,7 +1,10 @@
-//! What the instruction table says, row by row, by hand.
+//! Every opcode with operands, and the instruction that they are, by hand from the table.
 
-/// Each opcode with operands, and the instruction that it is.
-pub(crate) const ROWS: &[(&[u8], &str)] = &[
+/// An instruction's bytes, and how it is printed.
+pub type Row = (&'static [u8], &'static str);
+
+/// The opcodes from 01 to 30.
+pub const CONSTANTS_AND_NUMBERS: [Row; 29] = [
     (b"\x01", "Push(Push0)"),
     (b"\x02", "Push(Push1)"),
     (b"\x03\xFE", "Push(Pushint8(-2))"),
@@ -31,6 +34,10 @@ pub(crate) const ROWS: &[(&[u8], &str)] = &[
     (b"\x2E", "Math(Inc)"),
     (b"\x2F", "Math(Dec)"),
     (b"\x30", "Math(Lshr)"),
+];
+
+/// The opcodes from 40 to 77.
+pub const TESTS_AND_CALLS: [Row; 23] = [
     (b"\x40", "Math(Eq)"),
     (b"\x41", "Math(Ne)"),
     (b"\x42", "Math(Lt)"),
@@ -60,6 +67,10 @@ pub(crate) const ROWS: &[(&[u8], &str)] = &[
         "Call(Expinherit(1, 2, 7))",
     ),
     (b"\x77\x01\x02\x00", "Call(Delegate(1, 2))"),
+];
+
+/// The opcodes from 80 to B9.
+pub const VALUES_AND_JUMPS: [Row; 33] = [
     (b"\x80\xFF", "Stack(Getlcl1(255))"),
     (b"\x81\x00\x01", "Stack(Getlcl2(256))"),
     (b"\x82\x00", "Stack(Getarg1(0))"),
@@ -93,6 +104,10 @@ pub(crate) const ROWS: &[(&[u8], &str)] = &[
     (b"\xB5\x01\x02\x03", "Make(Builtin1(1, 2, 3))"),
     (b"\xB8", "Make(Throw)"),
     (b"\xB9", "Make(Sayval)"),
+];
+
+/// The opcodes from BA to F2.
+pub const MAKING_AND_SETTING: [Row; 27] = [
     (b"\xBA", "Make(Index)"),
     (b"\xC0\x01\x02", "Make(New1(1, 2))"),
     (b"\xC1\x01\x00\x02\x01", "Make(New2(1, 258))"),
@@ -124,3 +139,13 @@ pub(crate) const ROWS: &[(&[u8], &str)] = &[
     (b"\xE8\x07\x00\x00\x00\x02\x00", "Local(Objsetprop(7, 2))"),
     (b"\xF2", "Local(Nop)"),
 ];
+
+/// Every opcode.
+pub const KNOWN: &[u8; 112] =
+    b"\x01\x02\x03\x04\x05\x06\x07\x08\x09\x0A\x0B\x0F\x20\x21\x22\x23\x24\x25\
+\x26\x27\x28\x29\x2A\x2B\x2C\x2D\x2E\x2F\x30\x40\x41\x42\x43\x44\x45\x50\
+\x51\x52\x54\x58\x59\x60\x61\x62\x63\x64\x65\x66\x67\x72\x74\x77\x80\x81\
+\x82\x83\x84\x87\x88\x89\x8A\x8B\x8D\x90\x91\x92\x93\x94\x95\x96\x97\x98\
+\x99\x9A\x9B\x9C\x9D\xB0\xB1\xB2\xB3\xB4\xB5\xB8\xB9\xBA\xC0\xC1\xC2\xC3\
+\xD0\xD1\xD2\xD3\xD4\xD5\xD6\xD7\xD8\xD9\xDA\xDB\xE0\xE1\xE2\xE3\xE4\xE5\
+\xE6\xE7\xE8\xF2";
