@@ -1,13 +1,13 @@
 -- What followed an outcome of the words answers them.
-use Rattle.std.proofs.Common.{◌≡◌, ◌≢◌, ℕ, List, [], ◌++◌, Option, Some, None, Ok, IfSome, refl, sym, ap, subst, ◌∙◌, ◌⊎◌, inl, inr}
+use Rattle.std.proofs.Common.{◌≡◌, ◌≢◌, ℕ, List, [], Option, Some, None, Ok, IfSome, refl, sym, ap, subst, ◌∙◌, inl, inr}
 use Rattle.t3_io.specs.Files.{Files}
 use Rattle.t3_io.specs.Session.{Session}
 use Rattle.t3_cli.specs.declared.images.read.ReadImage.{ReadImage}
 use Rattle.t3_cli.specs.declared.images.read.ReadImage.TheVariants as read
 use Rattle.t3_cli.specs.declared.status.Status.{Status}
-use Rattle.t3_cli.specs.declared.status.Status.TheVariants.{Done, Usage, Absent, ImageRefused, LoadRefused, DepotFault, ConsoleFault, NoMemory}
-use Rattle.t3_interp.specs.declared.turn.End.{End}
-use Rattle.t3_interp.specs.declared.turn.End.TheVariants as ends
+use Rattle.t3_cli.specs.declared.status.Status.TheVariants.{Done, Usage, Absent, ImageRefused, LoadRefused}
+use Rattle.t3_interp.specs.declared.event.End.{End}
+use Rattle.t3_interp.specs.declared.event.End.TheVariants as ends
 use Rattle.t3_cli.specs.Cause.{Cause}
 use Rattle.t3_cli.specs.Command.{CommandValue, Check, Show, Run, Rewrite}
 use Rattle.t3_cli.specs.Lines.{usage_line}

@@ -1,20 +1,18 @@
 -- Each status has exactly its cause.
-use Rattle.std.proofs.Common.{◌≡◌, ◌≢◌, ℕ, List, Option, Some, None, IfSome, refl, sym, ap, subst, ◌∙◌, ◌⊎◌, inl, inr}
+use Rattle.std.proofs.Common.{◌≡◌, ◌≢◌, ℕ, List, Option, Some, None, refl, sym, ap, subst, ◌∙◌, ◌⊎◌, inl, inr}
 use Rattle.std.specs.FinMap.{get}
 use Rattle.t3_io.specs.Files.{Files}
 use Rattle.t3_io.specs.Session.{Session}
 use Rattle.t3_image_read.specs.ImageText.{ImageValue}
-use Rattle.t3_image_read.specs.declared.image.PlacedBlock.{PlacedBlock}
 use Rattle.t3_cli.specs.declared.status.Status.{Status}
 use Rattle.t3_cli.specs.declared.status.Status.TheVariants.{Done, Usage, Absent, ImageRefused, LoadRefused, Unhandled, BadCode, StepLimit, DepotFault, ConsoleFault, NoMemory}
-use Rattle.t3_interp.specs.declared.turn.End.{End}
-use Rattle.t3_interp.specs.declared.turn.End.TheVariants as ends
+use Rattle.t3_interp.specs.declared.event.End.{End}
+use Rattle.t3_interp.specs.declared.event.End.TheVariants as ends
 use Rattle.t3_cli.specs.Command.{CommandValue, Check, Show, Run, Rewrite, RunOptions}
 use Rattle.t3_cli.specs.Lines.{absent_line, refused_line, unloaded_line}
-use Rattle.t3_interp.specs.Run.{Ran}
-use Rattle.t3_cli.specs.Outcome.{Outcome, showing, IsResult, IsInputOutcome, IsFileOutcome, IsImageOutcome, IsRunOutcome, InputFile, ImageFile, input_of, BeginsWith, RunsImage, read_bytes, shown_of, status_of}
+use Rattle.t3_cli.specs.Outcome.{Outcome, showing, IsResult, IsInputOutcome, IsFileOutcome, IsImageOutcome, IsRunOutcome, InputFile, ImageFile, input_of, BeginsWith, read_bytes, shown_of, status_of}
 use Rattle.t3_cli.specs.Cause.{Cause, WordsCause, CommandCause, IsAbsent, IsRefusedImage, IsUnloadable, EndsBy, RunsFile}
-use Rattle.t3_cli.specs.Top.{CutsShort, HasExactCause, IsInput, IsWhole}
+use Rattle.t3_cli.specs.Top.{CutsShort, HasExactCause}
 use Rattle.t3_cli.specs.Inner.Following.{Answers}
 use Rattle.t3_cli.proofs.Results.{one_outcome}
 

@@ -4,7 +4,7 @@ use Rattle.std.specs.Prelude.{codes}
 use Rattle.std.specs.Option.{option_map, option_and_then}
 use Rattle.std.specs.Str.{bytes_eq}
 use Rattle.t3_holder.specs.FileName.{is_file_name, IsFileName}
-use Rattle.t3_cli.specs.Command.{CommandValue, Check, Show, Run, Rewrite, RunOptions, run_options, mask_of, file_name, only_name, run_of, rewrite_of, command_of}
+use Rattle.t3_cli.specs.Command.{CommandValue, Check, Show, Run, Rewrite, run_options, mask_of, file_name, only_name, run_of, rewrite_of, command_of}
 use Rattle.t3_cli.specs.Outcome.{input_of}
 use Rattle.t3_cli.specs.Command.{HasFileNames}
 use Rattle.t3_cli.specs.Inner.Parsing.{file_of}

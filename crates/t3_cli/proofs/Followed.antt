@@ -1,23 +1,23 @@
 -- How what was shown and put follows an outcome.
-use Rattle.std.proofs.Common.{◌≡◌, ℕ, Bool, List, [], ◌∷◌, ◌++◌, length, Option, Some, None, Result, Ok, Err, IfOk, refl, sym, ap, subst, ◌∙◌, ◌⊎◌, inl, inr, append_assoc}
+use Rattle.std.proofs.Common.{◌≡◌, ℕ, Bool, List, [], ◌∷◌, ◌++◌, length, Option, Some, None, Result, Ok, Err, IfOk, refl, sym, ap, subst, ◌∙◌, inl, inr, append_assoc}
 use Rattle.std.proofs.lemmas.List.{append-nil}
 use Rattle.t3_io.specs.Files.{Files}
 use Rattle.t3_io.specs.Session.{Session}
 use Rattle.t3_io.specs.Putting.{PutsFile}
 use Rattle.t3_io.specs.declared.refusal.DeviceRefusal.{DeviceRefusal}
 use Rattle.t3_image_read.specs.declared.image.PlacedBlock.{PlacedBlock}
-use Rattle.t3_interp.specs.declared.turn.End.{End}
+use Rattle.t3_interp.specs.declared.event.End.{End}
 use Rattle.t3_cli.specs.declared.status.Status.{Status}
 use Rattle.t3_cli.specs.declared.status.Status.TheVariants.{Done, LoadRefused, NoMemory}
-use Rattle.t3_cli.specs.Act.{Act, Shows, Puts, ShowsPrefix}
+use Rattle.t3_cli.specs.Act.{Act, Shows, Puts}
 use Rattle.t3_cli.specs.declared.images.read.ReadImage.{ReadImage}
 use Rattle.t3_cli.specs.Command.{CommandValue, RunOptions}
 use Rattle.t3_cli.specs.Lines.{closing_text, is_nonempty, put_line, unloaded_line}
 use Rattle.t3_interp.specs.Loading.{LoadsAs, IsUnloaded}
-use Rattle.t3_interp.specs.Machine.{ProgramValue, initial}
-use Rattle.t3_cli.specs.Outcome.{Outcome, showing, putting, shown_of, status_of, IsRunOutcome}
-use Rattle.t3_interp.specs.Run.{Ran, Runs}
-use Rattle.t3_cli.specs.Top.{CutsShort, ShowsMore, IsShown, IsShownWhole, IsShownCut}
+use Rattle.t3_interp.specs.Machine.{ProgramValue}
+use Rattle.t3_cli.specs.Outcome.{showing, putting, shown_of, status_of, IsRunOutcome}
+use Rattle.t3_interp.specs.Run.{Ran}
+use Rattle.t3_cli.specs.Top.{CutsShort, ShowsMore, IsShown}
 use Rattle.t3_cli.specs.Inner.Showing.{AnswersLine, ShowsOrWants}
 use Rattle.t3_cli.specs.Inner.Following.{Follows, FollowsSome, IsReadOutcome, LeavesActs, StopsBehind}
 use Rattle.t3_cli.specs.Inner.Playing.{IsProgramOutcome, HasPlayed, HasBegun}

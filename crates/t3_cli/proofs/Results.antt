@@ -1,10 +1,10 @@
 -- The words give exactly one outcome.
-use Rattle.std.proofs.Common.{◌≡◌, ℕ, List, ◌++◌, Option, Some, None, Ok, refl, sym, ap, subst, ◌∙◌, ◌⊎◌, inl, inr}
+use Rattle.std.proofs.Common.{◌≡◌, ℕ, List, Option, Some, None, Ok, refl, sym, ap, subst, ◌∙◌, inl, inr}
 use Rattle.std.specs.FinMap.{get}
 use Rattle.t3_io.specs.Files.{Files}
 use Rattle.t3_holder.specs.NumberText.{AreBytes}
 use Rattle.t3_blocks.proofs.Lists.{AreBytes-take}
-use Rattle.t3_image_read.specs.ImageText.{ImageValue, text}
+use Rattle.t3_image_read.specs.ImageText.{ImageValue}
 use Rattle.t3_image_read.specs.Refusal.{Refused}
 use Rattle.t3_image_read.specs.declared.refusal.ReadWhy.{ReadWhy}
 use Rattle.t3_image_read.specs.declared.image.PlacedBlock.{PlacedBlock}
@@ -19,7 +19,7 @@ use Rattle.t3_cli.specs.Lines.{usage_line, absent_line, refused_line, unloaded_l
 use Rattle.t3_cli.specs.BlockLines.{check_text, show_text}
 use Rattle.t3_interp.specs.Machine.{ProgramValue, initial}
 use Rattle.t3_interp.specs.Run.{Ran, Runs}
-use Rattle.t3_cli.specs.Outcome.{Outcome, showing, putting, IsResult, IsInputOutcome, IsFileOutcome, IsImageOutcome, IsRunOutcome, IsRefusalOutcome, BeginsWith, InputFile, ImageFile, input_of, written_text, HoldBytes, read_bytes, read_limit, shown_of, status_of}
+use Rattle.t3_cli.specs.Outcome.{Outcome, showing, putting, IsResult, IsInputOutcome, IsFileOutcome, IsImageOutcome, IsRunOutcome, BeginsWith, InputFile, ImageFile, input_of, written_text, HoldBytes, read_bytes, read_limit, shown_of, status_of}
 use Rattle.t3_cli.specs.Inner.Parsing.{file_of}
 use Rattle.t3_cli.specs.Inner.Reading.{ReadsBytes, ReadsImage}
 use Rattle.t3_cli.specs.Inner.Following.{IsReadOutcome}

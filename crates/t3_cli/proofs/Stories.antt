@@ -1,39 +1,20 @@
 -- A run that has come so far, and one step more of it.
-use Rattle.std.proofs.Common.{◌≡◌, ℕ, suc, Bool, true, false, not, ◌||◌, nat_eq, List, [], ◌∷◌, ◌++◌, length, Option, Some, None, Result, Ok, Err, refl, sym, ap, subst, ◌∙◌, append_assoc, arith}
+use Rattle.std.proofs.Common.{◌≡◌, ℕ, suc, Bool, true, false, not, ◌||◌, nat_eq, List, [], ◌∷◌, ◌++◌, length, Option, Some, None, Result, Err, refl, sym, ap, subst, ◌∙◌, append_assoc, arith}
 use Rattle.std.proofs.lemmas.List.{append-nil}
 use Rattle.t3_io.specs.Session.{Session}
 use Rattle.t3_io.specs.declared.refusal.DeviceRefusal.{DeviceRefusal}
-use Rattle.t3_interp.specs.declared.turn.Event.{Event}
-use Rattle.t3_interp.specs.declared.turn.Event.TheVariants.{Went, Said, Ended}
-use Rattle.t3_interp.specs.declared.turn.End.{End}
+use Rattle.t3_interp.specs.declared.event.Event.{Event}
+use Rattle.t3_interp.specs.declared.event.Event.TheVariants.{Went, Said, Ended}
+use Rattle.t3_interp.specs.declared.event.End.{End}
 use Rattle.t3_cli.specs.Lines.{is_nonempty}
 use Rattle.t3_interp.specs.Machine.{ProgramValue, State, initial}
-use Rattle.t3_interp.specs.Step.{After, GoesOn, Ends, Steps, Moves, TakesStep}
+use Rattle.t3_interp.specs.Step.{Steps}
 use Rattle.t3_interp.specs.Run.{Ran, Runs, preceded_by}
 use Rattle.t3_cli.specs.Top.{ShowsMore}
 use Rattle.t3_cli.specs.Inner.Showing.{ShowsPrefixOf}
 use Rattle.t3_cli.specs.Inner.Playing.{HasCome, HasPlayed, HasBegun, PlaysOn}
-use Rattle.t3_interp.proofs.Runs.{no_step_left, step_goes, step_ends, some_run, preceded_by-preceded_by}
-use Rattle.t3_cli.proofs.Shown.{shows_after}
-
--- ---- what a step was
-
-went_steps : (program : ProgramValue) (state next : State) (after : After) → Steps program state after → Moves after Went next
-    → Steps program state (GoesOn next [])
-went_steps program state next (GoesOn s said) steps moves =
-    let P : After → Type 0 = Steps program state in subst P (λ i. GoesOn (moves.0 i) (moves.1 i)) steps
-went_steps program state next (Ends end) steps moves = absurd moves
-
-said_steps : (program : ProgramValue) (state next : State) (text : List ℕ) (after : After) → Steps program state after
-    → Moves after (Said text) next → Steps program state (GoesOn next text)
-said_steps program state next text (GoesOn s said) steps moves =
-    let P : After → Type 0 = Steps program state in subst P (λ i. GoesOn (moves.0 i) (moves.1 i)) steps
-said_steps program state next text (Ends end) steps moves = absurd moves
-
-ended_steps : (program : ProgramValue) (state next : State) (end : End) (after : After) → Steps program state after
-    → Moves after (Ended end) next → Steps program state (Ends end)
-ended_steps program state next end (GoesOn s said) steps moves = absurd moves
-ended_steps program state next end (Ends e) steps moves = let P : After → Type 0 = Steps program state in subst P (ap Ends moves) steps
+use Rattle.t3_interp.proofs.Runs.{no_step_left, step_and, some_run, preceded_by-preceded_by}
+use Rattle.t3_cli.proofs.Shown.{shows_after, shows_nothing}
 
 -- ---- what is said
 
@@ -44,7 +25,8 @@ nonempty-append (c ∷ said) text = refl
 -- ---- one step more
 
 goes_on_by : (program : ProgramValue) (steps left next : ℕ) (state then : State) (before mid after : Option Session) (has_said now : Bool) (text : List ℕ)
-    → left ≡ suc next → HasCome program steps left state before mid has_said → Steps program state (GoesOn then text)
+    → left ≡ suc next → HasCome program steps left state before mid has_said
+    → ((rest : Ran) → Runs program next then rest → Runs program (suc next) state (preceded_by text rest))
     → ((said : List ℕ) → ShowsMore before mid said → ShowsMore before after (said ++ text)) → now ≡ (has_said || is_nonempty text)
     → HasCome program steps next then before after now
 goes_on_by program steps left next state then before mid after has_said now text is come step shows has =
@@ -55,7 +37,7 @@ goes_on_by program steps left next state then before mid after has_said now text
       has = has ∙ ap (λ h. h || is_nonempty text) come.has ∙ sym (nonempty-append come.said text);
       onward = λ rest runs.
           let Q : ℕ → Type 0 = λ n. Runs program n state (preceded_by text rest) in
-          subst P (preceded_by-preceded_by come.said text rest) (come.onward (preceded_by text rest) (subst Q (sym is) (step_goes program next state then text rest step runs)));
+          subst P (preceded_by-preceded_by come.said text rest) (come.onward (preceded_by text rest) (subst Q (sym is) (step rest runs)));
     }
 
 nothing_more : (before mid : Option Session) (said : List ℕ) → ShowsMore before mid said → ShowsMore before mid (said ++ [])
@@ -67,34 +49,35 @@ or_nothing false = refl
 
 pub come_went : (program : ProgramValue) (steps left next : ℕ) (state then : State) (before mid : Option Session) (has_said : Bool)
     → left ≡ suc next
-    → HasCome program steps left state before mid has_said → TakesStep program state Went then
+    → HasCome program steps left state before mid has_said → Steps program state (record { state = then; event = Went })
     → HasCome program steps next then before mid has_said
 come_went program steps left next state then before mid has_said is come takes =
     goes_on_by program steps left next state then before mid mid has_said has_said [] is come
-    (went_steps program state then takes.after takes.steps takes.moves) (nothing_more before mid) (or_nothing has_said)
+    (λ rest runs. step_and program next state then Went rest takes runs) (nothing_more before mid) (or_nothing has_said)
 
 pub come_said : (program : ProgramValue) (steps left next : ℕ) (state then : State) (before mid after : Option Session) (has_said now : Bool) (text : List ℕ)
-    → left ≡ suc next → HasCome program steps left state before mid has_said → TakesStep program state (Said text) then
+    → left ≡ suc next → HasCome program steps left state before mid has_said → Steps program state (record { state = then; event = Said text })
     → ShowsMore mid after text
     → now ≡ (has_said || is_nonempty text) → HasCome program steps next then before after now
 come_said program steps left next state then before mid after has_said now text is come takes shows has =
     goes_on_by program steps left next state then before mid after has_said now text is come
-    (said_steps program state then text takes.after takes.steps takes.moves) (λ said shown. shows_after before mid after said text shown shows) has
+    (λ rest runs. step_and program next state then (Said text) (preceded_by text rest) takes (rest, runs, refl))
+    (λ said shown. shows_after before mid after said text shown shows) has
 
 -- showing what a step said failed
 pub come_cut : (program : ProgramValue) (steps left next : ℕ) (state then : State) (before mid after : Option Session) (has_said : Bool) (text : List ℕ)
-    → left ≡ suc next → HasCome program steps left state before mid has_said → TakesStep program state (Said text) then
+    → left ≡ suc next → HasCome program steps left state before mid has_said → Steps program state (record { state = then; event = Said text })
     → ShowsPrefixOf mid after text
     → HasBegun program steps before after
 come_cut program steps left next state then before mid after has_said text is come takes shows =
-    let step = said_steps program state then text takes.after takes.steps takes.moves in
     let rest = some_run program next then in
+    let step = step_and program next state then (Said text) (preceded_by text rest.0) takes (rest.0, rest.1, refl) in
     let Q : ℕ → Type 0 = λ n. Runs program n state (preceded_by text rest.0) in
     record {
       said = come.said ++ shows.said;
       unsaid = shows.prefix.rest ++ rest.0.said;
       ran = preceded_by come.said (preceded_by text rest.0);
-      runs = come.onward (preceded_by text rest.0) (subst Q (sym is) (step_goes program next state then text rest.0 step rest.1));
+      runs = come.onward (preceded_by text rest.0) (subst Q (sym is) step);
       is =
           ap (λ t. come.said ++ (t ++ rest.0.said)) (shows.prefix.is ∙ ap (λ t. t ++ shows.prefix.rest) (sym shows.prefix.said_is))
           ∙ ap (λ t. come.said ++ t) (append_assoc shows.said shows.prefix.rest rest.0.said)
@@ -117,13 +100,26 @@ come_wanting program steps left state before mid has_said come =
       shows = come.shows;
     }
 
+-- no machine could be made
+pub come_unbegun : (program : ProgramValue) (steps : ℕ) (before : Option Session) → HasBegun program steps before before
+come_unbegun program steps before =
+    let rest = some_run program steps initial in
+    record {
+      said = [];
+      unsaid = rest.0.said;
+      ran = rest.0;
+      runs = rest.1;
+      is = refl;
+      shows = shows_nothing before;
+    }
+
 -- the run has ended
 pub come_ended : (program : ProgramValue) (steps left next : ℕ) (state then : State) (before mid : Option Session) (has_said : Bool)
-    (end : End) → left ≡ suc next → HasCome program steps left state before mid has_said → TakesStep program state (Ended end) then
+    (end : End) → left ≡ suc next → HasCome program steps left state before mid has_said → Steps program state (record { state = then; event = Ended end })
     → HasPlayed program steps before mid has_said (Some end)
 come_ended program steps left next state then before mid has_said end is come takes =
     let Q : ℕ → Type 0 = λ n. Runs program n state (record { said = []; end = Some end }) in
-    let last = subst Q (sym is) (step_ends program next state end (ended_steps program state then end takes.after takes.steps takes.moves)) in
+    let last = subst Q (sym is) (step_and program next state then (Ended end) (record { said = []; end = Some end }) takes refl) in
     let P : List ℕ → Type 0 = λ said. Runs program steps initial (record { said = said; end = Some end }) in
     record {
       said =
@@ -150,9 +146,10 @@ come_last program steps left state before mid has_said is come =
 
 -- ---- what the loop has at hand
 
-pub takes_event : (program : ProgramValue) (state next : State) (event is : Event) → event ≡ is → TakesStep program state event next
-    → TakesStep program state is next
-takes_event program state next event is same takes = let P : Event → Type 0 = λ e. TakesStep program state e next in subst P same takes
+pub takes_event : (program : ProgramValue) (state next : State) (event is : Event) → event ≡ is
+    → Steps program state (record { state = next; event = event }) → Steps program state (record { state = next; event = is })
+takes_event program state next event is same takes =
+    let P : Event → Type 0 = λ e. Steps program state (record { state = next; event = e }) in subst P same takes
 
 pub nonempty_by_length : (text : List ℕ) (size : ℕ) → size ≡ length text → not (nat_eq size 0) ≡ is_nonempty text
 nonempty_by_length [] size is = ap (λ n. not (nat_eq n 0)) is

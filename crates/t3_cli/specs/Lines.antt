@@ -2,11 +2,11 @@
 use Rattle.std.specs.Prelude.{ℕ, Bool, true, false, List, [], ◌∷◌, ◌++◌, codes, Option, Some, None}
 use Rattle.std.specs.Fmt.{decimal}
 use Rattle.t3_image_read.specs.declared.refusal.ReadWhy.{ReadWhy}
-use Rattle.t3_interp.specs.declared.turn.End.{End}
-use Rattle.t3_interp.specs.declared.turn.End.TheVariants.{Returned, Unhandled, BadCode}
-use Rattle.t3_interp.specs.Faults.{fault_number}
-use Rattle.t3_interp.specs.declared.turn.CodeWhy.{CodeWhy}
-use Rattle.t3_interp.specs.declared.turn.CodeWhy.TheVariants as why
+use Rattle.t3_interp.specs.declared.event.End.{End}
+use Rattle.t3_interp.specs.declared.event.End.TheVariants.{Returned, Unhandled, BadCode}
+use Rattle.t3_ops.specs.Faults.{fault_number}
+use Rattle.t3_interp.specs.declared.event.CodeWhy.{CodeWhy}
+use Rattle.t3_interp.specs.declared.event.CodeWhy.TheVariants as why
 use Rattle.t3_image_read.specs.declared.refusal.ReadWhy.TheVariants.{Signature, Version, TooLong, TooMany, UnknownMandatory, Malformed, EofSize, Truncated}
 
 -- a line ends in a newline

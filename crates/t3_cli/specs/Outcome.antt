@@ -11,8 +11,8 @@ use Rattle.t3_image_read.specs.Refusal.{Refused}
 use Rattle.t3_image_write.specs.Masks.{remask_of}
 use Rattle.t3_cli.specs.declared.status.Status.{Status}
 use Rattle.t3_cli.specs.declared.status.Status.TheVariants.{Done, Usage, Absent, ImageRefused, LoadRefused, Unhandled, BadCode, StepLimit}
-use Rattle.t3_interp.specs.declared.turn.End.{End}
-use Rattle.t3_interp.specs.declared.turn.End.TheVariants as ends
+use Rattle.t3_interp.specs.declared.event.End.{End}
+use Rattle.t3_interp.specs.declared.event.End.TheVariants as ends
 use Rattle.t3_cli.specs.Act.{Act, Shows, Puts}
 use Rattle.t3_cli.specs.Command.{CommandValue, Check, Show, Run, Rewrite, RunOptions}
 use Rattle.t3_cli.specs.Lines.{usage_line, absent_line, refused_line, put_line, unloaded_line, closing_text, is_nonempty}

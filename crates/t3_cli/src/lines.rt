@@ -90,7 +90,7 @@ fn ended(alloc: Global, prefix: &str, end: End) -> Result<String, AllocError>
     }
 }
 
-fn unhandled(alloc: Global, prefix: &str, object: u32, fault: u8) -> Result<String, AllocError>
+fn unhandled(alloc: Global, prefix: &str, object: u32, fault: u16) -> Result<String, AllocError>
     ensures { IfOk result (λ text. string_bytes text ≡ prefix.now ++ unhandled_line object fault) }
 {
     format!(in alloc; "{prefix}[unhandled object={object} fault={fault}]\n")

@@ -72,7 +72,7 @@ fn play_on<C: Console>(
         (C.session console.new) result }
     ensures cause { MovesFaults (C.faults console.old) (C.faults console.new) result }
 {
-    let mut machine = Machine::new();
+    let mut machine = Machine::start(alloc)?;
     let mut has_said = false;
     let mut left = steps;
     while left > 0 {

@@ -1,5 +1,4 @@
-mod Stacks
+mod Cases
 mod Saying
-mod Taking
 pub mod Runs
 pub mod Programs

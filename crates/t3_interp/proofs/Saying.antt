@@ -1,83 +1,98 @@
--- The texts of operands, joined as they are popped.
-use Rattle.std.proofs.Common.{◌≡◌, ℕ, zero, suc, ◌<◌, ◌≤◌, Bool, true, false, List, [], ◌∷◌, ◌++◌, length, take, drop, reverse, Option, Some, None, refl, sym, ap, ◌∙◌, subst, append_assoc, arith}
-use Rattle.std.proofs.lemmas.List.{length-append}
+-- The texts of values, joined one by one.
+use Rattle.std.proofs.Common.{◌≡◌, ℕ, ◌+◌, ◌-◌, ◌<◌, List, [], ◌∷◌, ◌++◌, length, get_or, take, drop, reverse, Option, Some, None, refl, sym, ap, ◌∙◌, append_assoc, append-nil, Bool, true, false, arith}
+use Rattle.std.proofs.lemmas.List.{length-reverse, take_more, take-append-drop, get_or-reverse}
+use Rattle.std.proofs.lemmas.Option.{slice_get-get_or}
 use Rattle.std.specs.Fmt.{option_append}
 use Rattle.t3_holder.specs.declared.holder.Holder.{Holder}
-use Rattle.t3_interp.specs.declared.turn.Turn.TheVariants.{Says, Faults}
-use Rattle.t3_interp.specs.declared.turn.Fault.TheVariants.{Kind}
-use Rattle.t3_interp.specs.Instructions.{said_text, said_texts, say_acts}
-use Rattle.t3_interp.specs.Inner.Acting.{Does, Appends}
-use Rattle.t3_interp.proofs.Stacks.{popped}
+use Rattle.t3_interp.specs.Values.{said_text, said_texts}
+use Rattle.t3_interp.specs.Inner.Acting.{Appends}
 
--- so many are left to be said after this text, and so many operands are there
-pub record HasSaid (count left : ℕ) (start now : List Holder) (text : List ℕ) : Type 0 where
-  pub texts : said_texts (take count (reverse start)) ≡ option_append (Some text) (said_texts (take left (reverse now)))
-  pub rest : drop count (reverse start) ≡ drop left (reverse now)
-  pub enough : left ≤ length now
+joined_assoc : (a b c : Option (List ℕ)) → option_append (option_append a b) c ≡ option_append a (option_append b c)
+joined_assoc None None c = refl
+joined_assoc None (Some b) None = refl
+joined_assoc None (Some b) (Some c) = refl
+joined_assoc (Some a) None c = refl
+joined_assoc (Some a) (Some b) None = refl
+joined_assoc (Some a) (Some b) (Some c) = ap Some (append_assoc a b c)
 
-joined : (text said : List ℕ) (rest : Option (List ℕ))
-    → option_append (Some text) (option_append (Some said) rest) ≡ option_append (Some (text ++ said)) rest
-joined text said None = refl
-joined text said (Some more) = ap Some (sym (append_assoc text said more))
+said_texts-append : (xs ys : List Holder) → said_texts (xs ++ ys) ≡ option_append (said_texts xs) (said_texts ys)
+said_texts-append [] ys = all (said_texts ys)
+  where
+    all : (o : Option (List ℕ)) → o ≡ option_append (Some []) o
+    all None = refl
+    all (Some text) = refl
+said_texts-append (x ∷ xs) ys =
+    ap (option_append (said_text x)) (said_texts-append xs ys) ∙ sym (joined_assoc (said_text x) (said_texts xs) (said_texts ys))
 
--- one more value
-pub says_more : (count left next : ℕ) (start old new : List Holder) (value : Holder) (before after said : List ℕ)
-    → HasSaid count left start old before → left ≡ suc next → old ≡ new ++ value ∷ [] → said_text value ≡ Some said → after ≡ before ++ said
-    → HasSaid count next start new after
-says_more count left next start old new value before after said so_far is pop has append =
-    let top = popped old new value pop in
-    let taken : take left (reverse old) ≡ value ∷ take next (reverse new) = (λ i. take (is i) (top i)) in
-    let dropped : drop left (reverse old) ≡ drop next (reverse new) = (λ i. drop (is i) (top i)) in
-    record {
-      texts = so_far.texts ∙ ap (λ (vs : List Holder). option_append (Some before) (said_texts vs)) taken
-          ∙ ap (λ t. option_append (Some before) (option_append t (said_texts (take next (reverse new))))) has
-          ∙ joined before said (said_texts (take next (reverse new)))
-          ∙ ap (λ t. option_append (Some t) (said_texts (take next (reverse new)))) (sym append);
-      rest = so_far.rest ∙ dropped;
-      enough = omega (arith, so_far.enough, is, ap length pop, length-append new (value ∷ []));
-    }
+said_texts-one : (v : Holder) → said_texts (v ∷ []) ≡ said_text v
+said_texts-one v = all (said_text v)
+  where
+    all : (o : Option (List ℕ)) → option_append o (Some []) ≡ o
+    all None = refl
+    all (Some text) = ap Some (append-nil text)
 
--- a value without a text leaves the whole without one
-pub says_none : (count left next : ℕ) (start old new : List Holder) (value : Holder) (before : List ℕ) → HasSaid count left start old before
-    → left ≡ suc next → old ≡ new ++ value ∷ [] → said_text value ≡ None → said_texts (take count (reverse start)) ≡ None
-says_none count left next start old new value before so_far is pop has =
-    let top = popped old new value pop in
-    let taken : take left (reverse old) ≡ value ∷ take next (reverse new) = (λ i. take (is i) (top i)) in
-    so_far.texts ∙ ap (λ (vs : List Holder). option_append (Some before) (said_texts vs)) taken
-    ∙ ap (λ t. option_append (Some before) (option_append t (said_texts (take next (reverse new))))) has
+-- the value that comes next, where values are turned over
+next_value : (values : List Holder) (nth : ℕ) (v : Holder) → nth < length values → get_or values (length values - 1 - nth) v ≡ v
+    → take (nth + 1) (reverse values) ≡ take nth (reverse values) ++ v ∷ []
+next_value values nth v less is =
+    take_more (reverse values) nth v (omega (arith, less, length-reverse values))
+    ∙ ap (λ x. take nth (reverse values) ++ x ∷ []) (get_or-reverse values nth v less ∙ is)
 
-pub saying_faults : (count : ℕ) (start left : List Holder) → 0 < count → said_texts (take count (reverse start)) ≡ None
-    → Does (say_acts count (said_texts (take count (reverse start))) (drop count (reverse start))) (Faults Kind) left
-saying_faults zero start left some none = absurd (omega arith)
-saying_faults (suc count) start left some none =
-    let P : Option (List ℕ) → Type 0 = λ t. Does (say_acts (suc count) t (drop (suc count) (reverse start))) (Faults Kind) left in
-    subst P (sym none) (record { asks = refl; leaves = tt })
+pub said_more : (values : List Holder) (nth : ℕ) (v : Holder) (before after said : List ℕ) → nth < length values
+    → get_or values (length values - 1 - nth) v ≡ v → said_texts (take nth (reverse values)) ≡ Some before → said_text v ≡ Some said
+    → after ≡ before ++ said → said_texts (take (nth + 1) (reverse values)) ≡ Some after
+said_more values nth v before after said less is so_far has append =
+    ap said_texts (next_value values nth v less is) ∙ said_texts-append (take nth (reverse values)) (v ∷ [])
+    ∙ (λ i. option_append (so_far i) ((said_texts-one v ∙ has) i)) ∙ ap Some (sym append)
 
-append_none : (text : List ℕ) → text ++ [] ≡ text
-append_none [] = refl
-append_none (c ∷ text) = ap (λ t. c ∷ t) (append_none text)
+pub said_none : (values : List Holder) (nth : ℕ) (v : Holder) → nth < length values
+    → get_or values (length values - 1 - nth) v ≡ v → said_text v ≡ None → None ≡ said_texts (reverse values)
+said_none values nth v less is none =
+    let front : said_texts (take (nth + 1) (reverse values)) ≡ None =
+    ap said_texts (next_value values nth v less is) ∙ said_texts-append (take nth (reverse values)) (v ∷ [])
+    ∙ ap (option_append (said_texts (take nth (reverse values)))) (said_texts-one v ∙ none) ∙ nothing_behind (said_texts (take nth (reverse values))) in
+    sym (ap said_texts (sym (take-append-drop (nth + 1) (reverse values)))
+    ∙ said_texts-append (take (nth + 1) (reverse values)) (drop (nth + 1) (reverse values))
+    ∙ ap (λ o. option_append o (said_texts (drop (nth + 1) (reverse values)))) front)
+  where
+    nothing_behind : (o : Option (List ℕ)) → option_append o None ≡ None
+    nothing_behind None = refl
+    nothing_behind (Some text) = refl
 
--- where none is left, the text is whole
-pub saying_ends : (count : ℕ) (start now : List Holder) (text : List ℕ) → 0 < count → HasSaid count 0 start now text
-    → Does (say_acts count (said_texts (take count (reverse start))) (drop count (reverse start))) (Says text) (reverse now)
-saying_ends zero start now text some so_far = absurd (omega arith)
-saying_ends (suc count) start now text some so_far =
-    let whole : said_texts (take (suc count) (reverse start)) ≡ Some text = so_far.texts ∙ ap Some (append_none text) in
-    let P : Option (List ℕ) → Type 0 = λ t. Does (say_acts (suc count) t (drop (suc count) (reverse start))) (Says text) (reverse now) in
-    subst P (sym whole) (record { asks = refl; leaves = sym so_far.rest })
+-- ---- by what is told of one value
 
-nothing_before : (rest : Option (List ℕ)) → rest ≡ option_append (Some []) rest
-nothing_before None = refl
-nothing_before (Some text) = refl
+get_or_same : (values : List Holder) (place : ℕ) (v w : Holder) → place < length values → get_or values place v ≡ get_or values place w
+get_or_same values place v w less =
+    let same : Some (get_or values place v) ≡ Some (get_or values place w) =
+    sym (slice_get-get_or values place v less) ∙ slice_get-get_or values place w less in
+    cc
 
-pub saying_begins : (count : ℕ) (start : List Holder) → count ≤ length start → HasSaid count count start start []
-saying_begins count start enough = record { texts = nothing_before (said_texts (take count (reverse start))); rest = refl; enough = enough }
+pub said_more_by : (values : List Holder) (nth : ℕ) (v : Holder) (before after : List ℕ) (has : Bool) → nth < length values
+    → said_texts (take nth (reverse values)) ≡ Some before
+    → Appends before (said_text (get_or values (length values - 1 - nth) v)) has after → has ≡ true
+    → said_texts (take (nth + 1) (reverse values)) ≡ Some after
+said_more_by values nth v before after has less so_far appends is = more (said_text here) refl appends
+  where
+    here : Holder
+    here = get_or values (length values - 1 - nth) v
 
-pub has_none : (old new : List ℕ) (text : Option (List ℕ)) (has : Bool) → Appends old text has new → has ≡ false → text ≡ None
-has_none old new None has is lacks = refl
-has_none old new (Some text) has is lacks = absurd (let clash : true ≡ false = sym is.0 ∙ lacks in cc)
+    stays : get_or values (length values - 1 - nth) here ≡ here
+    stays = get_or_same values (length values - 1 - nth) here v (omega (arith, less))
 
-pub has_some : (old new : List ℕ) (text : Option (List ℕ)) (has : Bool) → Appends old text has new → has ≡ true
-    → (said : List ℕ) × (text ≡ Some said) × (new ≡ old ++ said)
-has_some old new None has is holds = absurd (let clash : false ≡ true = sym is ∙ holds in cc)
-has_some old new (Some text) has is holds = (text, refl, is.1)
+    more : (text : Option (List ℕ)) → said_text here ≡ text → Appends before text has after → said_texts (take (nth + 1) (reverse values)) ≡ Some after
+    more None said told = let clash : true ≡ false = sym is ∙ told in absurd cc
+    more (Some text) said told = said_more values nth here before after text less stays so_far said told.1
+
+pub said_none_by : (values : List Holder) (nth : ℕ) (v : Holder) (before after : List ℕ) (has : Bool) → nth < length values
+    → Appends before (said_text (get_or values (length values - 1 - nth) v)) has after → has ≡ false → None ≡ said_texts (reverse values)
+said_none_by values nth v before after has less appends is = none (said_text here) refl appends
+  where
+    here : Holder
+    here = get_or values (length values - 1 - nth) v
+
+    stays : get_or values (length values - 1 - nth) here ≡ here
+    stays = get_or_same values (length values - 1 - nth) here v (omega (arith, less))
+
+    none : (text : Option (List ℕ)) → said_text here ≡ text → Appends before text has after → None ≡ said_texts (reverse values)
+    none None said told = said_none values nth here less stays said
+    none (Some text) said told = let clash : true ≡ false = sym told.0 ∙ is in absurd cc

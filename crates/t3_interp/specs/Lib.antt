@@ -1,5 +1,5 @@
-pub mod Faults
 pub mod Machine
+pub mod Values
 pub mod Instructions
 pub mod Step
 pub mod Run

@@ -2,7 +2,7 @@
 //!
 //! ```text
 //! let program = load(alloc, &image)?;
-//! let mut machine = Machine::new();
+//! let mut machine = Machine::start(alloc)?;
 //! while let Event::Went = machine.step(alloc, &program)? {}
 //! ```
 //!
@@ -10,13 +10,15 @@
 //! far there is one frame, and no object but the one that a fault throws.
 #![tactic(auto)]
 
-mod builtins;
-mod instructions;
+mod act;
+mod effect;
+mod event;
 mod loader;
 mod machine;
+mod relation;
 mod settle;
-mod turn;
+mod step;
 
+pub use event::{CodeWhy, End, Event, Want};
 pub use loader::{LoadRefusal, Program, load};
 pub use machine::Machine;
-pub use turn::{CodeWhy, End, Event, Fault};

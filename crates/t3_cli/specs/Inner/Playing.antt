@@ -2,7 +2,7 @@
 use Rattle.std.specs.Prelude.{◌≡◌, ℕ, Bool, List, ◌++◌, Option, Result, Ok, Err}
 use Rattle.t3_io.specs.Session.{Session}
 use Rattle.t3_io.specs.declared.refusal.DeviceRefusal.{DeviceRefusal}
-use Rattle.t3_interp.specs.declared.turn.End.{End}
+use Rattle.t3_interp.specs.declared.event.End.{End}
 use Rattle.t3_cli.specs.Lines.{is_nonempty}
 use Rattle.t3_interp.specs.Machine.{ProgramValue, State, initial}
 use Rattle.t3_cli.specs.Outcome.{Outcome, showing, shown_of, status_of}

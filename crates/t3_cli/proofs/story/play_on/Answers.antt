@@ -1,10 +1,11 @@
 use Rattle.std.proofs.Common.{◌≡◌, ◌-◌, ◌∙◌, List, ℕ, not, length, Err, Ok, ap, arith, subst}
 use Rattle.std.proofs.lemmas.Result.{err_from_is_err_and}
-use Rattle.t3_interp.specs.declared.turn.Event.TheVariants.{Went, Said, Ended}
+use Rattle.t3_interp.specs.declared.event.Event.TheVariants.{Went, Said, Ended}
 use Rattle.t3_cli.specs.Lines.{is_nonempty}
 use Rattle.t3_cli.specs.Inner.Showing.{ShowsAll}
 use Rattle.t3_interp.specs.Step.{program_of, state_of}
-use Rattle.t3_cli.proofs.Stories.{come_went, come_said, come_cut, come_wanting, come_ended, come_last, takes_event, nonempty_by_length, or_said, plays_cut}
+use Rattle.t3_interp.proofs.Runs.{wants_on}
+use Rattle.t3_cli.proofs.Stories.{come_unbegun, come_went, come_said, come_cut, come_wanting, come_ended, come_last, takes_event, nonempty_by_length, or_said, plays_cut}
 use Rattle.t3_cli.proofs.story.play_on.Goals as goal
 
 pub loop-left-preserved-in-Went : goal.loop-left-preserved-in-Went
@@ -17,6 +18,7 @@ loop-left-preserved-in-Went g c =
     let mid = g.C.Console.session c.loop-left.console in
     let takes = takes_event program old new c.in_ok-step.field-0 Went c.in-Went.is c.in_ok-step.ensures in
     record {
+      wants = wants_on program old.frames old.register (record { state = new; event = Went }) takes;
       come =
           come_went program c.args.steps left (left - 1) old new before mid c.loop-left.has_said (omega (arith, c.loop-left-test.true)) c.loop-left.invariant.come takes;
       faults = c.loop-left.invariant.faults;
@@ -53,6 +55,7 @@ loop-left-preserved g c =
     let shows = subst (λ (t : List ℕ). ShowsAll mid after t (Ok tt)) text c.in_ok-show-in-Said.ensures.shown in
     let has = ap not c.is_empty.ensures ∙ nonempty_by_length c.in-Said.text _ (c.text.inside.0.ok.0 ∙ ap (λ (t : List ℕ). length t) c.text.view_is) in
     record {
+      wants = wants_on program old.frames old.register (record { state = new; event = Said c.in-Said.text }) takes;
       come =
           come_said program c.args.steps left (left - 1) old new before mid after c.loop-left.has_said _ c.in-Said.text (omega (arith, c.loop-left-test.true)) c.loop-left.invariant.come takes shows (or_said c.loop-left.has_said c.is_empty.result (is_nonempty c.in-Said.text) has);
       faults = c.in_ok-show-in-Said.ensures.cause ∙ c.loop-left.invariant.faults;
@@ -77,5 +80,12 @@ returns-in_err-step-clause-plays g c =
     let before = g.C.Console.session c.args.console.now in
     let mid = g.C.Console.session c.loop-left.console in
     let begun = come_wanting program c.args.steps c.loop-left.left (state_of c.loop-left.machine) before mid c.loop-left.has_said c.loop-left.invariant.come in
+    let p = err_from_is_err_and c.from_residual-in_err-step.result c.from_residual-in_err-step.ensures.1 in
+    plays_cut program c.args.steps before mid _ c.from_residual-in_err-step.result p.1 begun
+
+pub returns-in_err-machine-clause-plays : goal.returns-in_err-machine-clause-plays
+returns-in_err-machine-clause-plays g c =
+    let program = program_of c.args.program.now in
+    let before = g.C.Console.session c.args.console.now in
     let p = err_from_is_err_and c.from_residual.result c.from_residual.ensures.1 in
-    plays_cut program c.args.steps before mid _ c.from_residual.result p.1 begun
+    plays_cut program c.args.steps before before _ c.from_residual.result p.1 (come_unbegun program c.args.steps before)

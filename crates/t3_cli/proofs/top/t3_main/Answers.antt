@@ -1,4 +1,4 @@
-use Rattle.std.proofs.Common.{subst, sym, ◌∙◌}
+use Rattle.std.proofs.Common.{subst, sym}
 use Rattle.std.specs.Prelude.{IfSome, map, string_bytes}
 use Rattle.t3_cli.specs.Command.{command_of}
 use Rattle.t3_cli.specs.Command.{command_value}

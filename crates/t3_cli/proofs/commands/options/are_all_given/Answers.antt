@@ -1,5 +1,5 @@
-use Rattle.std.proofs.Common.{◌≡◌, Bool, true, false, nat_eq, string_bytes, sym, ◌∙◌, arith}
-use Rattle.std.specs.List.{list_all, starts_with}
+use Rattle.std.proofs.Common.{nat_eq, string_bytes, sym, ◌∙◌, arith}
+use Rattle.std.specs.List.{starts_with}
 use Rattle.std.proofs.lemmas.List.Folds.{list_all-map}
 use Rattle.t3_cli.proofs.OptionValues.{none_passes, one_more_passes, all_pass}
 use Rattle.t3_cli.proofs.commands.options.are_all_given.Goals as goal

@@ -1,0 +1,236 @@
+-- Values on one stack, from the topmost on, as those of frames.
+use Rattle.std.proofs.Common.{◌≡◌, ◌≢◌, ℕ, zero, suc, ◌+◌, ◌-◌, ◌<◌, ◌≤◌, min, List, [], ◌∷◌, ◌++◌, reverse, length, take, drop, set, replicate, get_or, append_assoc, Option, Some, None, IsSome, refl, sym, ap, ◌∙◌, arith}
+use Rattle.std.specs.Option.{option_to_list}
+use Rattle.std.proofs.lemmas.List.{reverse-append, length-reverse, length-take, length-drop, length-replicate, set_split, set-get_or, take-append-drop, take-set-le, drop-set-lt, drop-set-add, take_all, drop_all, drop_at, get_or-reverse}
+use Rattle.std.proofs.Math.Seq.{take-set-lt, take-append_seam, set-append_seam}
+use Rattle.t3_holder.specs.declared.holder.Holder.{Holder}
+use Rattle.t3_holder.specs.declared.holder.Holder.TheVariants.{Nil}
+use Rattle.t3_frames.specs.declared.mark.FrameMark.{FrameMark}
+use Rattle.t3_frames.specs.Frame.{FramesValue, values_of, all_values, values, of_newest, with_operands, with_local, with_argument, begun, Pops, HasTop}
+use Rattle.t3_frames.specs.Inner.Marks.{count_of, counts, frame_of, below, older_of, frames_of}
+
+-- ---- a stack turned over
+
+-- a value that is pushed is the topmost
+pub reverse-push : (xs : List Holder) (x : Holder) → reverse (xs ++ x ∷ []) ≡ x ∷ reverse xs
+reverse-push xs x = reverse-append xs (x ∷ [])
+
+-- the list before a place, the value there, and those behind
+reverse-split : (p s : List Holder) (x : Holder) → reverse (p ++ x ∷ s) ≡ reverse s ++ x ∷ reverse p
+reverse-split p s x = reverse-append p (x ∷ s) ∙ ap (λ (t : List Holder). t ++ reverse p) (reverse-append (x ∷ []) s) ∙ append_assoc (reverse s) (x ∷ []) (reverse p)
+
+pub reverse-set : (xs : List Holder) (i k : ℕ) (v : Holder) → i + k + 1 ≡ length xs → reverse (set xs i v) ≡ set (reverse xs) k v
+reverse-set xs i k v sum =
+    let less : i < length xs = omega (arith, sum) in
+    let at : length (reverse (drop (suc i) xs)) ≡ k = length-reverse (drop (suc i) xs) ∙ length-drop (suc i) xs ∙ omega (arith, sum) in
+    let same : set xs i (get_or xs i v) ≡ xs = set-get_or xs i v in
+    let whole : reverse xs ≡ reverse (drop (suc i) xs) ++ get_or xs i v ∷ reverse (take i xs) =
+    ap reverse (sym same ∙ set_split xs i (get_or xs i v) less) ∙ reverse-split (take i xs) (drop (suc i) xs) (get_or xs i v) in
+    ap reverse (set_split xs i v less) ∙ reverse-split (take i xs) (drop (suc i) xs) v
+    ∙ sym (set-append_seam (reverse (drop (suc i) xs)) (get_or xs i v) (reverse (take i xs)) v)
+    ∙ (λ j. set (sym whole j) (at j) v)
+
+pub reverse-take : (xs : List Holder) (i k : ℕ) → i + k ≡ length xs → reverse (take i xs) ≡ drop k (reverse xs)
+reverse-take xs i k sum =
+    let at : length (reverse (drop i xs)) ≡ k = length-reverse (drop i xs) ∙ length-drop i xs ∙ omega (arith, sum) in
+    let whole : reverse xs ≡ reverse (drop i xs) ++ reverse (take i xs) =
+    ap reverse (sym (take-append-drop i xs)) ∙ reverse-append (take i xs) (drop i xs) in
+    sym (ap (drop k) whole ∙ drop_at (reverse (drop i xs)) (reverse (take i xs)) k at)
+
+pub reverse-drop : (xs : List Holder) (i k : ℕ) → i + k ≡ length xs → reverse (drop i xs) ≡ take k (reverse xs)
+reverse-drop xs i k sum =
+    let at : length (reverse (drop i xs)) ≡ k = length-reverse (drop i xs) ∙ length-drop i xs ∙ omega (arith, sum) in
+    let whole : reverse xs ≡ reverse (drop i xs) ++ reverse (take i xs) =
+    ap reverse (sym (take-append-drop i xs)) ∙ reverse-append (take i xs) (drop i xs) in
+    sym (ap (take k) whole ∙ (λ j. take (sym at j) (reverse (drop i xs) ++ reverse (take i xs))) ∙ take-append_seam (reverse (drop i xs)) (reverse (take i xs)))
+
+snoc-replicate : (n : ℕ) → replicate n Nil ++ Nil ∷ [] ≡ Nil ∷ replicate n Nil
+snoc-replicate zero = refl
+snoc-replicate (suc n) = ap (λ (t : List Holder). Nil ∷ t) (snoc-replicate n)
+
+pub reverse-replicate : (n : ℕ) → reverse (replicate n Nil) ≡ replicate n Nil
+reverse-replicate zero = refl
+reverse-replicate (suc n) =
+    ap reverse (sym (snoc-replicate n)) ∙ reverse-push (replicate n Nil) Nil ∙ ap (λ (t : List Holder). Nil ∷ t) (reverse-replicate n)
+
+-- ---- counts
+
+frame_counted : (tops : List Holder) (mark : FrameMark) (rest : ℕ) → length tops ≡ count_of mark + rest
+    → (values_of (frame_of tops mark) ≡ count_of mark) × (length (below tops mark) ≡ rest)
+frame_counted tops mark rest is =
+    let inner = drop mark.operands tops in
+    let outer = drop mark.locals inner in
+    let one = length-drop mark.operands tops in
+    let two = length-drop mark.locals inner in
+    let three = length-drop mark.arguments outer in
+    let a = length-take mark.operands tops in
+    let b = length-take mark.locals inner in
+    let c = length-take mark.arguments outer in
+    (omega (arith, is, one, two, a, b, c), omega (arith, is, one, two, three))
+
+older_counted : (tops : List Holder) (marks : List FrameMark) → length tops ≡ counts marks → all_values (older_of tops marks) ≡ counts marks
+older_counted tops [] is = refl
+older_counted tops (mark ∷ marks) is =
+    let first = frame_counted tops mark (counts marks) is in
+    omega (arith, first.0, older_counted (below tops mark) marks first.1)
+
+pub values-frames_of : (tops : List Holder) (newest : FrameMark) (older : List FrameMark) → length tops ≡ count_of newest + counts older
+    → values (frames_of tops newest older) ≡ length tops
+values-frames_of tops newest older is =
+    let first = frame_counted tops newest (counts older) is in
+    omega (arith, is, first.0, older_counted (below tops newest) older first.1)
+
+-- ---- operands
+
+pub pushes : (tops : List Holder) (mark : FrameMark) (older : List FrameMark) (v : Holder)
+    → frames_of (v ∷ tops) (record mark { operands = mark.operands + 1 }) older
+    ≡ of_newest (with_operands (v ∷ take mark.operands tops)) (frames_of tops mark older)
+pushes tops mark older v =
+    let count : mark.operands + 1 ≡ suc mark.operands = omega arith in
+    λ i. frames_of (v ∷ tops) (record mark { operands = count i }) older
+
+pub pops : (old new : List Holder) (found : Option Holder) (mark : FrameMark) (older : List FrameMark) (frames : FramesValue)
+    → frames_of (reverse old) mark older ≡ frames → mark.operands ≢ 0 → 0 < length old → old ≡ new ++ option_to_list found
+    → (found ≡ None → length old ≡ 0)
+    → Pops frames found (frames_of (reverse new) (record mark { operands = mark.operands - 1 }) older)
+pops old new None mark older frames view some long is none = absurd (omega (arith, long, none refl))
+pops old new (Some v) mark older frames view some long is none =
+    let tops : reverse old ≡ v ∷ reverse new = ap reverse is ∙ reverse-push new v in
+    let count : mark.operands ≡ suc (mark.operands - 1) = omega (arith, some) in
+    let step : frames ≡ frames_of (v ∷ reverse new) (record mark { operands = suc (mark.operands - 1) }) older =
+    sym view ∙ (λ i. frames_of (tops i) (record mark { operands = count i }) older) in (
+      ap (λ (f : FramesValue). f.newest.operands) step,
+      sym (ap (λ (f : FramesValue). of_newest (with_operands (take (mark.operands - 1) (reverse new))) f) step),
+    )
+
+pub has_top : (items : List Holder) (mark : FrameMark) (older : List FrameMark) (frames : FramesValue) (place : ℕ) (v : Holder)
+    → frames_of (reverse items) mark older ≡ frames → mark.operands ≢ 0 → place + 1 ≡ length items → get_or items place v ≡ v
+    → HasTop frames (Some v)
+has_top items mark older frames place v view some at is =
+    let here : get_or (reverse items) 0 v ≡ v =
+    get_or-reverse items 0 v (omega (arith, at)) ∙ ap (λ n. get_or items n v) (omega (arith, at)) ∙ is in
+    let long : 0 < length (reverse items) = omega (arith, at, length-reverse items) in
+    first (reverse items) (mark.operands) here long some (ap (λ (f : FramesValue). f.newest.operands) view)
+  where
+    first : (tops : List Holder) (o : ℕ) → get_or tops 0 v ≡ v → 0 < length tops → o ≢ 0 → take o tops ≡ frames.newest.operands
+        → HasTop frames (Some v)
+    first [] o here long some same = absurd (omega (arith, long))
+    first (x ∷ tops) zero here long some same = absurd (some refl)
+    first (x ∷ tops) (suc o) here long some same = (take o tops, sym same ∙ ap (λ y. y ∷ take o tops) here)
+
+pub takes : (tops : List Holder) (count o : ℕ) → take (min count o) tops ≡ take count (take o tops)
+takes tops zero o = let none : min 0 o ≡ 0 = omega arith in ap (λ n. take n tops) none
+takes tops (suc count) zero = let none : min (suc count) 0 ≡ 0 = omega arith in ap (λ n. take n tops) none
+takes [] (suc count) (suc o) = take_all (min (suc count) (suc o)) [] (omega arith)
+takes (x ∷ tops) (suc count) (suc o) =
+    let less : min (suc count) (suc o) ≡ suc (min count o) = omega arith in
+    ap (λ n. take n (x ∷ tops)) less ∙ ap (λ (t : List Holder). x ∷ t) (takes tops count o)
+
+-- a value that is taken off counts no more
+pub values-pops : (old new : FramesValue) (found : Option Holder) → Pops old found new → IsSome found → values new + 1 ≡ values old
+values-pops old new None is some = absurd cc
+values-pops old new (Some v) is some =
+    let count = ap (λ (t : List Holder). length t) is.0 in
+    omega (arith, count, ap values is.1)
+
+-- ---- variables
+
+pub sets_local : (tops : List Holder) (mark : FrameMark) (older : List FrameMark) (n : ℕ) (v : Holder) → n < mark.locals
+    → frames_of (set tops (mark.operands + n) v) mark older ≡ of_newest (with_local n v) (frames_of tops mark older)
+sets_local tops mark older n v less =
+    let o = mark.operands in
+    let l = mark.locals in
+    let inner : drop o (set tops (o + n) v) ≡ set (drop o tops) n v = drop-set-add o tops n v in
+    let operands : take o (set tops (o + n) v) ≡ take o tops = take-set-le o tops (o + n) v (omega arith) in
+    let locals : take l (drop o (set tops (o + n) v)) ≡ set (take l (drop o tops)) n v = ap (take l) inner ∙ take-set-lt l (drop o tops) n v less in
+    let outer : drop l (drop o (set tops (o + n) v)) ≡ drop l (drop o tops) = ap (drop l) inner ∙ drop-set-lt l (drop o tops) n v less in
+    λ i. record {
+      newest =
+          record (frame_of tops mark) {
+            operands = operands i;
+            locals = locals i;
+            arguments = take mark.arguments (outer i);
+          };
+      older = older_of (drop mark.arguments (outer i)) older;
+    }
+
+pub sets_argument : (tops : List Holder) (mark : FrameMark) (older : List FrameMark) (n : ℕ) (v : Holder) → n < mark.arguments
+    → frames_of (set tops (mark.operands + mark.locals + n) v) mark older ≡ of_newest (with_argument n v) (frames_of tops mark older)
+sets_argument tops mark older n v less =
+    let o = mark.operands in
+    let l = mark.locals in
+    let a = mark.arguments in
+    let k = o + l + n in
+    let sum : k ≡ o + (l + n) = omega arith in
+    let inner : drop o (set tops k v) ≡ set (drop o tops) (l + n) v =
+    ap (λ m. drop o (set tops m v)) sum ∙ drop-set-add o tops (l + n) v in
+    let operands : take o (set tops k v) ≡ take o tops = take-set-le o tops k v (omega arith) in
+    let locals : take l (drop o (set tops k v)) ≡ take l (drop o tops) = ap (take l) inner ∙ take-set-le l (drop o tops) (l + n) v (omega arith) in
+    let outer : drop l (drop o (set tops k v)) ≡ set (drop l (drop o tops)) n v = ap (drop l) inner ∙ drop-set-add l (drop o tops) n v in
+    let arguments : take a (drop l (drop o (set tops k v))) ≡ set (take a (drop l (drop o tops))) n v =
+    ap (take a) outer ∙ take-set-lt a (drop l (drop o tops)) n v less in
+    let rest : drop a (drop l (drop o (set tops k v))) ≡ drop a (drop l (drop o tops)) = ap (drop a) outer ∙ drop-set-lt a (drop l (drop o tops)) n v less in
+    λ i. record {
+      newest =
+          record (frame_of tops mark) {
+            operands = operands i;
+            locals = locals i;
+            arguments = arguments i;
+          };
+      older = older_of (rest i) older;
+    }
+
+-- ---- dropping operands
+
+drop-drop : (m n : ℕ) (xs : List Holder) → drop m (drop n xs) ≡ drop (n + m) xs
+drop-drop m zero xs = let none : m ≡ 0 + m = omega arith in ap (λ n. drop n xs) none
+drop-drop m (suc n) [] = drop_all m [] (omega arith) ∙ sym (drop_all (suc n + m) [] (omega arith))
+drop-drop m (suc n) (x ∷ xs) =
+    let one_more : suc (n + m) ≡ suc n + m = omega arith in
+    drop-drop m n xs ∙ ap (λ k. drop k (x ∷ xs)) one_more
+
+drop-take : (n o : ℕ) (xs : List Holder) → drop n (take o xs) ≡ take (o - n) (drop n xs)
+drop-take zero o xs = let all : o ≡ o - 0 = omega arith in ap (λ n. take n xs) all
+drop-take (suc n) zero xs = let none : 0 ≡ 0 - suc n = omega arith in ap (λ k. take k (drop (suc n) xs)) none
+drop-take (suc n) (suc o) [] = sym (take_all (suc o - suc n) [] (omega arith))
+drop-take (suc n) (suc o) (x ∷ xs) =
+    let same : o - n ≡ suc o - suc n = omega arith in
+    drop-take n o xs ∙ ap (λ k. take k (drop n xs)) same
+
+drop-min : (count o : ℕ) (xs : List Holder) → length xs ≤ o → drop (min count o) xs ≡ drop count xs
+drop-min zero o xs le = let none : min 0 o ≡ 0 = omega arith in ap (λ n. drop n xs) none
+drop-min (suc count) o [] le = drop_all (min (suc count) o) [] (omega arith)
+drop-min (suc count) zero (x ∷ xs) le = absurd (omega (arith, le))
+drop-min (suc count) (suc o) (x ∷ xs) le =
+    let less : min (suc count) (suc o) ≡ suc (min count o) = omega arith in
+    ap (λ n. drop n (x ∷ xs)) less ∙ drop-min count o xs (omega (arith, le))
+
+pub drops : (tops : List Holder) (mark : FrameMark) (older : List FrameMark) (count : ℕ)
+    → frames_of (drop (min count mark.operands) tops) (record mark { operands = mark.operands - min count mark.operands }) older
+    ≡ of_newest (with_operands (drop count (take mark.operands tops))) (frames_of tops mark older)
+drops tops mark older count =
+    let o = mark.operands in
+    let d = min count o in
+    let inner : drop (o - d) (drop d tops) ≡ drop o tops = drop-drop (o - d) d tops ∙ ap (λ n. drop n tops) (omega arith) in
+    let operands : take (o - d) (drop d tops) ≡ drop count (take o tops) = sym (drop-take d o tops) ∙ drop-min count o (take o tops) (omega (arith, length-take o tops)) in
+    λ i. record {
+      newest =
+          record (frame_of tops mark) {
+            operands = operands i;
+            locals = take mark.locals (inner i);
+            arguments = take mark.arguments (drop mark.locals (inner i));
+          };
+      older = older_of (drop mark.arguments (drop mark.locals (inner i))) older;
+    }
+
+-- ---- the first frame
+
+pub begins : (method locals : ℕ) (items cleared : List Holder) (older : List FrameMark) (mark : FrameMark) → items ≡ cleared ++ replicate locals Nil
+    → cleared ≡ [] → older ≡ []
+    → mark ≡ record { method = method; place = method + 10; next = method + 10; arguments = 0; locals = locals; operands = 0; this = Nil; defining = 0; gives = None }
+    → frames_of (reverse items) mark (reverse older) ≡ record { newest = begun method locals; older = [] }
+begins method locals items cleared older mark is empty none same =
+    let tops : reverse items ≡ replicate locals Nil = ap reverse (is ∙ ap (λ (t : List Holder). t ++ replicate locals Nil) empty) ∙ reverse-replicate locals in
+    let all : take locals (replicate locals Nil) ≡ replicate locals Nil = take_all locals (replicate locals Nil) (omega (arith, length-replicate locals Nil)) in
+    (λ i. frames_of (tops i) (same i) (reverse (none i)))
+    ∙ (λ i. record { newest = record (begun method locals) { locals = all i }; older = [] })

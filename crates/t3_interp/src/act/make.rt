@@ -1,0 +1,111 @@
+//! Built-in functions.
+ghost use Rattle.std.specs.Prelude.{◌≡◌, ◌≤◌, ◌++◌, length, take, drop, IfOk, reverse, option_map, string_bytes};
+ghost use Rattle.t3_interp.specs.Step.{program_of};
+ghost use Rattle.t3_interp.specs.Values.{said_text, said_texts};
+ghost use Rattle.t3_interp.specs.Instructions.{make_action, builtin_action, io_action, says};
+ghost use Rattle.t3_interp.specs.Inner.Acting.{HasAction, Appends};
+
+use crate::effect::Effect;
+use crate::event::CodeWhy;
+use crate::loader::Program;
+use crate::machine::Core;
+use std::alloc::{AllocError, Global};
+use t3_holder::{Bytes, Holder, NoMemory};
+use t3_methods::MakeCode;
+use t3_ops::Fault;
+
+/// The index of the function that says values.
+const SAY: u8 = 0;
+
+/// The index of the function that takes a line of input, which isn't built yet.
+const INPUT_LINE: u8 = 4;
+
+/// Carries out an instruction that calls a built-in function. Those that make objects, throw, say or look
+/// into objects aren't built yet.
+pub(super) fn make(
+    alloc: Global,
+    program: &Program,
+    core: &mut Core,
+    code: MakeCode,
+) -> Result<Effect, NoMemory>
+    ensures { IfOk result (λ effect. HasAction (make_action (program_of program.now) code) core.old effect
+        core.new) }
+{
+    match code {
+        MakeCode::Builtina(count, index) => builtin(alloc, program, core, 0, index, count),
+        MakeCode::Builtinb(count, index) => builtin(alloc, program, core, 1, index, count),
+        MakeCode::Builtinc(count, index) => builtin(alloc, program, core, 2, index, count),
+        MakeCode::Builtind(count, index) => builtin(alloc, program, core, 3, index, count),
+        MakeCode::Builtin1(count, index, set) => builtin(alloc, program, core, set, index, count),
+        _ => Ok(Effect::Stop(CodeWhy::Unbuilt)),
+    }
+}
+
+/// Calls a function of a set, with so many operands. Set 0 is that for input and output where the image has
+/// it, and there is no other.
+fn builtin(
+    alloc: Global,
+    program: &Program,
+    core: &mut Core,
+    set: u8,
+    index: u8,
+    count: u8,
+) -> Result<Effect, NoMemory>
+    ensures { IfOk result (λ effect. HasAction (builtin_action (program_of program.now) set index count) core.old
+        effect core.new) }
+{
+    if !program.has_io || set != 0 {
+        return Ok(Effect::Fault(Fault::NoBuiltin));
+    }
+    match index {
+        SAY => say(alloc, core, count),
+        INPUT_LINE => Ok(Effect::Stop(CodeWhy::Unbuilt)),
+        _ => Ok(Effect::Fault(Fault::NoBuiltin)),
+    }
+}
+
+/// Says so many operands, the topmost first.
+fn say(alloc: Global, core: &mut Core, count: u8) -> Result<Effect, NoMemory>
+    ensures { IfOk result (λ effect. HasAction (λ context. says count
+        (said_texts (take count context.frame.operands)) (drop count context.frame.operands) context)
+        core.old effect core.new) }
+{
+    if count == 0 {
+        return Ok(Effect::Fault(Fault::ArgCount));
+    }
+    match joined(alloc, core.frames.topmost(count))? {
+        Some(text) => {
+            core.frames.drop_operands(count);
+            core.register = Holder::Nil;
+            Ok(Effect::Say(Bytes(text.into_bytes())))
+        }
+        None => Ok(Effect::Fault(Fault::Kind)),
+    }
+}
+
+/// The texts of values, of which the first stands last, joined. `None` where one of them has none.
+fn joined(alloc: Global, values: &[Holder]) -> Result<Option<String>, AllocError>
+    ensures { IfOk result (λ text. option_map string_bytes text ≡ said_texts (reverse values.now)) }
+{
+    let mut text = String::new(alloc);
+    for nth in 0..values.len() {
+        if !append(values[values.len() - 1 - nth], &mut text)? {
+            return Ok(None);
+        }
+    }
+    Ok(Some(text))
+}
+
+/// Appends the text in which a value is said, and tells whether it has one.
+fn append(value: Holder, text: &mut String) -> Result<bool, AllocError>
+    ensures { IfOk result
+        (λ has. Appends (string_bytes text.old) (said_text value) has (string_bytes text.new)) }
+{
+    match value {
+        Holder::Nil => {}
+        Holder::True => text.push_str("true")?,
+        Holder::Int(number) => write!(text, "{number}")?,
+        _ => return Ok(false),
+    }
+    Ok(true)
+}

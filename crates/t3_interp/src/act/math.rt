@@ -1,0 +1,136 @@
+//! Computing of the topmost operands, which the result takes the place of.
+ghost use Rattle.std.specs.Prelude.{◌≡◌, ◌<◌};
+ghost use Rattle.t3_frames.specs.Frame.{values, room};
+ghost use Rattle.t3_interp.specs.Instructions.{math_action, one, two, with_number, both, telling, truth_told, gives};
+ghost use Rattle.t3_interp.specs.Values.{truth_value as truth_value_of};
+ghost use Rattle.t3_interp.specs.Inner.Acting.{HasAction};
+
+use crate::effect::Effect;
+use crate::event::CodeWhy;
+use crate::machine::Core;
+use crate::relation::{Relation, related};
+use t3_holder::Holder;
+use t3_methods::MathCode;
+use t3_ops::{ArithOp, Fault, arith, truth};
+
+/// Carries out an instruction that computes.
+#[inline(always)]
+pub(super) fn math(core: &mut Core, code: MathCode) -> Effect
+    ensures { HasAction (math_action code) core.old result core.new }
+{
+    match code {
+        MathCode::Neg => number_and(core, ArithOp::Sub, 0),
+        MathCode::Bnot => number_and(core, ArithOp::Sub, -1),
+        MathCode::Add => pair(core, ArithOp::Add),
+        MathCode::Sub => pair(core, ArithOp::Sub),
+        MathCode::Mul => pair(core, ArithOp::Mul),
+        MathCode::Band => pair(core, ArithOp::And),
+        MathCode::Bor => pair(core, ArithOp::Or),
+        MathCode::Shl => pair(core, ArithOp::Shl),
+        MathCode::Ashr => pair(core, ArithOp::Ashr),
+        MathCode::Xor => pair(core, ArithOp::Xor),
+        MathCode::Div => pair(core, ArithOp::Div),
+        MathCode::Mod => pair(core, ArithOp::Mod),
+        MathCode::Not => tell_truth(core, false),
+        MathCode::Boolize => tell_truth(core, true),
+        MathCode::Inc => number_and(core, ArithOp::Add, 1),
+        MathCode::Dec => number_and(core, ArithOp::Add, -1),
+        MathCode::Lshr => pair(core, ArithOp::Lshr),
+        MathCode::Eq => tell(core, Relation::Equal),
+        MathCode::Ne => tell(core, Relation::Unequal),
+        MathCode::Lt => tell(core, Relation::Less),
+        MathCode::Le => tell(core, Relation::AtMost),
+        MathCode::Gt => tell(core, Relation::Greater),
+        MathCode::Ge => tell(core, Relation::AtLeast),
+    }
+}
+
+/// Computes of a number and the topmost operand, in this order.
+#[inline(always)]
+fn number_and(core: &mut Core, op: ArithOp, number: i32) -> Effect
+    ensures { HasAction (one (with_number op number)) core.old result core.new }
+{
+    let Some(value) = core.frames.pop() else {
+        return Effect::Stop(CodeWhy::Underflow);
+    };
+    give(core, computed(op, Holder::Int(number), value))
+}
+
+/// Computes of the two topmost operands, of which the topmost is the right one.
+#[inline(always)]
+fn pair(core: &mut Core, op: ArithOp) -> Effect
+    ensures { HasAction (two (both op)) core.old result core.new }
+{
+    let Some(right) = core.frames.pop() else {
+        return Effect::Stop(CodeWhy::Underflow);
+    };
+    let Some(left) = core.frames.pop() else {
+        return Effect::Stop(CodeWhy::Underflow);
+    };
+    give(core, computed(op, left, right))
+}
+
+/// Tells whether the two topmost operands are so to each other, of which the topmost is the right one.
+#[inline(always)]
+fn tell(core: &mut Core, relation: Relation) -> Effect
+    ensures { HasAction (two (telling relation)) core.old result core.new }
+{
+    let Some(right) = core.frames.pop() else {
+        return Effect::Stop(CodeWhy::Underflow);
+    };
+    let Some(left) = core.frames.pop() else {
+        return Effect::Stop(CodeWhy::Underflow);
+    };
+    give(core, told(relation, left, right))
+}
+
+/// Tells whether the topmost operand has this truth.
+#[inline(always)]
+fn tell_truth(core: &mut Core, wanted: bool) -> Effect
+    ensures { HasAction (one (truth_told wanted)) core.old result core.new }
+{
+    let Some(value) = core.frames.pop() else {
+        return Effect::Stop(CodeWhy::Underflow);
+    };
+    give(core, Ok(truth_value(truth(value) == wanted)))
+}
+
+/// Puts a result on top, in the place of operands that were taken off.
+#[inline(always)]
+fn give(core: &mut Core, outcome: Result<Holder, Fault>) -> Effect
+    requires { values core.old.frames < room }
+    ensures { HasAction (λ context. gives outcome context.frame.operands context) core.old result core.new }
+{
+    match outcome {
+        Ok(value) => {
+            core.frames.push(value);
+            Effect::Next
+        }
+        Err(fault) => Effect::Fault(fault),
+    }
+}
+
+/// What an operation gives of two values.
+#[inline(always)]
+pub(super) fn computed(op: ArithOp, left: Holder, right: Holder) -> Result<Holder, Fault>
+    ensures { result ≡ both op left right }
+{
+    match (left, right) {
+        (Holder::Int(left), Holder::Int(right)) => Ok(Holder::Int(arith(op, left, right)?)),
+        _ => Err(Fault::Kind),
+    }
+}
+
+fn told(relation: Relation, left: Holder, right: Holder) -> Result<Holder, Fault>
+    ensures { result ≡ telling relation left right }
+{
+    Ok(truth_value(related(relation, left, right)?))
+}
+
+/// The value by which a truth is told.
+#[inline(always)]
+fn truth_value(is: bool) -> Holder
+    ensures { result ≡ truth_value_of is }
+{
+    if is { Holder::True } else { Holder::Nil }
+}

@@ -1,0 +1,20 @@
+use crate::event::CodeWhy;
+use t3_holder::Bytes;
+use t3_ops::Fault;
+
+/// What an instruction asks for.
+#[derive(Debug, Drop)]
+pub(crate) enum Effect {
+    /// To go on at the next instruction.
+    Next,
+    /// To go on at an address, or at what is none.
+    Jump(Option<u32>),
+    /// To return. The register has been set.
+    Return,
+    /// To say a text to the console, and go on.
+    Say(Bytes),
+    /// To make the exception of a fault, and throw it.
+    Fault(Fault),
+    /// To end the run, since nothing can be carried out at the frame's place.
+    Stop(CodeWhy),
+}

@@ -1,0 +1,57 @@
+//! What steps do, and how a run ends.
+use t3_holder::Bytes;
+use t3_ops::Fault;
+
+/// Why no instruction is carried out at an address.
+#[derive(Clone, Copy, Debug, PartialEq, Eq)]
+pub enum CodeWhy {
+    /// No byte of code stands there.
+    NoByte,
+    /// The byte that stands there is no opcode.
+    Opcode(u8),
+    /// The operands don't stand there whole.
+    Operand,
+    /// No method header stands there.
+    Header,
+    /// The exception table that the method's header names isn't whole.
+    Table,
+    /// The instruction takes more operands than there are.
+    Underflow,
+    /// The instruction names a local that its method hasn't.
+    Local,
+    /// The instruction names an argument that its method hasn't got.
+    Argument,
+    /// The instruction can't be carried out yet.
+    Unbuilt,
+}
+
+/// How a run ends by itself.
+#[derive(Clone, Copy, Debug, PartialEq, Eq)]
+pub enum End {
+    /// The entry method returned.
+    Returned,
+    /// An object was thrown, by this fault, and nothing caught it.
+    Unhandled { object: u32, fault: Fault },
+    /// At an address of code nothing could be carried out.
+    BadCode { at: u32, why: CodeWhy },
+}
+
+/// What a step did.
+#[derive(Debug, Drop)]
+pub enum Event {
+    /// It went on, and said nothing.
+    Went,
+    /// It said a text, which may be empty.
+    Said(Bytes),
+    /// It ended the run.
+    Ended(End),
+}
+
+/// What a machine wants next.
+#[derive(Clone, Copy, Debug, PartialEq, Eq)]
+pub enum Want {
+    /// To make a step.
+    Go,
+    /// Nothing: the run has ended.
+    Nothing,
+}
