@@ -1,5 +1,5 @@
-//! The instruction at an address: its bytes are looked at once, its row is found by the opcode, and then
-//! whether the operands stand whole.
+//! The instruction at an address: its row is found by the opcode, its operands are read where they stand,
+//! and then whether they stand whole.
 ghost use Rattle.std.specs.Prelude.{◌≡◌, ◌+◌, ◌<◌, ◌^◌, IfOk};
 ghost use Rattle.t3_methods.specs.Answers.{FindsInstr, found_of, IsOfRow};
 ghost use Rattle.t3_methods.specs.Inner.Window.{Shows};
@@ -7,7 +7,7 @@ ghost use Rattle.t3_methods.specs.Inner.Decoding.{FindsInWindow};
 
 use crate::decoded::Decoded;
 use crate::instr::Instr;
-use crate::operands::operands_end;
+use crate::operands::instruction_end;
 use crate::refusal::CodeRefusal;
 use crate::rows::row_at;
 use crate::window::{WINDOW_SIZE, Window};
@@ -40,7 +40,9 @@ pub fn decode_at(pools: &Pools, address: u32) -> Result<Decoded, CodeRefusal>
     let window = Window::in_page(pools, address);
     match decode(pools, &window) {
         Ok(decoded) => Ok(decoded),
-        Err(CodeRefusal::Operand) if window.count < WINDOW_SIZE => decode_over(pools, address),
+        Err(CodeRefusal::Operand) if window.bytes.len() < WINDOW_SIZE => decode_over(
+            pools, address,
+        ),
         Err(refusal) => Err(refusal),
     }
 }
@@ -53,31 +55,32 @@ fn decode_over(pools: &Pools, address: u32) -> Result<Decoded, CodeRefusal>
     ensures row { IfOk result IsOfRow }
     ensures within { IfOk result (λ decoded. address + decoded.size < 2 ^ 31) }
 {
-    let window = Window::at(pools, address);
+    let mut room = [0; WINDOW_SIZE];
+    let window = Window::at(pools, address, &mut room);
     decode(pools, &window)
 }
 
 /// The instruction at the front of a window, as far as that tells.
 #[inline(always)]
 fn decode(pools: &Pools, window: &Window) -> Result<Decoded, CodeRefusal>
-    requires { Shows pools.now.code window.now.address window.now }
+    requires { Shows pools.now.code window.now.address window.now.bytes.now }
     ensures finds { FindsInWindow pools.now.code window.now (found_of result) }
     ensures row { IfOk result IsOfRow }
     ensures within { IfOk result (λ decoded. window.now.address + decoded.size < 2 ^ 31) }
 {
-    if window.count == 0 {
+    if window.bytes.is_empty() {
         return Err(CodeRefusal::NoByte);
     }
     let opcode = window.ubyte(0);
     let Some(row) = row_at(opcode, window) else {
         return Err(CodeRefusal::Opcode(opcode));
     };
-    let Some(size) = operands_end(pools, window, 1, row.kinds) else {
+    let Some(size) = instruction_end(pools, window, row.end, row.is_plain, row.kinds) else {
         return Err(CodeRefusal::Operand);
     };
     Ok(Decoded {
         instr: row.code,
-        size: size as u32,
+        size,
         takes: row.takes,
         slot: row.slot,
     })
