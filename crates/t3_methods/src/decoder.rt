@@ -23,7 +23,7 @@ pub fn instr_at(pools: &Pools, address: u32) -> Result<(Instr, u32), CodeRefusal
     ensures finds { FindsInstr pools.now.code address result }
     ensures within { IfOk result (λ found. address + found.1 < 2 ^ 31) }
 {
-    match decode_at(pools, address) {
+    match decode_over(pools, address) {
         Ok(decoded) => Ok((decoded.instr, decoded.size)),
         Err(refusal) => Err(refusal),
     }
@@ -38,7 +38,7 @@ pub fn decode_at(pools: &Pools, address: u32) -> Result<Decoded, CodeRefusal>
     ensures within { IfOk result (λ decoded. address + decoded.size < 2 ^ 31) }
 {
     let window = Window::in_page(pools, address);
-    match decode(pools, &window) {
+    match decode::<true>(pools, &window) {
         Ok(decoded) => Ok(decoded),
         Err(CodeRefusal::Operand) if window.bytes.len() < WINDOW_SIZE => decode_over(
             pools, address,
@@ -57,12 +57,11 @@ fn decode_over(pools: &Pools, address: u32) -> Result<Decoded, CodeRefusal>
 {
     let mut room = [0; WINDOW_SIZE];
     let window = Window::at(pools, address, &mut room);
-    decode(pools, &window)
+    decode::<false>(pools, &window)
 }
 
-/// The instruction at the front of a window, as far as that tells.
-#[inline(always)]
-fn decode(pools: &Pools, window: &Window) -> Result<Decoded, CodeRefusal>
+/// The instruction at the front of a window, as far as that tells. Of `HOT`, see `row_at`.
+fn decode<const HOT: bool>(pools: &Pools, window: &Window) -> Result<Decoded, CodeRefusal>
     requires { Shows pools.now.code window.now.address window.now.bytes.now }
     ensures finds { FindsInWindow pools.now.code window.now (found_of result) }
     ensures row { IfOk result IsOfRow }
@@ -72,10 +71,10 @@ fn decode(pools: &Pools, window: &Window) -> Result<Decoded, CodeRefusal>
         return Err(CodeRefusal::NoByte);
     }
     let opcode = window.ubyte(0);
-    let Some(row) = row_at(opcode, window) else {
+    let Some(row) = row_at::<HOT>(opcode, window) else {
         return Err(CodeRefusal::Opcode(opcode));
     };
-    let Some(size) = instruction_end(pools, window, row.end, row.is_plain, row.kinds) else {
+    let Some(size) = instruction_end(pools, *window, row.end, row.is_plain, row.kinds) else {
         return Err(CodeRefusal::Operand);
     };
     Ok(Decoded {

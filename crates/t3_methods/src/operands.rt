@@ -29,18 +29,18 @@ impl Kind {
 #[inline(always)]
 pub(crate) fn instruction_end(
     pools: &Pools,
-    window: &Window,
+    window: Window,
     end: u32,
     plain: bool,
     kinds: &[Kind],
 ) -> Option<u32>
-    requires shows { Shows pools.now.code window.now.address window.now.bytes.now }
-    requires opcode { 0 < length window.now.bytes.now }
+    requires shows { Shows pools.now.code window.address window.bytes.now }
+    requires opcode { 0 < length window.bytes.now }
     requires end { end ≡ 1 + widths_of kinds.now }
     requires plain { plain ≡ are_plain kinds.now }
     requires room { 1 + widths_of kinds.now ≤ 10 }
     requires last { is_cases_last kinds.now ≡ true }
-    ensures { FindsEnds pools.now.code window.now 1 kinds.now result }
+    ensures { FindsEnds pools.now.code window.entry 1 kinds.now result }
 {
     if !plain {
         return operands_end(pools, window, 1, kinds);
@@ -53,13 +53,13 @@ pub(crate) fn instruction_end(
 
 /// Where operands of these kinds end that begin at a place of a window. `None` where they don't stand
 /// there.
-fn operands_end(pools: &Pools, window: &Window, place: u32, kinds: &[Kind]) -> Option<u32>
-    requires shows { Shows pools.now.code window.now.address window.now.bytes.now }
-    requires opcode { 0 < length window.now.bytes.now }
+fn operands_end(pools: &Pools, window: Window, place: u32, kinds: &[Kind]) -> Option<u32>
+    requires shows { Shows pools.now.code window.address window.bytes.now }
+    requires opcode { 0 < length window.bytes.now }
     requires room { place + widths_of kinds.now ≤ 10 }
-    requires behind { place ≤ length window.now.bytes.now }
+    requires behind { place ≤ length window.bytes.now }
     requires last { is_cases_last kinds.now ≡ true }
-    ensures { FindsEnds pools.now.code window.now place kinds.now result }
+    ensures { FindsEnds pools.now.code window.entry place kinds.now result }
 {
     let Some((kind, rest)) = kinds.split_first() else {
         return Some(place);
@@ -76,11 +76,11 @@ fn operands_end(pools: &Pools, window: &Window, place: u32, kinds: &[Kind]) -> O
 
 /// Where the operand of a kind ends that begins at a place of a window. `None` where none stands there.
 #[inline(always)]
-fn operand_end(pools: &Pools, window: &Window, place: u32, kind: Kind) -> Option<u32>
-    requires shows { Shows pools.now.code window.now.address window.now.bytes.now }
+fn operand_end(pools: &Pools, window: Window, place: u32, kind: Kind) -> Option<u32>
+    requires shows { Shows pools.now.code window.address window.bytes.now }
     requires room { place + width_of kind ≤ 10 }
-    requires behind { place ≤ length window.now.bytes.now }
-    ensures { FindsEnd pools.now.code window.now place kind result }
+    requires behind { place ≤ length window.bytes.now }
+    ensures { FindsEnd pools.now.code window.entry place kind result }
 {
     let end = place + kind.width();
     if window.bytes.len() < end as usize {
@@ -97,8 +97,8 @@ fn operand_end(pools: &Pools, window: &Window, place: u32, kind: Kind) -> Option
 
 /// Whether the number of an operand may stand there: that of a property or of an object isn't 0.
 #[inline(always)]
-fn is_named(window: &Window, place: u32, kind: Kind) -> bool
-    ensures { DecidesNamed kind (number_at (width_of kind) window.now.bytes.now place) result }
+fn is_named(window: Window, place: u32, kind: Kind) -> bool
+    ensures { DecidesNamed kind (number_at (width_of kind) window.entry.bytes.now place) result }
 {
     match kind {
         Kind::Property => window.uint2(place) != 0,
@@ -109,11 +109,11 @@ fn is_named(window: &Window, place: u32, kind: Kind) -> bool
 
 /// Where a switch ends whose count of cases stands at a place of a window. `None` where its cases don't
 /// stand behind that.
-fn cases_end(pools: &Pools, window: &Window, place: u32) -> Option<u32>
-    requires shows { Shows pools.now.code window.now.address window.now.bytes.now }
+fn cases_end(pools: &Pools, window: Window, place: u32) -> Option<u32>
+    requires shows { Shows pools.now.code window.address window.bytes.now }
     requires room { place + 2 ≤ 10 }
-    requires behind { place + 2 ≤ length window.now.bytes.now }
-    ensures { FindsEnd pools.now.code window.now place Cases result }
+    requires behind { place + 2 ≤ length window.bytes.now }
+    ensures { FindsEnd pools.now.code window.entry place Cases result }
 {
     let count = window.uint2(place);
     let first = window.address + place + 2;

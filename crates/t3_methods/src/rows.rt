@@ -17,8 +17,8 @@ pub(crate) struct TableRow<Code> {
     pub(crate) kinds: &'static [Kind],
     /// Where the numbers of the operands end, from the opcode on.
     pub(crate) end: u32,
-    /// Whether the instruction stands wherever so many bytes do: no operand is a property or an object,
-    /// whose number may not be 0, and none is cases.
+    /// Whether the instruction stands wherever so many bytes do: no operand is a property or an
+    /// object, whose number may not be 0, and none is cases.
     pub(crate) is_plain: bool,
     pub(crate) takes: u32,
     pub(crate) slot: Slot,
@@ -28,59 +28,60 @@ pub(crate) struct TableRow<Code> {
 /// instruction, how many values it takes off the stack or looks at there, and the local or argument
 /// that it names, if it names one.
 ///
-/// The operands are read one behind the other: `$at` is where the next one stands, and `$plain` whether
-/// those in front of it are plain.
+/// The operands are read one behind the other: `$at` is where the next one stands, and `$plain`
+/// whether those in front of it leave the row plain.
 macro_rules! row {
     ($name:literal [] $code:expr, $takes:expr) => {
         row!(@read none, 1, true, [] { $name [] $code, $takes, NoSlot })
     };
-    ($name:literal [$($kind:ident $operand:ident),*] in $window:ident, $code:expr, $takes:expr) => {
-        row!($name [$($kind $operand),*] in $window, $code, $takes, NoSlot)
+    ($name:literal [$($kind:ident $value:ident),*] in $window:ident, $code:expr, $takes:expr) => {
+        row!($name [$($kind $value),*] in $window, $code, $takes, NoSlot)
     };
     (
-        $name:literal [$($kind:ident $operand:ident),*] in $window:ident, $code:expr, $takes:expr,
+        $name:literal [$($kind:ident $value:ident),*] in $window:ident, $code:expr, $takes:expr,
         $slot:expr
     ) => {
-        row!(@read $window, 1, true, [$($kind $operand)*] { $name [$($kind)*] $code, $takes, $slot })
+        row!(@read $window, 1, true, [$($kind $value)*]
+            { $name [$($kind)*] $code, $takes, $slot })
     };
-    (@read $window:ident, $at:expr, $plain:literal, [Ubyte $operand:ident $($rest:tt)*] $row:tt) => {{
-        let $operand = $window.ubyte($at);
+    (@read $window:ident, $at:expr, $plain:tt, [Ubyte $value:ident $($rest:tt)*] $row:tt) => {{
+        let $value = $window.ubyte($at);
         row!(@read $window, $at + 1, $plain, [$($rest)*] $row)
     }};
-    (@read $window:ident, $at:expr, $plain:literal, [Sbyte $operand:ident $($rest:tt)*] $row:tt) => {{
-        let $operand = $window.sbyte($at);
+    (@read $window:ident, $at:expr, $plain:tt, [Sbyte $value:ident $($rest:tt)*] $row:tt) => {{
+        let $value = $window.sbyte($at);
         row!(@read $window, $at + 1, $plain, [$($rest)*] $row)
     }};
-    (@read $window:ident, $at:expr, $plain:literal, [Uint2 $operand:ident $($rest:tt)*] $row:tt) => {{
-        let $operand = $window.uint2($at);
+    (@read $window:ident, $at:expr, $plain:tt, [Uint2 $value:ident $($rest:tt)*] $row:tt) => {{
+        let $value = $window.uint2($at);
         row!(@read $window, $at + 2, $plain, [$($rest)*] $row)
     }};
-    (@read $window:ident, $at:expr, $plain:literal, [Jump $operand:ident $($rest:tt)*] $row:tt) => {{
-        let $operand = $window.int2($at);
+    (@read $window:ident, $at:expr, $plain:tt, [Jump $value:ident $($rest:tt)*] $row:tt) => {{
+        let $value = $window.int2($at);
         row!(@read $window, $at + 2, $plain, [$($rest)*] $row)
     }};
-    (@read $window:ident, $at:expr, $plain:literal, [Uint4 $operand:ident $($rest:tt)*] $row:tt) => {{
-        let $operand = $window.uint4($at);
+    (@read $window:ident, $at:expr, $plain:tt, [Uint4 $value:ident $($rest:tt)*] $row:tt) => {{
+        let $value = $window.uint4($at);
         row!(@read $window, $at + 4, $plain, [$($rest)*] $row)
     }};
-    (@read $window:ident, $at:expr, $plain:literal, [Int4 $operand:ident $($rest:tt)*] $row:tt) => {{
-        let $operand = $window.int4($at);
+    (@read $window:ident, $at:expr, $plain:tt, [Int4 $value:ident $($rest:tt)*] $row:tt) => {{
+        let $value = $window.int4($at);
         row!(@read $window, $at + 4, $plain, [$($rest)*] $row)
     }};
-    (@read $window:ident, $at:expr, $plain:literal, [Property $operand:ident $($rest:tt)*] $row:tt) => {{
-        let $operand = $window.uint2($at);
+    (@read $window:ident, $at:expr, $plain:tt, [Property $value:ident $($rest:tt)*] $row:tt) => {{
+        let $value = $window.uint2($at);
         row!(@read $window, $at + 2, false, [$($rest)*] $row)
     }};
-    (@read $window:ident, $at:expr, $plain:literal, [Object $operand:ident $($rest:tt)*] $row:tt) => {{
-        let $operand = $window.uint4($at);
+    (@read $window:ident, $at:expr, $plain:tt, [Object $value:ident $($rest:tt)*] $row:tt) => {{
+        let $value = $window.uint4($at);
         row!(@read $window, $at + 4, false, [$($rest)*] $row)
     }};
-    (@read $window:ident, $at:expr, $plain:literal, [Cases $operand:ident $($rest:tt)*] $row:tt) => {{
-        let $operand = $window.uint2($at);
+    (@read $window:ident, $at:expr, $plain:tt, [Cases $value:ident $($rest:tt)*] $row:tt) => {{
+        let $value = $window.uint2($at);
         row!(@read $window, $at + 2, false, [$($rest)*] $row)
     }};
     (
-        @read $window:ident, $end:expr, $plain:literal, []
+        @read $window:ident, $end:expr, $plain:tt, []
         { $name:literal [$($kind:ident)*] $code:expr, $takes:expr, $slot:expr }
     ) => {
         Some(TableRow {
@@ -327,8 +328,10 @@ macro_rules! among {
 }
 
 /// The row of an opcode, its operands as the window says them. `None` where no row has the opcode.
-#[inline(always)]
-pub(crate) fn row_at(opcode: u8, window: &Window) -> Option<TableRow<Instr>>
+///
+/// A function of this size becomes part of its caller only where it has no other, so there are two:
+/// the hot one has one caller, which a step of a machine goes through.
+pub(crate) fn row_at<const HOT: bool>(opcode: u8, window: &Window) -> Option<TableRow<Instr>>
     requires { window.now.address < 2 ^ 31 }
     ensures { FindsRow row_of opcode window.now result }
 {

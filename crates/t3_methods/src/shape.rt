@@ -24,7 +24,7 @@ pub fn shape_of(opcode: u8) -> Option<Shape>
         address: 0,
         bytes: &[],
     };
-    match row_at(opcode, &window) {
+    match row_at::<false>(opcode, &window) {
         Some(row) => Some(Shape {
             name: row.name,
             kinds: row.kinds,

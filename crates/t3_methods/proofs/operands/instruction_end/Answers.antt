@@ -11,12 +11,12 @@ returns-then-window-end c =
     let plain : are_plain kinds ≡ true = sym c.requires.plain ∙ c.if-not-plain.false in
     let less = c.if-window-end.true in
     let some = c.requires.opcode in
-    ends_missing c.args.pools.now.code c.args.window.now 1 kinds shows (omega arith) c.requires.room plain (omega (arith, c.requires.end))
+    ends_missing c.args.pools.now.code c.args.window 1 kinds shows (omega arith) c.requires.room plain (omega (arith, c.requires.end))
 
 pub returns : goal.returns
 returns c =
     let code = c.args.pools.now.code in
-    let w = c.args.window.now in
+    let w = c.args.window in
     let kinds = c.args.kinds.now in
     let plain : are_plain kinds ≡ true = sym c.requires.plain ∙ c.if-not-plain.false in
     let enough = c.if-window-end.false in
