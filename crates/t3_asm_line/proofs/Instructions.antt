@@ -7,21 +7,6 @@ use Rattle.t3_methods.specs.Operands.{Operand, kind_of}
 use Rattle.std.specs.Option.{option_map}
 use Rattle.std.specs.Str.{bytes_eq}
 use Rattle.t3_methods.specs.declared.instr.Instr.{Instr}
-use Rattle.t3_methods.specs.declared.instr.Instr.TheVariants as of
-use Rattle.t3_methods.specs.declared.instr.PushCode.{PushCode}
-use Rattle.t3_methods.specs.declared.instr.PushCode.TheVariants.{Push0, Push1, Pushint8, Pushint, Pushstr, Pushlst, Pushobj, Pushnil, Pushtrue, Pushpropid, Pushfnptr, Pushenum}
-use Rattle.t3_methods.specs.declared.instr.MathCode.{MathCode}
-use Rattle.t3_methods.specs.declared.instr.MathCode.TheVariants.{Neg, Bnot, Add, Sub, Mul, Band, Bor, Shl, Ashr, Xor, Div, Mod, Not, Boolize, Inc, Dec, Lshr, Eq, Ne, Lt, Le, Gt, Ge}
-use Rattle.t3_methods.specs.declared.instr.CallCode.{CallCode}
-use Rattle.t3_methods.specs.declared.instr.CallCode.TheVariants.{Retval, Retnil, Rettrue, Ret, Call, Ptrcall, Getprop, Callprop, Ptrcallprop, Getpropself, Callpropself, Ptrcallpropself, Objgetprop, Objcallprop, Inherit, Expinherit, Delegate}
-use Rattle.t3_methods.specs.declared.instr.StackCode.{StackCode}
-use Rattle.t3_methods.specs.declared.instr.StackCode.TheVariants.{Getlcl1, Getlcl2, Getarg1, Getarg2, Pushself, Getargc, Dup, Disc, Disc1, Getr0, Swap}
-use Rattle.t3_methods.specs.declared.instr.JumpCode.{JumpCode}
-use Rattle.t3_methods.specs.declared.instr.JumpCode.TheVariants.{Switch, Jmp, Jt, Jf, Je, Jne, Jgt, Jge, Jlt, Jle, Jst, Jsf, Ljsr, Lret}
-use Rattle.t3_methods.specs.declared.instr.MakeCode.{MakeCode}
-use Rattle.t3_methods.specs.declared.instr.MakeCode.TheVariants.{Say, Builtina, Builtinb, Builtinc, Builtind, Builtin1, Throw, Sayval, Index, New1, New2, Trnew1, Trnew2}
-use Rattle.t3_methods.specs.declared.instr.LocalCode.{LocalCode}
-use Rattle.t3_methods.specs.declared.instr.LocalCode.TheVariants.{Inclcl, Declcl, Addilcl1, Addilcl4, Addtolcl, Subfromlcl, Zerolcl1, Zerolcl2, Nillcl1, Nillcl2, Onelcl1, Onelcl2, Setlcl1, Setlcl2, Setarg1, Setarg2, Setind, Setprop, Ptrsetprop, Setpropself, Objsetprop, Nop}
 use Rattle.t3_methods.specs.declared.kind.Kind.{Kind}
 use Rattle.t3_methods.specs.Answers.{HasShape, FindsOpcode, IsOpcode}
 use Rattle.std.proofs.lemmas.Bool.{eqb-true, and_parts, ltb-true}
@@ -30,7 +15,9 @@ use Rattle.std.proofs.lemmas.Slice.Eq.{bytes_eq-Decides}
 use Rattle.t3_asm_line.specs.Keywords.{row, row_at}
 use Rattle.t3_asm_line.proofs.Forms.{found}
 use Rattle.t3_methods.specs.InstructionTable.{row_of as instr_row}
-use Rattle.t3_asm_line.specs.Instructions.{every, instr_named, instr_at, field_of, opcode_named, operand_fields}
+use Rattle.t3_methods.specs.EveryInstruction.{every, makers}
+use Rattle.t3_methods.proofs.Table.{by_name, by_opcode}
+use Rattle.t3_asm_line.specs.Instructions.{instr_named, instr_at, field_of, opcode_named, operand_fields}
 
 abbrev opcode_of : Instr → ℕ
 opcode_of instr = (instr_row instr).opcode
@@ -40,148 +27,9 @@ record IsFound (instr : Instr) : Type 0 where
   named : option_map opcode_of (instr_named (instr_row instr).name) ≡ Some (opcode_of instr)
   at : option_map opcode_of (instr_at (opcode_of instr)) ≡ Some (opcode_of instr)
 
-push_found : (code : PushCode) → IsFound (of.Push code)
-unfolding every instr_named instr_at
-push_found Push0 = record { named = refl; at = refl }
-push_found Push1 = record { named = refl; at = refl }
-push_found (Pushint8 z) = record { named = refl; at = refl }
-push_found (Pushint z) = record { named = refl; at = refl }
-push_found (Pushstr d) = record { named = refl; at = refl }
-push_found (Pushlst d) = record { named = refl; at = refl }
-push_found (Pushobj o) = record { named = refl; at = refl }
-push_found Pushnil = record { named = refl; at = refl }
-push_found Pushtrue = record { named = refl; at = refl }
-push_found (Pushpropid p) = record { named = refl; at = refl }
-push_found (Pushfnptr d) = record { named = refl; at = refl }
-push_found (Pushenum d) = record { named = refl; at = refl }
-
-math_found : (code : MathCode) → IsFound (of.Math code)
-unfolding every instr_named instr_at
-math_found Neg = record { named = refl; at = refl }
-math_found Bnot = record { named = refl; at = refl }
-math_found Add = record { named = refl; at = refl }
-math_found Sub = record { named = refl; at = refl }
-math_found Mul = record { named = refl; at = refl }
-math_found Band = record { named = refl; at = refl }
-math_found Bor = record { named = refl; at = refl }
-math_found Shl = record { named = refl; at = refl }
-math_found Ashr = record { named = refl; at = refl }
-math_found Xor = record { named = refl; at = refl }
-math_found Div = record { named = refl; at = refl }
-math_found Mod = record { named = refl; at = refl }
-math_found Not = record { named = refl; at = refl }
-math_found Boolize = record { named = refl; at = refl }
-math_found Inc = record { named = refl; at = refl }
-math_found Dec = record { named = refl; at = refl }
-math_found Lshr = record { named = refl; at = refl }
-math_found Eq = record { named = refl; at = refl }
-math_found Ne = record { named = refl; at = refl }
-math_found Lt = record { named = refl; at = refl }
-math_found Le = record { named = refl; at = refl }
-math_found Gt = record { named = refl; at = refl }
-math_found Ge = record { named = refl; at = refl }
-
-call_found : (code : CallCode) → IsFound (of.Call code)
-unfolding every instr_named instr_at
-call_found Retval = record { named = refl; at = refl }
-call_found Retnil = record { named = refl; at = refl }
-call_found Rettrue = record { named = refl; at = refl }
-call_found Ret = record { named = refl; at = refl }
-call_found (Call n d) = record { named = refl; at = refl }
-call_found (Ptrcall n) = record { named = refl; at = refl }
-call_found (Getprop p) = record { named = refl; at = refl }
-call_found (Callprop n p) = record { named = refl; at = refl }
-call_found (Ptrcallprop n) = record { named = refl; at = refl }
-call_found (Getpropself p) = record { named = refl; at = refl }
-call_found (Callpropself n p) = record { named = refl; at = refl }
-call_found (Ptrcallpropself n) = record { named = refl; at = refl }
-call_found (Objgetprop o p) = record { named = refl; at = refl }
-call_found (Objcallprop n o p) = record { named = refl; at = refl }
-call_found (Inherit n p) = record { named = refl; at = refl }
-call_found (Expinherit n p o) = record { named = refl; at = refl }
-call_found (Delegate n p) = record { named = refl; at = refl }
-
-stack_found : (code : StackCode) → IsFound (of.Stack code)
-unfolding every instr_named instr_at
-stack_found (Getlcl1 b) = record { named = refl; at = refl }
-stack_found (Getlcl2 w) = record { named = refl; at = refl }
-stack_found (Getarg1 b) = record { named = refl; at = refl }
-stack_found (Getarg2 w) = record { named = refl; at = refl }
-stack_found Pushself = record { named = refl; at = refl }
-stack_found Getargc = record { named = refl; at = refl }
-stack_found Dup = record { named = refl; at = refl }
-stack_found Disc = record { named = refl; at = refl }
-stack_found (Disc1 n) = record { named = refl; at = refl }
-stack_found Getr0 = record { named = refl; at = refl }
-stack_found Swap = record { named = refl; at = refl }
-
-jump_found : (code : JumpCode) → IsFound (of.Jump code)
-unfolding every instr_named instr_at
-jump_found (Switch count at) = record { named = refl; at = refl }
-jump_found (Jmp z) = record { named = refl; at = refl }
-jump_found (Jt z) = record { named = refl; at = refl }
-jump_found (Jf z) = record { named = refl; at = refl }
-jump_found (Je z) = record { named = refl; at = refl }
-jump_found (Jne z) = record { named = refl; at = refl }
-jump_found (Jgt z) = record { named = refl; at = refl }
-jump_found (Jge z) = record { named = refl; at = refl }
-jump_found (Jlt z) = record { named = refl; at = refl }
-jump_found (Jle z) = record { named = refl; at = refl }
-jump_found (Jst z) = record { named = refl; at = refl }
-jump_found (Jsf z) = record { named = refl; at = refl }
-jump_found (Ljsr z) = record { named = refl; at = refl }
-jump_found (Lret w) = record { named = refl; at = refl }
-
-make_found : (code : MakeCode) → IsFound (of.Make code)
-unfolding every instr_named instr_at
-make_found (Say d) = record { named = refl; at = refl }
-make_found (Builtina n b) = record { named = refl; at = refl }
-make_found (Builtinb n b) = record { named = refl; at = refl }
-make_found (Builtinc n b) = record { named = refl; at = refl }
-make_found (Builtind n b) = record { named = refl; at = refl }
-make_found (Builtin1 n b c) = record { named = refl; at = refl }
-make_found Throw = record { named = refl; at = refl }
-make_found Sayval = record { named = refl; at = refl }
-make_found Index = record { named = refl; at = refl }
-make_found (New1 n b) = record { named = refl; at = refl }
-make_found (New2 w v) = record { named = refl; at = refl }
-make_found (Trnew1 n b) = record { named = refl; at = refl }
-make_found (Trnew2 w v) = record { named = refl; at = refl }
-
-local_found : (code : LocalCode) → IsFound (of.Local code)
-unfolding every instr_named instr_at
-local_found (Inclcl w) = record { named = refl; at = refl }
-local_found (Declcl w) = record { named = refl; at = refl }
-local_found (Addilcl1 b z) = record { named = refl; at = refl }
-local_found (Addilcl4 w z) = record { named = refl; at = refl }
-local_found (Addtolcl w) = record { named = refl; at = refl }
-local_found (Subfromlcl w) = record { named = refl; at = refl }
-local_found (Zerolcl1 b) = record { named = refl; at = refl }
-local_found (Zerolcl2 w) = record { named = refl; at = refl }
-local_found (Nillcl1 b) = record { named = refl; at = refl }
-local_found (Nillcl2 w) = record { named = refl; at = refl }
-local_found (Onelcl1 b) = record { named = refl; at = refl }
-local_found (Onelcl2 w) = record { named = refl; at = refl }
-local_found (Setlcl1 b) = record { named = refl; at = refl }
-local_found (Setlcl2 w) = record { named = refl; at = refl }
-local_found (Setarg1 b) = record { named = refl; at = refl }
-local_found (Setarg2 w) = record { named = refl; at = refl }
-local_found Setind = record { named = refl; at = refl }
-local_found (Setprop p) = record { named = refl; at = refl }
-local_found Ptrsetprop = record { named = refl; at = refl }
-local_found (Setpropself p) = record { named = refl; at = refl }
-local_found (Objsetprop o p) = record { named = refl; at = refl }
-local_found Nop = record { named = refl; at = refl }
-
--- each instruction is among them, with its name and its opcode
 is_found : (instr : Instr) → IsFound instr
-is_found (of.Push code) = push_found code
-is_found (of.Math code) = math_found code
-is_found (of.Call code) = call_found code
-is_found (of.Stack code) = stack_found code
-is_found (of.Jump code) = jump_found code
-is_found (of.Make code) = make_found code
-is_found (of.Local code) = local_found code
+unfolding instr_named instr_at
+is_found instr = record { named = by_name instr; at = by_opcode instr }
 
 -- ---- what is found passes its test
 
@@ -237,7 +85,7 @@ ascii_from (byte ∷ bytes) h zero = ltb-true byte 128 (and_parts (nat_lt byte 1
 ascii_from (byte ∷ bytes) h (suc i) = ascii_from bytes (and_parts (nat_lt byte 128) (list_all (λ b. nat_lt b 128) bytes) h).1 i
 
 ascii_named : (word : List ℕ) (instr : Instr) → instr_named word ≡ Some instr → is_ascii_name instr ≡ true
-unfolding instr_named every
+unfolding instr_named every makers
 ascii_named word instr is = on_some (instr_named word) (λ i. is_ascii_name i ≡ true) instr is (all_pass (λ i. bytes_eq
     (instr_row i).name word) is_ascii_name every refl)
 

@@ -1,5 +1,5 @@
 -- What a decoder finds of an address: an instruction, or why none stands there.
-use Rattle.std.proofs.Common.{◌≡◌, ◌≢◌, ℕ, ◌+◌, List, [], ◌∷◌, map, Some, None, refl, sym, ap, ◌∙◌, subst, arith}
+use Rattle.std.proofs.Common.{◌≡◌, ℕ, ◌+◌, ◌<◌, List, [], ◌∷◌, length, map, Some, None, refl, sym, ap, ◌∙◌, subst, arith}
 use Rattle.std.specs.FinMap.{get}
 use Rattle.t3_pools.specs.Pool.{Pool}
 use Rattle.t3_methods.specs.declared.kind.Kind.{Kind}
@@ -24,39 +24,38 @@ kinds-operands_by address place bytes (kind ∷ kinds) =
     λ i. first i ∷ rest i
 
 -- the opcode that a window begins with
-opcode_there : (code : Pool) (address opcode : ℕ) (w : Window) → Shows code address w → w.count ≢ 0 → opcode ≡ number_at 1 w.bytes 0
-    → get code address ≡ Some opcode
-opcode_there code address opcode w shows some is =
-    let here : address + 0 ≡ address = omega arith in
-    ap (get code) (sym here) ∙ byte_there code address 0 opcode w shows (omega (arith, some)) is
+opcode_there : (code : Pool) (opcode : ℕ) (w : Window) → Shows code w.address w.bytes.now → 0 < length w.bytes.now
+    → opcode ≡ number_at 1 w.bytes.now 0 → get code w.address ≡ Some opcode
+opcode_there code opcode w shows some is =
+    let here : w.address + 0 ≡ w.address = omega arith in
+    ap (get code) (sym here) ∙ byte_there code w.address 0 opcode w.bytes.now shows (omega (arith, some)) is
 
-pub other_there : (code : Pool) (address opcode : ℕ) (w : Window) → Shows code address w → w.count ≢ 0 → opcode ≡ number_at 1 w.bytes 0
-    → HasNoRow row_of opcode → HasOtherByte code address opcode
-other_there code address opcode w shows some is none = record {
-  is = opcode_there code address opcode w shows some is;
+pub other_there : (code : Pool) (opcode : ℕ) (w : Window) → Shows code w.address w.bytes.now → 0 < length w.bytes.now
+    → opcode ≡ number_at 1 w.bytes.now 0 → HasNoRow row_of opcode → HasOtherByte code w.address opcode
+other_there code opcode w shows some is none = record {
+  is = opcode_there code opcode w shows some is;
   other = λ known. none known.0 known.1;
 }
 
-pub stands_there : (code : Pool) (address opcode end : ℕ) (w : Window) (found : TableRow Instr) → Shows code address w → w.count ≢ 0
-    → opcode ≡ number_at 1 w.bytes 0 → IsRow row_of opcode w found → EndsOperands code w 1 found.kinds.now end → Stands code address found.code end
-stands_there code address opcode end w found shows some is row ends =
-    let operands : (row_of found.code).operands ≡ operands_by w.address w.bytes 1 found.kinds.now = ap (λ r. r.operands) row.row_is in
-    let here : w.address + 1 ≡ address + 1 = ap (λ n. n + 1) shows.at in
+pub stands_there : (code : Pool) (opcode end : ℕ) (w : Window) (found : TableRow Instr) → Shows code w.address w.bytes.now
+    → 0 < length w.bytes.now → opcode ≡ number_at 1 w.bytes.now 0 → IsRow row_of opcode w found → EndsOperands code w 1 found.kinds.now end
+    → Stands code w.address found.code end
+stands_there code opcode end w found shows some is row ends =
+    let operands : (row_of found.code).operands ≡ operands_by w.address w.bytes.now 1 found.kinds.now = ap (λ r. r.operands) row.row_is in
     record {
-      opcode = opcode_there code address opcode w shows some is ∙ ap Some (sym (ap (λ r. r.opcode) row.row_is));
-      operands = subst (λ (os : List Operand). HasOperands code (address + 1) os) (sym operands)
-          (subst (λ (n : ℕ). HasOperands code n (operands_by w.address w.bytes 1 found.kinds.now)) here ends.have);
+      opcode = opcode_there code opcode w shows some is ∙ ap Some (sym (ap (λ r. r.opcode) row.row_is));
+      operands = subst (λ (os : List Operand). HasOperands code (w.address + 1) os) (sym operands) ends.have;
       size_is = ends.end_is ∙ ap (λ os. 1 + sizes_of os) (sym operands);
     }
 
-pub alone_there : (code : Pool) (address opcode : ℕ) (w : Window) (found : TableRow Instr) → Shows code address w → w.count ≢ 0
-    → opcode ≡ number_at 1 w.bytes 0 → IsRow row_of opcode w found → FindsEnds code w 1 found.kinds.now None → IsWhole code w → HasOpcodeAlone code address
-alone_there code address opcode w found shows some is row none whole =
-    let there = opcode_there code address opcode w shows some is in
+pub alone_there : (code : Pool) (opcode : ℕ) (w : Window) (found : TableRow Instr) → Shows code w.address w.bytes.now
+    → 0 < length w.bytes.now → opcode ≡ number_at 1 w.bytes.now 0 → IsRow row_of opcode w found → FindsEnds code w 1 found.kinds.now None
+    → IsWhole code w.address w.bytes.now → HasOpcodeAlone code w.address
+alone_there code opcode w found shows some is row none whole =
+    let there = opcode_there code opcode w shows some is in
     let known : (row_of found.code).opcode ≡ opcode = ap (λ r. r.opcode) row.row_is in
     let kinds : map kind_of (row_of found.code).operands ≡ found.kinds.now =
-    ap (λ r. map kind_of r.operands) row.row_is ∙ kinds-operands_by w.address 1 w.bytes found.kinds.now in
-    let here : address + 1 ≡ w.address + 1 = ap (λ n. n + 1) (sym shows.at) in
+    ap (λ r. map kind_of r.operands) row.row_is ∙ kinds-operands_by w.address 1 w.bytes.now found.kinds.now in
     record {
       opcode = opcode;
       is = there;
@@ -64,6 +63,5 @@ alone_there code address opcode w found shows some is row none whole =
       bare = λ instr size stands.
           let same : Some (row_of instr).opcode ≡ Some opcode = sym stands.opcode ∙ there in
           let opcode_is : (row_of instr).opcode ≡ opcode = cc in
-          none whole (row_of instr).operands (one_layout instr found.code (opcode_is ∙ sym known) ∙ kinds)
-          (subst (λ (n : ℕ). HasOperands code n (row_of instr).operands) here stands.operands);
+          none whole (row_of instr).operands (one_layout instr found.code (opcode_is ∙ sym known) ∙ kinds) stands.operands;
     }

@@ -1,12 +1,13 @@
 -- Where operands end that stand at a place of a window, and that there are none.
-use Rattle.std.proofs.Common.{◌≡◌, ◌≢◌, ℕ, ◌+◌, ◌*◌, ◌^◌, ◌<◌, ◌≤◌, true, false, ◌==◌, List, [], ◌∷◌, length, map, Option, Some, None, refl, sym, ap, ◌∙◌, subst, arith}
+use Rattle.std.proofs.Common.{◌≡◌, ◌≢◌, ℕ, ◌+◌, ◌*◌, ◌^◌, ◌<◌, ◌≤◌, true, false, ◌==◌, List, [], ◌∷◌, length, map, Option, Some, None, refl, sym, ap, ◌∙◌, subst, arith, inl, inr}
+use Rattle.std.proofs.lemmas.Bool.{cases_lt}
 use Rattle.t3_holder.proofs.Numbers.{length-little_endian}
 use Rattle.t3_pools.specs.Pool.{Pool}
 use Rattle.t3_methods.specs.declared.kind.Kind.{Kind}
 use Rattle.t3_methods.specs.declared.kind.Kind.TheVariants as kinds
 use Rattle.t3_methods.specs.declared.window.Window.{Window}
 use Rattle.t3_methods.specs.Operands.{Operand, Cases, kind_of, width_of, number_of, operand_text, HasRest, HasOperand, HasOperands, size_of, sizes_of}
-use Rattle.t3_methods.specs.Inner.Window.{Shows, number_at, operand_by, operands_by, is_cases_last}
+use Rattle.t3_methods.specs.Inner.Window.{Shows, number_at, operand_by, operands_by, widths_of, are_plain, is_cases_last}
 use Rattle.t3_methods.specs.Inner.Cases.{IsNamed, HasSwitch, operand_in, EndsOperand, FindsEnd, EndsOperands, FindsEnds}
 use Rattle.t3_methods.proofs.Shown.{number_less, number_stands, short}
 use Rattle.t3_methods.proofs.Operating.{operand_by-number_of, kind_of-operand_by, one_number, one_operand, named, operand_there}
@@ -47,61 +48,61 @@ width_some kinds.Property = omega arith
 width_some kinds.Object = omega arith
 width_some kinds.Cases = omega arith
 
-pub end_fixed : (code : Pool) (w : Window) (place : ℕ) (kind : Kind) → Shows code w.address w → place + width_of kind ≤ w.count
-    → IsNamed kind (number_at (width_of kind) w.bytes place) → kind ≢ kinds.Cases → EndsOperand code w place kind (place + width_of kind)
+pub end_fixed : (code : Pool) (w : Window) (place : ℕ) (kind : Kind) → Shows code w.address w.bytes.now → place + width_of kind ≤ length w.bytes.now
+    → IsNamed kind (number_at (width_of kind) w.bytes.now place) → kind ≢ kinds.Cases → EndsOperand code w place kind (place + width_of kind)
 end_fixed code w place kind shows le is other =
-    let n : ℕ = number_at (width_of kind) w.bytes place in
+    let n : ℕ = number_at (width_of kind) w.bytes.now place in
     let at : ℕ = w.address + place in
     let size = size_of-operand_by kind at n other in
-    let less = number_less code w.address place (width_of kind) w shows (omega (arith, shows.few)) in
+    let less = number_less code w.address place (width_of kind) w.bytes.now shows le in
     let some = width_some kind in
     record {
-      has = operand_there code kind at n less (number_stands code w.address place (width_of kind) w shows le) is (rest_none code kind at n other);
+      has = operand_there code kind at n less (number_stands code w.address place (width_of kind) w.bytes.now shows le) is (rest_none code kind at n other);
       end_is = omega (arith, size);
       bounded = omega (arith, shows.bounded (omega arith));
       shown = λ _. le;
     }
 
-pub end_short : (code : Pool) (w : Window) (place : ℕ) (kind : Kind) → place + width_of kind ≤ 10 → place ≤ w.count
-    → w.count < place + width_of kind → FindsEnd code w place kind None
+pub end_short : (code : Pool) (w : Window) (place : ℕ) (kind : Kind) → place + width_of kind ≤ 10 → place ≤ length w.bytes.now
+    → length w.bytes.now < place + width_of kind → FindsEnd code w place kind None
 end_short code w place kind room behind less whole o same has =
     let long : length (operand_text o) ≡ width_of kind = length-little_endian (width_of (kind_of o)) (number_of o) ∙ ap width_of same in
-    short code place (width_of kind) w (operand_text o) whole room behind less long has.number
+    short code w.address place (width_of kind) w.bytes.now (operand_text o) whole room behind less long has.number
 
 -- the number of an operand is the one that the window says
-number_shown : (code : Pool) (w : Window) (place : ℕ) (kind : Kind) (o : Operand) → Shows code w.address w → place + width_of kind ≤ w.count
-    → kind_of o ≡ kind → HasOperand code (w.address + place) o → number_of o ≡ number_at (width_of kind) w.bytes place
+number_shown : (code : Pool) (w : Window) (place : ℕ) (kind : Kind) (o : Operand) → Shows code w.address w.bytes.now → place + width_of kind ≤ length w.bytes.now
+    → kind_of o ≡ kind → HasOperand code (w.address + place) o → number_of o ≡ number_at (width_of kind) w.bytes.now place
 number_shown code w place kind o shows le same has =
-    let less = number_less code w.address place (width_of kind) w shows (omega (arith, shows.few)) in
-    one_number code (w.address + place) _ o kind same less (number_stands code w.address place (width_of kind) w shows le) has
+    let less = number_less code w.address place (width_of kind) w.bytes.now shows le in
+    one_number code (w.address + place) _ o kind same less (number_stands code w.address place (width_of kind) w.bytes.now shows le) has
 
-pub end_unnamed : (code : Pool) (w : Window) (place : ℕ) (kind : Kind) → Shows code w.address w → place + width_of kind ≤ w.count
-    → ¬ IsNamed kind (number_at (width_of kind) w.bytes place) → FindsEnd code w place kind None
+pub end_unnamed : (code : Pool) (w : Window) (place : ℕ) (kind : Kind) → Shows code w.address w.bytes.now → place + width_of kind ≤ length w.bytes.now
+    → ¬ IsNamed kind (number_at (width_of kind) w.bytes.now place) → FindsEnd code w place kind None
 end_unnamed code w place kind shows le none whole o same has =
     let number = number_shown code w place kind o shows le same has in
     none (subst (λ (n : ℕ). IsNamed kind n) number (subst (λ (k : Kind). IsNamed k (number_of o)) same (named o has.fits)))
 
 -- ---- cases
 
-pub end_cases : (code : Pool) (w : Window) (place count : ℕ) → count ≡ number_at 2 w.bytes place → Shows code w.address w → place + 2 ≤ w.count
+pub end_cases : (code : Pool) (w : Window) (place count : ℕ) → count ≡ number_at 2 w.bytes.now place → Shows code w.address w.bytes.now → place + 2 ≤ length w.bytes.now
     → HasSwitch code (w.address + place + 2) count → (w.address + place + 2) + (7 * count + 2) < 2 ^ 31
     → EndsOperand code w place kinds.Cases (place + 4 + 7 * count)
 end_cases code w place count same shows le has below =
-    let n : ℕ = number_at 2 w.bytes place in
+    let n : ℕ = number_at 2 w.bytes.now place in
     let there : HasSwitch code (w.address + place + 2) n = subst (λ (m : ℕ). HasSwitch code (w.address + place + 2) m) same has in
-    let less = number_less code w.address place 2 w shows (omega (arith, shows.few)) in
+    let less = number_less code w.address place 2 w.bytes.now shows le in
     record {
-      has = operand_there code kinds.Cases (w.address + place) n less (number_stands code w.address place 2 w shows le) tt (refl, (there.cases, there.last));
+      has = operand_there code kinds.Cases (w.address + place) n less (number_stands code w.address place 2 w.bytes.now shows le) tt (refl, (there.cases, there.last));
       end_is = omega (arith, same);
       bounded = omega (arith, below, same);
       shown = λ e. absurd (omega (arith, e));
     }
 
-pub end_uncased : (code : Pool) (w : Window) (place count : ℕ) → count ≡ number_at 2 w.bytes place → Shows code w.address w → place + 2 ≤ w.count
+pub end_uncased : (code : Pool) (w : Window) (place count : ℕ) → count ≡ number_at 2 w.bytes.now place → Shows code w.address w.bytes.now → place + 2 ≤ length w.bytes.now
     → ¬ HasSwitch code (w.address + place + 2) count → FindsEnd code w place kinds.Cases None
 end_uncased code w place count is_count shows le none whole o same has =
     let at : ℕ = w.address + place in
-    let n : ℕ = number_at 2 w.bytes place in
+    let n : ℕ = number_at 2 w.bytes.now place in
     let number = number_shown code w place kinds.Cases o shows le same has in
     let is : o ≡ Cases n (at + 2) =
     sym (operand_by-number_of code at o has.fits has.rest) ∙ (λ i. operand_by (same i) at (number i)) in
@@ -110,7 +111,7 @@ end_uncased code w place count is_count shows le none whole o same has =
 
 -- ---- operands
 
-pub ends_none : (code : Pool) (w : Window) (place : ℕ) → Shows code w.address w → 0 < w.count → place ≤ w.count → EndsOperands code w place [] place
+pub ends_none : (code : Pool) (w : Window) (place : ℕ) → Shows code w.address w.bytes.now → 0 < length w.bytes.now → place ≤ length w.bytes.now → EndsOperands code w place [] place
 ends_none code w place shows some behind = record { have = tt; end_is = omega arith; bounded = omega (arith, shows.bounded some) }
 
 -- the first of some operands doesn't stand there
@@ -153,9 +154,9 @@ last_behind kinds.Object next rest last = last
 
 -- where such an operand ends
 pub end_at : (code : Pool) (w : Window) (place end : ℕ) (kind : Kind) → kind ≢ kinds.Cases → EndsOperand code w place kind end
-    → (end ≡ place + width_of kind) × (end ≤ w.count)
+    → (end ≡ place + width_of kind) × (end ≤ length w.bytes.now)
 end_at code w place end kind other ends =
-    let size = size_of-operand_by kind (w.address + place) (number_at (width_of kind) w.bytes place) other in
+    let size = size_of-operand_by kind (w.address + place) (number_at (width_of kind) w.bytes.now place) other in
     (ends.end_is ∙ ap (λ n. place + n) size, ends.shown (sym size))
 
 -- those behind the first don't stand there
@@ -174,7 +175,7 @@ pub ends_more : (code : Pool) (w : Window) (place mid : ℕ) (kind : Kind) (rest
 ends_more code w place mid kind rest None other first none = λ whole.
     let at : ℕ = w.address + place in
     let o : Operand = operand_in w place kind in
-    let kind_is : kind_of o ≡ kind = kind_of-operand_by kind at (number_at (width_of kind) w.bytes place) in
+    let kind_is : kind_of o ≡ kind = kind_of-operand_by kind at (number_at (width_of kind) w.bytes.now place) in
     let there : w.address + mid ≡ at + size_of o = omega (arith, first.end_is) in
     let behind : (os : List Operand) → map kind_of os ≡ rest → ¬ HasOperands code (at + size_of o) os =
     subst (λ (m : ℕ). (os : List Operand) → map kind_of os ≡ rest → ¬ HasOperands code m os) there (none whole) in
@@ -183,11 +184,11 @@ ends_more code w place mid kind rest None other first none = λ whole.
 ends_more code w place mid kind rest (Some end) other first ends =
     let at : ℕ = w.address + place in
     let o : Operand = operand_in w place kind in
-    let size = size_of-operand_by kind at (number_at (width_of kind) w.bytes place) other in
+    let size = size_of-operand_by kind at (number_at (width_of kind) w.bytes.now place) other in
     let here : mid ≡ place + width_of kind = first.end_is ∙ ap (λ m. place + m) size in
     let there : w.address + mid ≡ at + size_of o = omega (arith, first.end_is) in
-    let os : List Operand = operands_by w.address w.bytes mid rest in
-    let same : os ≡ operands_by w.address w.bytes (place + width_of kind) rest = ap (λ m. operands_by w.address w.bytes m rest) here in
+    let os : List Operand = operands_by w.address w.bytes.now mid rest in
+    let same : os ≡ operands_by w.address w.bytes.now (place + width_of kind) rest = ap (λ m. operands_by w.address w.bytes.now m rest) here in
     record {
       have = (
         first.has,
@@ -207,3 +208,48 @@ ends_all code w place mid kind all (next ∷ more) found is last some first ends
     let here : is_cases_last (kind ∷ next ∷ more) ≡ true = ap is_cases_last (sym is) ∙ last in
     subst (λ (ks : List Kind). FindsEnds code w place ks found) (sym is)
     (ends_more code w place mid kind (next ∷ more) found (not_cases kind next more here) first ends)
+
+-- ---- operands that are there wherever their bytes are
+
+-- such an operand, and those behind it
+record PlainFirst (kind : Kind) (rest : List Kind) : Type 0 where
+  pub other : kind ≢ kinds.Cases
+  pub named : (n : ℕ) → IsNamed kind n
+  pub behind : are_plain rest ≡ true
+
+plain_first : (kind : Kind) (rest : List Kind) → are_plain (kind ∷ rest) ≡ true → PlainFirst kind rest
+plain_first kinds.Ubyte rest plain = record { other = λ same. absurd cc; named = λ n. tt; behind = plain }
+plain_first kinds.Sbyte rest plain = record { other = λ same. absurd cc; named = λ n. tt; behind = plain }
+plain_first kinds.Uint2 rest plain = record { other = λ same. absurd cc; named = λ n. tt; behind = plain }
+plain_first kinds.Jump rest plain = record { other = λ same. absurd cc; named = λ n. tt; behind = plain }
+plain_first kinds.Uint4 rest plain = record { other = λ same. absurd cc; named = λ n. tt; behind = plain }
+plain_first kinds.Int4 rest plain = record { other = λ same. absurd cc; named = λ n. tt; behind = plain }
+plain_first kinds.Property rest plain = absurd cc
+plain_first kinds.Object rest plain = absurd cc
+plain_first kinds.Cases rest plain = absurd cc
+
+pub ends_plain : (code : Pool) (w : Window) (place : ℕ) (kinds : List Kind) → Shows code w.address w.bytes.now → 0 < length w.bytes.now
+    → are_plain kinds ≡ true → place + widths_of kinds ≤ length w.bytes.now → EndsOperands code w place kinds (place + widths_of kinds)
+ends_plain code w place [] shows some plain le =
+    let here : place ≡ place + 0 = omega arith in
+    subst (λ (n : ℕ). EndsOperands code w place [] n) here (ends_none code w place shows some (omega arith))
+ends_plain code w place (kind ∷ rest) shows some plain le =
+    let first = plain_first kind rest plain in
+    let end = end_fixed code w place kind shows (omega arith) (first.named _) first.other in
+    let behind = ends_plain code w (place + width_of kind) rest shows some first.behind (omega arith) in
+    let same : (place + width_of kind) + widths_of rest ≡ place + (width_of kind + widths_of rest) = omega arith in
+    subst (λ (n : ℕ). EndsOperands code w place (kind ∷ rest) n) same
+    (ends_more code w place (place + width_of kind) kind rest (Some ((place + width_of kind) + widths_of rest)) first.other end behind)
+
+pub ends_missing : (code : Pool) (w : Window) (place : ℕ) (kinds : List Kind) → Shows code w.address w.bytes.now → place ≤ length w.bytes.now
+    → place + widths_of kinds ≤ 10 → are_plain kinds ≡ true → length w.bytes.now < place + widths_of kinds → FindsEnds code w place kinds None
+ends_missing code w place [] shows behind room plain less = absurd (omega arith)
+ends_missing code w place (kind ∷ rest) shows behind room plain less =
+    let first = plain_first kind rest plain in
+    elim (cases_lt (length w.bytes.now) (place + width_of kind)) [
+      | inl short ↦ ends_first code w place kind rest (end_short code w place kind (omega arith) behind short)
+      | inr enough ↦
+          let end = end_fixed code w place kind shows enough (first.named _) first.other in
+          ends_more code w place (place + width_of kind) kind rest None first.other end
+          (ends_missing code w (place + width_of kind) rest shows enough (omega arith) first.behind (omega arith))
+    ]

@@ -1,4 +1,5 @@
 pub mod Windows
+pub mod Said
 pub mod Table
 pub mod Operating
 pub mod Shown

@@ -15,7 +15,7 @@ shape_there opcode w found row =
     let opcode_is : (row_of found.code).opcode ≡ opcode = ap (λ r. r.opcode) row.row_is in
     let name_is : (row_of found.code).name ≡ found.name.now = ap (λ r. r.name) row.row_is in
     let kinds_are : map kind_of (row_of found.code).operands ≡ found.kinds.now =
-    ap (λ r. map kind_of r.operands) row.row_is ∙ kinds-operands_by w.address 1 w.bytes found.kinds.now in
+    ap (λ r. map kind_of r.operands) row.row_is ∙ kinds-operands_by w.address 1 w.bytes.now found.kinds.now in
     record {
       known = (found.code, opcode_is);
       each = λ instr same. (

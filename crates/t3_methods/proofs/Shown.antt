@@ -1,14 +1,14 @@
 -- What a window shows of code: the numbers in it stand there, and behind its bytes none does.
 use Rattle.std.proofs.Common.{◌≡◌, ℕ, zero, suc, ◌+◌, ◌-◌, ◌^◌, ◌<◌, ◌≤◌, List, [], ◌∷◌, ◌++◌, length, take, drop, Some, None, sym, ap, ◌∙◌, subst, arith}
-use Rattle.std.proofs.lemmas.List.{take-append-drop, length-take-le, length-drop, drop-take, take-take}
+use Rattle.std.proofs.lemmas.List.{take-append-drop, length-take-le, length-drop}
 use Rattle.std.specs.FinMap.{get}
 use Rattle.t3_holder.specs.NumberText.{little_endian, value_of, AreBytes}
 use Rattle.t3_holder.proofs.Numbers.{little_endian-value_of, value_fits}
 use Rattle.t3_blocks.proofs.Lists.{AreBytes-take, AreBytes-drop}
 use Rattle.t3_pools.specs.Pool.{Pool, HasBytes}
 use Rattle.t3_pools.proofs.Standing.{stands_right, stands_take}
-use Rattle.t3_methods.specs.declared.window.Window.{Window}
-use Rattle.t3_methods.specs.Inner.Window.{Shows, ShowsAll, IsWhole, number_at}
+use Rattle.t3_methods.specs.Inner.Window.{Shows, IsWhole, number_at}
+use Rattle.t3_methods.proofs.Windows.{number_at-there}
 
 -- a byte of them that isn't there
 pub not_there : (code : Pool) (at k : ℕ) (bytes : List ℕ) → k < length bytes → get code (at + k) ≡ None → HasBytes code at bytes → ⊥
@@ -21,60 +21,46 @@ not_there code at (suc k) (x ∷ xs) less none has =
     let there : (at + 1) + k ≡ at + suc k = omega arith in
     not_there code (at + 1) k xs (omega arith) (ap (get code) there ∙ none) has.1
 
--- bytes of a window that stand
-pub part : (code : Pool) (address place width : ℕ) (w : Window) → Shows code address w → place + width ≤ w.count
-    → HasBytes code (address + place) (take width (drop place w.bytes))
-part code address place width w shows le =
-    let all : List ℕ = take w.count w.bytes in
-    let split : HasBytes code address (take place all ++ drop place all) =
-    subst (λ (b : List ℕ). HasBytes code address b) (sym (take-append-drop place all)) shows.stands in
-    let wide : length all ≡ w.count = length-take-le w.count w.bytes (omega (arith, shows.few, shows.long)) in
-    let long : length (take place all) ≡ place = length-take-le place all (omega arith) in
-    let behind : HasBytes code (address + place) (drop place all) =
-    subst (λ (n : ℕ). HasBytes code (address + n) (drop place all)) long (stands_right code (take place all) (drop place all) address split) in
-    let rest : ℕ = w.count - place in
-    let count : place + rest ≡ w.count = omega arith in
-    let same : drop place all ≡ take rest (drop place w.bytes) =
-    ap (λ n. drop place (take n w.bytes)) (sym count) ∙ drop-take place rest w.bytes in
-    subst (λ (b : List ℕ). HasBytes code (address + place) b) (ap (take width) same ∙ take-take width rest (drop place w.bytes) (omega arith))
-    (stands_take code (drop place all) (address + place) width behind)
+-- a part of bytes that stand
+pub part : (code : Pool) (address place width : ℕ) (bytes : List ℕ) → Shows code address bytes → place + width ≤ length bytes
+    → HasBytes code (address + place) (take width (drop place bytes))
+part code address place width bytes shows le =
+    let split : HasBytes code address (take place bytes ++ drop place bytes) =
+    subst (λ (b : List ℕ). HasBytes code address b) (sym (take-append-drop place bytes)) shows.stands in
+    let long : length (take place bytes) ≡ place = length-take-le place bytes (omega arith) in
+    let behind : HasBytes code (address + place) (drop place bytes) =
+    subst (λ (n : ℕ). HasBytes code (address + n) (drop place bytes)) long
+    (stands_right code (take place bytes) (drop place bytes) address split) in
+    stands_take code (drop place bytes) (address + place) width behind
 
--- the number in them
-pub number_text : (code : Pool) (address place width : ℕ) (w : Window) → Shows code address w → place + width ≤ 10
-    → little_endian width (number_at width w.bytes place) ≡ take width (drop place w.bytes)
-unfolding number_at
-number_text code address place width w shows le =
-    let bytes : List ℕ = take width (drop place w.bytes) in
-    let are : AreBytes bytes = AreBytes-take width (drop place w.bytes) (AreBytes-drop place w.bytes shows.are) in
-    let long : length bytes ≡ width = length-take-le width (drop place w.bytes) (omega (arith, length-drop place w.bytes, shows.long)) in
-    ap (λ n. little_endian n (value_of bytes)) (sym long) ∙ little_endian-value_of bytes are
+-- the number in it
+pub number_text : (code : Pool) (address place width : ℕ) (bytes : List ℕ) → Shows code address bytes → place + width ≤ length bytes
+    → little_endian width (number_at width bytes place) ≡ take width (drop place bytes)
+number_text code address place width bytes shows le =
+    let some : List ℕ = take width (drop place bytes) in
+    let are : AreBytes some = AreBytes-take width (drop place bytes) (AreBytes-drop place bytes shows.are) in
+    let long : length some ≡ width = length-take-le width (drop place bytes) (omega (arith, length-drop place bytes)) in
+    ap (little_endian width) (number_at-there width bytes place le)
+    ∙ ap (λ n. little_endian n (value_of some)) (sym long) ∙ little_endian-value_of some are
 
-pub number_less : (code : Pool) (address place width : ℕ) (w : Window) → Shows code address w → place + width ≤ 10
-    → number_at width w.bytes place < 256 ^ width
-unfolding number_at
-number_less code address place width w shows le =
-    let bytes : List ℕ = take width (drop place w.bytes) in
-    let are : AreBytes bytes = AreBytes-take width (drop place w.bytes) (AreBytes-drop place w.bytes shows.are) in
-    let long : length bytes ≡ width = length-take-le width (drop place w.bytes) (omega (arith, length-drop place w.bytes, shows.long)) in
-    value_fits width bytes are long
+pub number_less : (code : Pool) (address place width : ℕ) (bytes : List ℕ) → Shows code address bytes → place + width ≤ length bytes
+    → number_at width bytes place < 256 ^ width
+number_less code address place width bytes shows le =
+    let some : List ℕ = take width (drop place bytes) in
+    let are : AreBytes some = AreBytes-take width (drop place bytes) (AreBytes-drop place bytes shows.are) in
+    let long : length some ≡ width = length-take-le width (drop place bytes) (omega (arith, length-drop place bytes)) in
+    subst (λ (n : ℕ). n < 256 ^ width) (sym (number_at-there width bytes place le)) (value_fits width some are long)
 
-pub number_stands : (code : Pool) (address place width : ℕ) (w : Window) → Shows code address w → place + width ≤ w.count
-    → HasBytes code (address + place) (little_endian width (number_at width w.bytes place))
-number_stands code address place width w shows le =
-    subst (λ (b : List ℕ). HasBytes code (address + place) b) (sym (number_text code address place width w shows (omega (arith, shows.few))))
-    (part code address place width w shows le)
+pub number_stands : (code : Pool) (address place width : ℕ) (bytes : List ℕ) → Shows code address bytes → place + width ≤ length bytes
+    → HasBytes code (address + place) (little_endian width (number_at width bytes place))
+number_stands code address place width bytes shows le =
+    subst (λ (b : List ℕ). HasBytes code (address + place) b) (sym (number_text code address place width bytes shows le))
+    (part code address place width bytes shows le)
 
 -- so many bytes that aren't all there
-pub short : (code : Pool) (place width : ℕ) (w : Window) (text : List ℕ) → IsWhole code w → place + width ≤ 10 → place ≤ w.count
-    → w.count < place + width → length text ≡ width → ¬ HasBytes code (w.address + place) text
-short code place width w text whole room behind less long has =
-    let k : ℕ = w.count - place in
-    let there : (w.address + place) + k ≡ w.address + w.count = omega arith in
-    not_there code (w.address + place) k text (omega arith) (ap (get code) there ∙ whole (omega arith)) has
-
--- the same at the address that it shows
-pub short_at : (code : Pool) (address place width : ℕ) (w : Window) (text : List ℕ) → ShowsAll code address w → place + width ≤ 10 → place ≤ w.count
-    → w.count < place + width → length text ≡ width → ¬ HasBytes code (address + place) text
-short_at code address place width w text shows room behind less long has =
-    short code place width w text shows.whole room behind less long
-    (subst (λ (n : ℕ). HasBytes code (n + place) text) (sym shows.shows.at) has)
+pub short : (code : Pool) (address place width : ℕ) (bytes text : List ℕ) → IsWhole code address bytes → place + width ≤ 10 → place ≤ length bytes
+    → length bytes < place + width → length text ≡ width → ¬ HasBytes code (address + place) text
+short code address place width bytes text whole room behind less long has =
+    let k : ℕ = length bytes - place in
+    let there : (address + place) + k ≡ address + length bytes = omega arith in
+    not_there code (address + place) k text (omega arith) (ap (get code) there ∙ whole (omega arith)) has

@@ -13,11 +13,10 @@ use Rattle.t3_holder.proofs.Numbers.{length-little_endian}
 use Rattle.t3_holder.proofs.Holders.{one_raw}
 use Rattle.t3_pools.specs.Pool.{Pool, HasBytes}
 use Rattle.t3_pools.proofs.Standing.{same_bytes}
-use Rattle.t3_methods.specs.declared.window.Window.{Window}
 use Rattle.t3_methods.specs.Operands.{HasJump, HasCase, HasCases}
 use Rattle.t3_methods.specs.Inner.Window.{Shows, ShowsAll, number_at}
 use Rattle.t3_methods.specs.Inner.Cases.{DecidesSwitch, FindsJump}
-use Rattle.t3_methods.proofs.Shown.{part, number_less, number_stands, short_at}
+use Rattle.t3_methods.proofs.Shown.{part, number_less, number_stands, short}
 
 -- ---- a distance
 
@@ -29,22 +28,22 @@ resigned : (n : ℕ) (z : ℤ) → n < 2 ^ 16 → z ≡ to_z w16 n → to_z w16 
 resigned n z less is = ap (λ y. to_z w16 (of_z w16 y)) is ∙ ap (to_z w16) (of_z-to_z w16 n less)
 
 -- the distance in two bytes of a window
-pub jump_shown : (code : Pool) (address place : ℕ) (w : Window) (z : ℤ) → Shows code address w → place + 2 ≤ w.count
-    → z ≡ to_z w16 (number_at 2 w.bytes place) → HasJump code (address + place) (to_z w16 (of_z w16 z))
-jump_shown code address place w z shows le is =
-    let n : ℕ = number_at 2 w.bytes place in
-    let less : n < 2 ^ 16 = omega (arith, number_less code address place 2 w shows (omega (arith, shows.few))) in
+pub jump_shown : (code : Pool) (address place : ℕ) (bytes : List ℕ) (z : ℤ) → Shows code address bytes → place + 2 ≤ length bytes
+    → z ≡ to_z w16 (number_at 2 bytes place) → HasJump code (address + place) (to_z w16 (of_z w16 z))
+jump_shown code address place bytes z shows le is =
+    let n : ℕ = number_at 2 bytes place in
+    let less : n < 2 ^ 16 = omega (arith, number_less code address place 2 bytes shows le) in
     let same = resigned n z less is in
     let number : twos_complement 2 (to_z w16 n) ≡ n = of_z-to_z w16 n less in
     subst (λ (y : ℤ). HasJump code (address + place) y) (sym same) (record {
       fits = signed_by n less;
-      stands = subst (λ (m : ℕ). HasBytes code (address + place) (little_endian 2 m)) (sym number) (number_stands code address place 2 w shows le);
+      stands = subst (λ (m : ℕ). HasBytes code (address + place) (little_endian 2 m)) (sym number) (number_stands code address place 2 bytes shows le);
     })
 
-pub no_jump : (code : Pool) (address place : ℕ) (w : Window) (z : ℤ) → ShowsAll code address w → place + 2 ≤ 10 → place ≤ w.count → w.count < place + 2
+pub no_jump : (code : Pool) (address place : ℕ) (bytes : List ℕ) (z : ℤ) → ShowsAll code address bytes → place + 2 ≤ 10 → place ≤ length bytes → length bytes < place + 2
     → ¬ HasJump code (address + place) z
-no_jump code address place w z shows room behind less has =
-    short_at code address place 2 w _ shows room behind less (length-little_endian 2 _) has.stands
+no_jump code address place bytes z shows room behind less has =
+    short code address place 2 bytes _ shows.whole room behind less (length-little_endian 2 _) has.stands
 
 -- ---- a holder
 
@@ -59,36 +58,36 @@ one_raw_there code at a b fits_a fits_b has_a has_b =
 -- ---- a case
 
 -- the case in seven bytes of a window
-pub case_shown : (code : Pool) (at : ℕ) (w : Window) (raw : Raw) (holder : Holder) (z : ℤ) → Shows code at w → 7 ≤ w.count
-    → raw_text raw ≡ take 5 w.bytes → IsRaw raw → Means raw holder → z ≡ to_z w16 (number_at 2 w.bytes 5)
+pub case_shown : (code : Pool) (at : ℕ) (bytes : List ℕ) (raw : Raw) (holder : Holder) (z : ℤ) → Shows code at bytes → 7 ≤ length bytes
+    → raw_text raw ≡ take 5 bytes → IsRaw raw → Means raw holder → z ≡ to_z w16 (number_at 2 bytes 5)
     → HasCase code at holder (to_z w16 (of_z w16 z))
-case_shown code at w raw holder z shows le text fits means is =
+case_shown code at bytes raw holder z shows le text fits means is =
     let here : at + 0 ≡ at = omega arith in
-    let five : HasBytes code at (take 5 w.bytes) =
-    subst (λ (n : ℕ). HasBytes code n (take 5 w.bytes)) here (part code at 0 5 w shows (omega arith)) in
+    let five : HasBytes code at (take 5 bytes) =
+    subst (λ (n : ℕ). HasBytes code n (take 5 bytes)) here (part code at 0 5 bytes shows (omega arith)) in
     record {
       has_holder = record { raw = raw; fits = fits; means = means; stands = subst (λ (b : List ℕ). HasBytes code at b) (sym text) five };
-      has_jump = jump_shown code at 5 w z shows (omega arith) is;
+      has_jump = jump_shown code at 5 bytes z shows (omega arith) is;
     }
 
-pub case_short : (code : Pool) (at : ℕ) (w : Window) → ShowsAll code at w → w.count < 7 → (holder : Holder) (jump : ℤ) → ¬ HasCase code at holder jump
-case_short code at w shows less holder jump has =
+pub case_short : (code : Pool) (at : ℕ) (bytes : List ℕ) → ShowsAll code at bytes → length bytes < 7 → (holder : Holder) (jump : ℤ) → ¬ HasCase code at holder jump
+case_short code at bytes shows less holder jump has =
     let here : at + 0 ≡ at = omega arith in
     let raw = has.has_holder.raw in
     let first = subst (λ (n : ℕ). HasBytes code n (raw_text raw)) (sym here) has.has_holder.stands in
-    elim (cases_lt w.count 5) [
-      | inl few ↦ short_at code at 0 5 w (raw_text raw) shows (omega arith) (omega arith) (omega arith) (length-raw_text raw) first
-      | inr some ↦ no_jump code at 5 w jump shows (omega arith) (omega arith) (omega arith) has.has_jump
+    elim (cases_lt (length bytes) 5) [
+      | inl few ↦ short code at 0 5 bytes (raw_text raw) shows.whole (omega arith) (omega arith) (omega arith) (length-raw_text raw) first
+      | inr some ↦ no_jump code at 5 bytes jump shows (omega arith) (omega arith) (omega arith) has.has_jump
     ]
 
 -- five bytes that mean no holder
-pub case_unmeant : (code : Pool) (at : ℕ) (w : Window) (raw : Raw) (told : Option Holder) → Shows code at w → 7 ≤ w.count
-    → raw_text raw ≡ take 5 w.bytes → IsRaw raw → told ≡ None → ((holder : Holder) → Means raw holder → told ≡ Some holder)
+pub case_unmeant : (code : Pool) (at : ℕ) (bytes : List ℕ) (raw : Raw) (told : Option Holder) → Shows code at bytes → 7 ≤ length bytes
+    → raw_text raw ≡ take 5 bytes → IsRaw raw → told ≡ None → ((holder : Holder) → Means raw holder → told ≡ Some holder)
     → (holder : Holder) (jump : ℤ) → ¬ HasCase code at holder jump
-case_unmeant code at w raw told shows le text fits none meant holder jump has =
+case_unmeant code at bytes raw told shows le text fits none meant holder jump has =
     let here : at + 0 ≡ at = omega arith in
-    let five : HasBytes code at (take 5 w.bytes) =
-    subst (λ (n : ℕ). HasBytes code n (take 5 w.bytes)) here (part code at 0 5 w shows (omega arith)) in
+    let five : HasBytes code at (take 5 bytes) =
+    subst (λ (n : ℕ). HasBytes code n (take 5 bytes)) here (part code at 0 5 bytes shows (omega arith)) in
     let stands : HasBytes code at (raw_text raw) = subst (λ (b : List ℕ). HasBytes code at b) (sym text) five in
     let same = one_raw_there code at has.has_holder.raw raw has.has_holder.fits fits has.has_holder.stands stands in
     let means : Means raw holder = subst (λ (r : Raw). Means r holder) same has.has_holder.means in

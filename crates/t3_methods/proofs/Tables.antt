@@ -8,11 +8,10 @@ use Rattle.t3_holder.proofs.Numbers.{length-little_endian, same_number}
 use Rattle.t3_blocks.proofs.Lists.{AllByRecursion-push}
 use Rattle.t3_pools.specs.Pool.{Pool, HasBytes}
 use Rattle.t3_pools.proofs.Standing.{stands_left, stands_right, stands_both, same_bytes}
-use Rattle.t3_methods.specs.declared.window.Window.{Window}
 use Rattle.t3_methods.specs.ExceptionTable.{Entry, IsEntry, entry_text, HasTable, catches, handler_among}
 use Rattle.t3_methods.specs.Inner.Window.{Shows, ShowsAll, number_at}
 use Rattle.t3_methods.specs.Inner.Tables.{HasEntry, earlier_of}
-use Rattle.t3_methods.proofs.Shown.{short_at, number_less, number_stands}
+use Rattle.t3_methods.proofs.Shown.{short, number_less, number_stands}
 
 at_start : (code : Pool) (at : ℕ) (bytes : List ℕ) → HasBytes code at bytes → HasBytes code (at + 0) bytes
 at_start code at bytes = subst (λ (n : ℕ). HasBytes code n bytes) (let e : at ≡ at + 0 = omega arith in e)
@@ -30,39 +29,39 @@ length-entry_text entry =
     let d = length-little_endian 2 entry.handler in
     simp (length-append) (omega (arith, a, b, c, d))
 
-pub entry_short : (code : Pool) (at : ℕ) (w : Window) → ShowsAll code at w → w.count < 10 → (entry : Entry) → ¬ HasEntry code at entry
-entry_short code at w shows less entry has =
-    short_at code at 0 10 w (entry_text entry) shows (omega arith) (omega arith) (omega arith) (length-entry_text entry)
+pub entry_short : (code : Pool) (at : ℕ) (bytes : List ℕ) → ShowsAll code at bytes → length bytes < 10 → (entry : Entry) → ¬ HasEntry code at entry
+entry_short code at bytes shows less entry has =
+    short code at 0 10 bytes (entry_text entry) shows.whole (omega arith) (omega arith) (omega arith) (length-entry_text entry)
     (at_start code at (entry_text entry) has.stands)
 
 -- a number that a window says stands in front of what stands behind it
-with_number : (code : Pool) (at place width n : ℕ) (w : Window) (ys : List ℕ) → Shows code at w → place + width ≤ w.count
-    → n ≡ number_at width w.bytes place → HasBytes code (at + (place + width)) ys → HasBytes code (at + place) (little_endian width n ++ ys)
-with_number code at place width n w ys shows le is behind =
-    let front = subst (λ (m : ℕ). HasBytes code (at + place) (little_endian width m)) (sym is) (number_stands code at place width w shows le) in
+with_number : (code : Pool) (at place width n : ℕ) (bytes ys : List ℕ) → Shows code at bytes → place + width ≤ length bytes
+    → n ≡ number_at width bytes place → HasBytes code (at + (place + width)) ys → HasBytes code (at + place) (little_endian width n ++ ys)
+with_number code at place width n bytes ys shows le is behind =
+    let front = subst (λ (m : ℕ). HasBytes code (at + place) (little_endian width m)) (sym is) (number_stands code at place width bytes shows le) in
     let there : at + (place + width) ≡ (at + place) + length (little_endian width n) = omega (arith, length-little_endian width n) in
     stands_both code (little_endian width n) ys (at + place) front (subst (λ (m : ℕ). HasBytes code m ys) there behind)
 
-number_fits : (code : Pool) (at place width n : ℕ) (w : Window) → Shows code at w → place + width ≤ w.count → n ≡ number_at width w.bytes place
+number_fits : (code : Pool) (at place width n : ℕ) (bytes : List ℕ) → Shows code at bytes → place + width ≤ length bytes → n ≡ number_at width bytes place
     → n < 256 ^ width
-number_fits code at place width n w shows le is =
-    subst (λ (m : ℕ). m < 256 ^ width) (sym is) (number_less code at place width w shows (omega (arith, shows.few)))
+number_fits code at place width n bytes shows le is =
+    subst (λ (m : ℕ). m < 256 ^ width) (sym is) (number_less code at place width bytes shows le)
 
-pub entry_shown : (code : Pool) (at first last class handler : ℕ) (w : Window) → Shows code at w → 10 ≤ w.count
-    → first ≡ number_at 2 w.bytes 0 → last ≡ number_at 2 w.bytes 2 → class ≡ number_at 4 w.bytes 4 → handler ≡ number_at 2 w.bytes 8
+pub entry_shown : (code : Pool) (at first last class handler : ℕ) (bytes : List ℕ) → Shows code at bytes → 10 ≤ length bytes
+    → first ≡ number_at 2 bytes 0 → last ≡ number_at 2 bytes 2 → class ≡ number_at 4 bytes 4 → handler ≡ number_at 2 bytes 8
     → HasEntry code at (record { first = first; last = last; class = class; handler = handler })
-entry_shown code at first last class handler w shows le first_is last_is class_is handler_is =
+entry_shown code at first last class handler bytes shows le first_is last_is class_is handler_is =
     let fourth : HasBytes code (at + 8) (little_endian 2 handler) =
-    subst (λ (m : ℕ). HasBytes code (at + 8) (little_endian 2 m)) (sym handler_is) (number_stands code at 8 2 w shows (omega arith)) in
-    let third = with_number code at 4 4 class w (little_endian 2 handler) shows (omega arith) class_is fourth in
-    let second = with_number code at 2 2 last w (little_endian 4 class ++ little_endian 2 handler) shows (omega arith) last_is third in
-    let all = with_number code at 0 2 first w (little_endian 2 last ++ (little_endian 4 class ++ little_endian 2 handler)) shows (omega arith) first_is second in
+    subst (λ (m : ℕ). HasBytes code (at + 8) (little_endian 2 m)) (sym handler_is) (number_stands code at 8 2 bytes shows (omega arith)) in
+    let third = with_number code at 4 4 class bytes (little_endian 2 handler) shows (omega arith) class_is fourth in
+    let second = with_number code at 2 2 last bytes (little_endian 4 class ++ little_endian 2 handler) shows (omega arith) last_is third in
+    let all = with_number code at 0 2 first bytes (little_endian 2 last ++ (little_endian 4 class ++ little_endian 2 handler)) shows (omega arith) first_is second in
     record {
       fits = record {
-        first = omega (arith, number_fits code at 0 2 first w shows (omega arith) first_is);
-        last = omega (arith, number_fits code at 2 2 last w shows (omega arith) last_is);
-        class = omega (arith, number_fits code at 4 4 class w shows (omega arith) class_is);
-        handler = omega (arith, number_fits code at 8 2 handler w shows (omega arith) handler_is);
+        first = omega (arith, number_fits code at 0 2 first bytes shows (omega arith) first_is);
+        last = omega (arith, number_fits code at 2 2 last bytes shows (omega arith) last_is);
+        class = omega (arith, number_fits code at 4 4 class bytes shows (omega arith) class_is);
+        handler = omega (arith, number_fits code at 8 2 handler bytes shows (omega arith) handler_is);
       };
       stands = from_start code at _ all;
     }
@@ -146,40 +145,40 @@ passed_more code at method place classes count next found handler entry passed i
 
 -- ---- a table
 
-count_there : (code : Pool) (table count : ℕ) (w : Window) (entries : List Entry) → Shows code table w → 2 ≤ w.count → count ≡ number_at 2 w.bytes 0
+count_there : (code : Pool) (table count : ℕ) (bytes : List ℕ) (entries : List Entry) → Shows code table bytes → 2 ≤ length bytes → count ≡ number_at 2 bytes 0
     → HasTable code table entries → length entries ≡ count
-count_there code table count w entries shows le is has =
-    let fits = number_fits code table 0 2 count w shows (omega arith) is in
+count_there code table count bytes entries shows le is has =
+    let fits = number_fits code table 0 2 count bytes shows (omega arith) is in
     let front = stands_left code (little_endian 2 (length entries)) (flat_map entry_text entries) table has.stands in
     let here = from_start code table _ (subst (λ (m : ℕ). HasBytes code (table + 0) (little_endian 2 m)) (sym is)
-    (number_stands code table 0 2 w shows (omega arith))) in
+    (number_stands code table 0 2 bytes shows (omega arith))) in
     let long = length-little_endian 2 (length entries) ∙ sym (length-little_endian 2 count) in
     same_number 2 (length entries) count (omega (arith, has.fits)) fits (same_bytes code _ _ table front here long)
 
-pub table_short : (code : Pool) (table : ℕ) (w : Window) → ShowsAll code table w → w.count < 2 → (entries : List Entry) → ¬ HasTable code table entries
-table_short code table w shows less entries has =
+pub table_short : (code : Pool) (table : ℕ) (bytes : List ℕ) → ShowsAll code table bytes → length bytes < 2 → (entries : List Entry) → ¬ HasTable code table entries
+table_short code table bytes shows less entries has =
     let front = stands_left code (little_endian 2 (length entries)) (flat_map entry_text entries) table has.stands in
-    short_at code table 0 2 w (little_endian 2 (length entries)) shows (omega arith) (omega arith) (omega arith)
+    short code table 0 2 bytes (little_endian 2 (length entries)) shows.whole (omega arith) (omega arith) (omega arith)
     (length-little_endian 2 (length entries)) (at_start code table _ front)
 
-pub table_gap : (code : Pool) (table count nth next : ℕ) (w : Window) → Shows code table w → 2 ≤ w.count → count ≡ number_at 2 w.bytes 0
+pub table_gap : (code : Pool) (table count nth next : ℕ) (bytes : List ℕ) → Shows code table bytes → 2 ≤ length bytes → count ≡ number_at 2 bytes 0
     → nth < count → next ≡ (table + 2) + 10 * nth → ((entry : Entry) → ¬ HasEntry code next entry) → (entries : List Entry)
     → ¬ HasTable code table entries
-table_gap code table count nth next w shows le is less there none entries has =
-    let many = count_there code table count w entries shows le is has in
+table_gap code table count nth next bytes shows le is less there none entries has =
+    let many = count_there code table count bytes entries shows le is has in
     let behind = stands_right code (little_endian 2 (length entries)) (flat_map entry_text entries) table has.stands in
     let long : table + length (little_endian 2 (length entries)) ≡ table + 2 = ap (λ n. table + n) (length-little_endian 2 (length entries)) in
     let some = each_entry code (table + 2) nth entries (omega (arith, many)) has.each
     (subst (λ (n : ℕ). HasBytes code n (flat_map entry_text entries)) long behind) in
     none some.0 (subst (λ (n : ℕ). HasEntry code n some.0) (sym there) some.1)
 
-pub table_whole : (code : Pool) (table method place : ℕ) (classes : List ℕ) (count nth : ℕ) (handler : Option ℕ) (w : Window) → Shows code table w
-    → 2 ≤ w.count → count ≡ number_at 2 w.bytes 0 → nth ≡ count → Passed code (table + 2) method place classes nth handler
+pub table_whole : (code : Pool) (table method place : ℕ) (classes : List ℕ) (count nth : ℕ) (handler : Option ℕ) (bytes : List ℕ) → Shows code table bytes
+    → 2 ≤ length bytes → count ≡ number_at 2 bytes 0 → nth ≡ count → Passed code (table + 2) method place classes nth handler
     → (entries : List Entry) × (HasTable code table entries × (handler ≡ handler_among method place classes entries))
-table_whole code table method place classes count nth handler w shows le is all passed =
+table_whole code table method place classes count nth handler bytes shows le is all passed =
     let many : count ≡ length passed.entries = sym (passed.many ∙ all) in
-    let fits = number_fits code table 0 2 count w shows (omega arith) is in
-    let whole = with_number code table 0 2 count w (flat_map entry_text passed.entries) shows (omega arith) is passed.have in (
+    let fits = number_fits code table 0 2 count bytes shows (omega arith) is in
+    let whole = with_number code table 0 2 count bytes (flat_map entry_text passed.entries) shows (omega arith) is passed.have in (
       passed.entries,
       (
         record {

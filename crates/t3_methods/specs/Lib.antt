@@ -1,5 +1,6 @@
 pub mod Operands
 pub mod InstructionTable
+pub mod EveryInstruction
 pub mod Answers
 pub mod MethodHeader
 pub mod ExceptionTable

@@ -4,7 +4,7 @@ ghost use Rattle.std.specs.FinMap.{get};
 ghost use Rattle.t3_methods.specs.Answers.{FindsCase};
 ghost use Rattle.t3_methods.specs.Inner.Cases.{DecidesSwitch, FindsJump, ReadsCase};
 
-use crate::window::Window;
+use crate::window::{WINDOW_SIZE, Window};
 use t3_holder::{Holder, holder_of, read_raw};
 use t3_pools::Pools;
 
@@ -12,7 +12,7 @@ use t3_pools::Pools;
 const CASE_SIZE: u32 = 7;
 
 /// How many bytes a holder has.
-const HOLDER_SIZE: usize = 5;
+const HOLDER_SIZE: u32 = 5;
 
 /// Whether so many cases stand from an address on, and one more distance behind them.
 pub(crate) fn has_switch(pools: &Pools, at: u32, count: u16) -> bool
@@ -36,8 +36,9 @@ fn read_case(pools: &Pools, at: u32) -> Option<(Holder, i16)>
     ensures bounded { IfSome result (λ _. at + 7 < 2 ^ 31) }
     ensures beyond { (far : ℕ) → 2 ^ 31 ≤ far → get pools.now.code far ≡ None }
 {
-    let window = Window::at(pools, at);
-    if window.count < CASE_SIZE as usize {
+    let mut room = [0; WINDOW_SIZE];
+    let window = Window::at(pools, at, &mut room);
+    if window.bytes.len() < CASE_SIZE as usize {
         return None;
     }
     let Some(holder) = holder_of(read_raw(&window.five())) else {
@@ -51,8 +52,9 @@ fn read_jump(pools: &Pools, at: u32) -> Option<i16>
     ensures finds { FindsJump pools.now.code at result }
     ensures bounded { IfSome result (λ _. at + 2 < 2 ^ 31) }
 {
-    let window = Window::at(pools, at);
-    if window.count < 2 {
+    let mut room = [0; WINDOW_SIZE];
+    let window = Window::at(pools, at, &mut room);
+    if window.bytes.len() < 2 {
         return None;
     }
     Some(window.int2(0))
@@ -70,5 +72,5 @@ pub fn case_at(pools: &Pools, at: u32, nth: u16) -> Option<(Holder, u32, i16)>
     let Some((holder, jump)) = read_case(pools, place) else {
         return None;
     };
-    Some((holder, place + HOLDER_SIZE as u32, jump))
+    Some((holder, place + HOLDER_SIZE, jump))
 }

@@ -1,5 +1,5 @@
-//! The instruction at an address: its bytes are looked at once, its row is found by the opcode, and then
-//! whether the operands stand whole.
+//! The instruction at an address: its row is found by the opcode, its operands are read where they stand,
+//! and then whether they stand whole.
 ghost use Rattle.std.specs.Prelude.{◌≡◌, ◌+◌, ◌<◌, ◌^◌, IfOk};
 ghost use Rattle.t3_methods.specs.Answers.{FindsInstr, found_of, IsOfRow};
 ghost use Rattle.t3_methods.specs.Inner.Window.{Shows};
@@ -7,7 +7,7 @@ ghost use Rattle.t3_methods.specs.Inner.Decoding.{FindsInWindow};
 
 use crate::decoded::Decoded;
 use crate::instr::Instr;
-use crate::operands::operands_end;
+use crate::operands::instruction_end;
 use crate::refusal::CodeRefusal;
 use crate::rows::row_at;
 use crate::window::{WINDOW_SIZE, Window};
@@ -23,7 +23,7 @@ pub fn instr_at(pools: &Pools, address: u32) -> Result<(Instr, u32), CodeRefusal
     ensures finds { FindsInstr pools.now.code address result }
     ensures within { IfOk result (λ found. address + found.1 < 2 ^ 31) }
 {
-    match decode_at(pools, address) {
+    match decode_over(pools, address) {
         Ok(decoded) => Ok((decoded.instr, decoded.size)),
         Err(refusal) => Err(refusal),
     }
@@ -38,9 +38,11 @@ pub fn decode_at(pools: &Pools, address: u32) -> Result<Decoded, CodeRefusal>
     ensures within { IfOk result (λ decoded. address + decoded.size < 2 ^ 31) }
 {
     let window = Window::in_page(pools, address);
-    match decode(pools, &window) {
+    match decode::<true>(pools, &window) {
         Ok(decoded) => Ok(decoded),
-        Err(CodeRefusal::Operand) if window.count < WINDOW_SIZE => decode_over(pools, address),
+        Err(CodeRefusal::Operand) if window.bytes.len() < WINDOW_SIZE => decode_over(
+            pools, address,
+        ),
         Err(refusal) => Err(refusal),
     }
 }
@@ -53,31 +55,31 @@ fn decode_over(pools: &Pools, address: u32) -> Result<Decoded, CodeRefusal>
     ensures row { IfOk result IsOfRow }
     ensures within { IfOk result (λ decoded. address + decoded.size < 2 ^ 31) }
 {
-    let window = Window::at(pools, address);
-    decode(pools, &window)
+    let mut room = [0; WINDOW_SIZE];
+    let window = Window::at(pools, address, &mut room);
+    decode::<false>(pools, &window)
 }
 
-/// The instruction at the front of a window, as far as that tells.
-#[inline(always)]
-fn decode(pools: &Pools, window: &Window) -> Result<Decoded, CodeRefusal>
-    requires { Shows pools.now.code window.now.address window.now }
+/// The instruction at the front of a window, as far as that tells. Of `HOT`, see `row_at`.
+fn decode<const HOT: bool>(pools: &Pools, window: &Window) -> Result<Decoded, CodeRefusal>
+    requires { Shows pools.now.code window.now.address window.now.bytes.now }
     ensures finds { FindsInWindow pools.now.code window.now (found_of result) }
     ensures row { IfOk result IsOfRow }
     ensures within { IfOk result (λ decoded. window.now.address + decoded.size < 2 ^ 31) }
 {
-    if window.count == 0 {
+    if window.bytes.is_empty() {
         return Err(CodeRefusal::NoByte);
     }
     let opcode = window.ubyte(0);
-    let Some(row) = row_at(opcode, window) else {
+    let Some(row) = row_at::<HOT>(opcode, window) else {
         return Err(CodeRefusal::Opcode(opcode));
     };
-    let Some(size) = operands_end(pools, window, 1, row.kinds) else {
+    let Some(size) = instruction_end(pools, *window, row.end, row.is_plain, row.kinds) else {
         return Err(CodeRefusal::Operand);
     };
     Ok(Decoded {
         instr: row.code,
-        size: size as u32,
+        size,
         takes: row.takes,
         slot: row.slot,
     })

@@ -62,8 +62,9 @@ fn handler_by(
     requires method { method < 2 ^ 31 }
     ensures { ReadsTable pools.now.code table method place classes.now result }
 {
-    let window = Window::at(pools, table);
-    if window.count < 2 {
+    let mut room = [0; WINDOW_SIZE];
+    let window = Window::at(pools, table, &mut room);
+    if window.bytes.len() < 2 {
         return None;
     }
     let count = window.uint2(0);
@@ -114,8 +115,9 @@ fn entry_at(pools: &Pools, at: u32) -> Option<TableEntry>
     ensures reads { ReadsEntry pools.now.code at result }
     ensures bounded { IfSome result (λ _. at + 10 < 2 ^ 31) }
 {
-    let window = Window::at(pools, at);
-    if window.count < WINDOW_SIZE {
+    let mut room = [0; WINDOW_SIZE];
+    let window = Window::at(pools, at, &mut room);
+    if window.bytes.len() < WINDOW_SIZE {
         return None;
     }
     Some(TableEntry {

@@ -33,8 +33,9 @@ pub fn header_at(pools: &Pools, method: u32) -> Result<Header, CodeRefusal>
     ensures finds { FindsHeader pools.now.code method result }
     ensures within { IfOk result (λ _. method + 10 < 2 ^ 31) }
 {
-    let window = Window::at(pools, method);
-    if window.count < WINDOW_SIZE {
+    let mut room = [0; WINDOW_SIZE];
+    let window = Window::at(pools, method, &mut room);
+    if window.bytes.len() < WINDOW_SIZE {
         return Err(CodeRefusal::Header);
     }
     if window.ubyte(1) != 0 {

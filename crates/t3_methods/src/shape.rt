@@ -5,7 +5,7 @@ ghost use Rattle.t3_methods.specs.Inner.Rows.{DecidesName};
 
 use crate::kind::Kind;
 use crate::rows::row_at;
-use crate::window::{WINDOW_SIZE, Window};
+use crate::window::Window;
 
 /// The name of an instruction, and what operands it has.
 #[derive(Clone, Copy, Debug, PartialEq, Eq, Hash)]
@@ -22,10 +22,9 @@ pub fn shape_of(opcode: u8) -> Option<Shape>
 {
     let window = Window {
         address: 0,
-        count: 0,
-        bytes: [0; WINDOW_SIZE],
+        bytes: &[],
     };
-    match row_at(opcode, &window) {
+    match row_at::<false>(opcode, &window) {
         Some(row) => Some(Shape {
             name: row.name,
             kinds: row.kinds,

@@ -1,5 +1,5 @@
 -- What the functions that read operands and cases answer.
-use Rattle.std.specs.Prelude.{◌≡◌, ℕ, ℤ, ◌+◌, ◌*◌, ◌^◌, ◌<◌, ◌≤◌, Bool, true, false, List, map, Option, Some, None}
+use Rattle.std.specs.Prelude.{◌≡◌, ℕ, ℤ, ◌+◌, ◌*◌, ◌^◌, ◌<◌, ◌≤◌, Bool, true, false, List, length, map, Option, Some, None}
 use Rattle.t3_holder.specs.declared.holder.Holder.{Holder}
 use Rattle.t3_pools.specs.Pool.{Pool}
 use Rattle.t3_methods.specs.declared.kind.Kind.{Kind}
@@ -47,29 +47,29 @@ DecidesNamed kind n false = ¬ IsNamed kind n
 
 -- the operand that a window says of a kind at a place
 abbrev pub operand_in : Window → ℕ → Kind → Operand
-operand_in window place kind = operand_by kind (window.address + place) (number_at (width_of kind) window.bytes place)
+operand_in window place kind = operand_by kind (window.address + place) (number_at (width_of kind) window.bytes.now place)
 
 -- an operand stands at a place of the window, and ends there
 pub record EndsOperand (code : Pool) (window : Window) (place : ℕ) (kind : Kind) (end : ℕ) : Type 0 where
   pub has : HasOperand code (window.address + place) (operand_in window place kind)
   pub end_is : end ≡ place + size_of (operand_in window place kind)
   pub bounded : window.address + end < 2 ^ 31
-  pub shown : width_of kind ≡ size_of (operand_in window place kind) → end ≤ window.count
+  pub shown : width_of kind ≡ size_of (operand_in window place kind) → end ≤ length window.bytes.now
 
 -- where the operand of a kind at a place ends, or none of it stands there, as far as a whole window tells
 abbrev pub FindsEnd : Pool → Window → ℕ → Kind → Option ℕ → Type 0
 FindsEnd code window place kind None =
-    IsWhole code window → (operand : Operand) → kind_of operand ≡ kind → ¬ HasOperand code (window.address + place) operand
+    IsWhole code window.address window.bytes.now → (operand : Operand) → kind_of operand ≡ kind → ¬ HasOperand code (window.address + place) operand
 FindsEnd code window place kind (Some end) = EndsOperand code window place kind end
 
 -- operands stand from a place of the window on, and end there
 pub record EndsOperands (code : Pool) (window : Window) (place : ℕ) (kinds : List Kind) (end : ℕ) : Type 0 where
-  pub have : HasOperands code (window.address + place) (operands_by window.address window.bytes place kinds)
-  pub end_is : end ≡ place + sizes_of (operands_by window.address window.bytes place kinds)
+  pub have : HasOperands code (window.address + place) (operands_by window.address window.bytes.now place kinds)
+  pub end_is : end ≡ place + sizes_of (operands_by window.address window.bytes.now place kinds)
   pub bounded : window.address + end < 2 ^ 31
 
 -- where operands of these kinds end, or they don't stand there, as far as a whole window tells
 abbrev pub FindsEnds : Pool → Window → ℕ → List Kind → Option ℕ → Type 0
 FindsEnds code window place kinds None =
-    IsWhole code window → (operands : List Operand) → map kind_of operands ≡ kinds → ¬ HasOperands code (window.address + place) operands
+    IsWhole code window.address window.bytes.now → (operands : List Operand) → map kind_of operands ≡ kinds → ¬ HasOperands code (window.address + place) operands
 FindsEnds code window place kinds (Some end) = EndsOperands code window place kinds end

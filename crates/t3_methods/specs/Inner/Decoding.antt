@@ -10,5 +10,5 @@ use Rattle.t3_methods.specs.Inner.Window.{IsWhole}
 
 -- the instruction at the window's front, or why none stands there; that operands are missing is told by a whole window alone
 abbrev pub FindsInWindow : Pool → Window → Result (Instr × ℕ) CodeRefusal → Type 0
-FindsInWindow code window (Err refusals.Operand) = IsWhole code window → FindsInstr code window.address (Err refusals.Operand)
+FindsInWindow code window (Err refusals.Operand) = IsWhole code window.address window.bytes.now → FindsInstr code window.address (Err refusals.Operand)
 FindsInWindow code window found = FindsInstr code window.address found

@@ -1,45 +1,33 @@
 -- The operands that the bytes of an instruction say.
-use Rattle.std.specs.Prelude.{◌≡◌, ℕ, ◌+◌, ◌^◌, ◌<◌, ◌≤◌, Bool, true, false, ◌&&◌, nat_le, List, [], ◌∷◌, length, take, drop, None}
+use Rattle.std.specs.Prelude.{◌≡◌, ℕ, ◌+◌, ◌^◌, ◌<◌, ◌≤◌, Bool, true, false, ◌&&◌, nat_le, List, [], ◌∷◌, length, take, drop, None, if◌then◌else◌}
 use Rattle.std.specs.FinMap.{get}
 use Rattle.t3_pools.specs.Pool.{Pool, HasBytes}
-use Rattle.t3_methods.specs.declared.window.Window.{Window}
 use Rattle.std.specs.Int.{w8, w16, w32, cast_signed}
 use Rattle.t3_holder.specs.NumberText.{value_of, AreBytes}
 use Rattle.t3_methods.specs.declared.kind.Kind.{Kind}
 use Rattle.t3_methods.specs.declared.kind.Kind.TheVariants as kinds
 use Rattle.t3_methods.specs.Operands.{Operand, Ubyte, Sbyte, Uint2, Jump, Uint4, Int4, Property, Object, Cases, width_of}
 
--- a window shows bytes that stand from an address on; none only where none stands there
-pub record Shows (code : Pool) (address : ℕ) (window : Window) : Type 0 where
-  pub at : window.address ≡ address
-  pub few : window.count ≤ 10
-  pub long : length window.bytes ≡ 10
-  pub are : AreBytes window.bytes
-  pub stands : HasBytes code address (take window.count window.bytes)
-  pub empty : window.count ≡ 0 → get code address ≡ None
-  pub bounded : 0 < window.count → address + window.count < 2 ^ 31
+-- bytes of code from an address on; none only where none stands there
+pub record Shows (code : Pool) (address : ℕ) (bytes : List ℕ) : Type 0 where
+  pub are : AreBytes bytes
+  pub stands : HasBytes code address bytes
+  pub empty : bytes ≡ [] → get code address ≡ None
+  pub bounded : 0 < length bytes → address + length bytes < 2 ^ 31
 
--- a window shows these bytes alone
-pub record EndsPage (address : ℕ) (run : List ℕ) (window : Window) : Type 0 where
-  pub at : window.address ≡ address
-  pub count : window.count ≡ length run
-  pub long : length window.bytes ≡ 10
-  pub are : AreBytes window.bytes
-  pub front : take (length run) window.bytes ≡ run
+-- as many as a window needs, or all of them
+abbrev pub IsWhole : Pool → ℕ → List ℕ → Type 0
+IsWhole code address bytes = length bytes < 10 → get code (address + length bytes) ≡ None
 
--- as many as it has room for, or all of them
-abbrev pub IsWhole : Pool → Window → Type 0
-IsWhole code window = window.count < 10 → get code (window.address + window.count) ≡ None
-
--- a window shows all of the bytes that it has room for, and no byte stands at 2^31 or beyond
-pub record ShowsAll (code : Pool) (address : ℕ) (window : Window) : Type 0 where
-  pub shows : Shows code address window
-  pub whole : IsWhole code window
+-- as many as a window needs, or all of them, and no byte stands at 2^31 or beyond
+pub record ShowsAll (code : Pool) (address : ℕ) (bytes : List ℕ) : Type 0 where
+  pub shows : Shows code address bytes
+  pub whole : IsWhole code address bytes
   pub beyond : (far : ℕ) → 2 ^ 31 ≤ far → get code far ≡ None
 
--- the number in so many bytes from a place on, its lowest byte first
+-- the number in so many bytes from a place on, its lowest byte first, where they are there whole, and else 0
 unfoldable pub number_at : ℕ → List ℕ → ℕ → ℕ
-number_at width bytes place = value_of (take width (drop place bytes))
+number_at width bytes place = if nat_le (place + width) (length bytes) then value_of (take width (drop place bytes)) else 0
 
 -- the operand of a kind whose number this is, at an address
 abbrev pub operand_by : Kind → ℕ → ℕ → Operand
@@ -63,6 +51,19 @@ operands_by address bytes place (kind ∷ kinds) =
 abbrev pub widths_of : List Kind → ℕ
 widths_of [] = 0
 widths_of (kind ∷ kinds) = width_of kind + widths_of kinds
+
+-- whether each operand is there wherever its bytes are: a property and an object have no number 0, and more stands behind cases
+abbrev pub are_plain : List Kind → Bool
+are_plain [] = true
+are_plain (kinds.Ubyte ∷ kinds) = are_plain kinds
+are_plain (kinds.Sbyte ∷ kinds) = are_plain kinds
+are_plain (kinds.Uint2 ∷ kinds) = are_plain kinds
+are_plain (kinds.Jump ∷ kinds) = are_plain kinds
+are_plain (kinds.Uint4 ∷ kinds) = are_plain kinds
+are_plain (kinds.Int4 ∷ kinds) = are_plain kinds
+are_plain (kinds.Property ∷ kinds) = false
+are_plain (kinds.Object ∷ kinds) = false
+are_plain (kinds.Cases ∷ kinds) = false
 
 -- whether cases stand behind all other operands
 abbrev pub is_cases_last : List Kind → Bool

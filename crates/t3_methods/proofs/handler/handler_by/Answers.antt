@@ -4,11 +4,11 @@ use Rattle.t3_methods.proofs.Tables.{table_short, table_gap, table_whole, passed
 use Rattle.t3_methods.proofs.handler.handler_by.Goals as goal
 
 pub returns-then-window-lt2 : goal.returns-then-window-lt2
-returns-then-window-lt2 c = table_short c.args.pools.now.code c.args.table c.at-window.result c.at-window.ensures c.if-window-lt2.true
+returns-then-window-lt2 c = table_short c.args.pools.now.code c.args.table c.at-window.result.bytes.now c.at-window.ensures.shows c.if-window-lt2.true
 
 pub returns-in_default : goal.returns-in_default
 returns-in_default c =
-    table_gap c.args.pools.now.code c.args.table c.uint2-count.result c.loop.counter c.loop.next c.at-window.result c.at-window.ensures.shows
+    table_gap c.args.pools.now.code c.args.table c.uint2-count.result c.loop.counter c.loop.next c.at-window.result.bytes.now c.at-window.ensures.shows.shows
     c.if-window-lt2.false c.uint2-count.ensures c.loop-test.true c.loop.invariant.next c.in_default.ensures.reads
 
 pub loop-preserved : goal.loop-preserved
@@ -26,4 +26,4 @@ returns c =
     let most = c.loop.auto.counter-end in
     let all : c.loop.counter ≡ c.uint2-count.result = omega arith in
     table_whole c.args.pools.now.code c.args.table c.args.method c.args.place c.args.classes.now c.uint2-count.result c.loop.counter
-    c.loop.handler c.at-window.result c.at-window.ensures.shows c.if-window-lt2.false c.uint2-count.ensures all c.loop.invariant.passed
+    c.loop.handler c.at-window.result.bytes.now c.at-window.ensures.shows.shows c.if-window-lt2.false c.uint2-count.ensures all c.loop.invariant.passed
