@@ -2,6 +2,8 @@
 mod builder;
 mod check;
 mod devices;
+mod instructions;
+mod jumps;
 mod numbers;
 mod rewrite;
 mod run;

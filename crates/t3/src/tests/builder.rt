@@ -88,3 +88,22 @@ pub(crate) fn outcome(
     let status = t3_main(alloc, &owned(alloc, words)?, &mut depot, &mut console);
     Ok((status, Vec::from_slice(alloc, console.shown())?))
 }
+
+/// A method's body, and what its run shows.
+pub(crate) type Row = (&'static [u8], &'static str);
+
+/// One page of code, of at most 128 bytes.
+const LONG_POOL: &[u8] = b"CPDF\x0A\x00\x00\x00\x01\x00\x01\x00\x01\x00\x00\x00\x80\x00\x00\x00";
+
+/// The number of the first row whose body doesn't show what it says, in a method of so many locals.
+pub(crate) fn first_unlike(alloc: Global, locals: u8, rows: &[Row]) -> Result<Option<usize>, Fail> {
+    let method = [0, 0, locals, 0, 2, 0, 0, 0, 0, 0];
+    for (index, (body, want)) in rows.iter().enumerate() {
+        let file = code_image(alloc, &[ENTRY, LONG_POOL, FUNCTIONS], &method, body)?;
+        let (_, shown) = outcome(alloc, &["run", "a.t3"], Some(&file))?;
+        if shown.as_slice() != want.as_bytes() {
+            return Ok(Some(index));
+        }
+    }
+    Ok(None)
+}

@@ -1,6 +1,6 @@
 //! The variables of a method.
 ghost use Rattle.std.specs.Prelude.{◌≡◌};
-ghost use Rattle.t3_interp.specs.Instructions.{local_action, changes, changes_by, takes_local, takes_argument, with_number, sets_local};
+ghost use Rattle.t3_interp.specs.Instructions.{local_action, becomes, changes, changes_by, takes_local, takes_argument, with_number, sets_local};
 ghost use Rattle.t3_ops.specs.declared.arithmetic.ArithOp.TheVariants as ops;
 ghost use Rattle.t3_interp.specs.Inner.Acting.{HasAction};
 
@@ -10,7 +10,7 @@ use crate::event::CodeWhy;
 use crate::machine::Core;
 use t3_holder::Holder;
 use t3_methods::LocalCode;
-use t3_ops::ArithOp;
+use t3_ops::{ArithOp, Fault};
 
 /// Carries out an instruction on a variable. Those on elements and properties aren't built yet.
 #[inline(always)]
@@ -48,6 +48,17 @@ fn set(core: &mut Core, n: u16, value: Holder) -> Effect
     Effect::Next
 }
 
+/// Sets a local to a result that is there.
+#[inline(always)]
+fn set_or_throw(core: &mut Core, n: u16, outcome: Result<Holder, Fault>) -> Effect
+    ensures { HasAction (λ context. becomes n outcome context.frame.operands context) core.old result core.new }
+{
+    match outcome {
+        Ok(value) => set(core, n, value),
+        Err(fault) => Effect::Fault(fault),
+    }
+}
+
 /// Adds a number to a local.
 #[inline(always)]
 fn add(core: &mut Core, n: u16, number: i32) -> Effect
@@ -57,10 +68,7 @@ fn add(core: &mut Core, n: u16, number: i32) -> Effect
     let Some(value) = core.frames.local(n) else {
         return Effect::Stop(CodeWhy::Local);
     };
-    match computed(ArithOp::Add, Holder::Int(number), value) {
-        Ok(value) => set(core, n, value),
-        Err(fault) => Effect::Fault(fault),
-    }
+    set_or_throw(core, n, computed(ArithOp::Add, Holder::Int(number), value))
 }
 
 /// Computes of a local and the topmost operand, which goes, and sets the local.
@@ -74,10 +82,7 @@ fn change_by(core: &mut Core, n: u16, op: ArithOp) -> Effect
     let Some(left) = core.frames.local(n) else {
         return Effect::Stop(CodeWhy::Local);
     };
-    match computed(op, left, right) {
-        Ok(value) => set(core, n, value),
-        Err(fault) => Effect::Fault(fault),
-    }
+    set_or_throw(core, n, computed(op, left, right))
 }
 
 /// Sets a local to the topmost operand, which goes.
