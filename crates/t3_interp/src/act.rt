@@ -1,8 +1,9 @@
 //! The seven kinds of instructions, and the actions that they share.
-ghost use Rattle.std.specs.Prelude.{◌<◌, ◌^◌, IfOk};
+ghost use Rattle.std.specs.Prelude.{◌≡◌, ◌<◌, ◌^◌, IfOk};
+ghost use Rattle.t3_interp.specs.declared.machine.Stage.TheVariants.{Method};
 ghost use Rattle.t3_interp.specs.Instructions.{action_of};
-ghost use Rattle.t3_interp.specs.Step.{program_of};
-ghost use Rattle.t3_interp.specs.Inner.Acting.{HasAction, IsCased};
+ghost use Rattle.t3_interp.specs.Step.{program_of, comes_to, after_action};
+ghost use Rattle.t3_interp.specs.Inner.Acting.{IsCased, context_of};
 
 mod call;
 mod jump;
@@ -12,33 +13,58 @@ mod math;
 mod push;
 mod stack;
 
-use crate::effect::Effect;
+use crate::event::Event;
 use crate::loader::Program;
-use crate::machine::Core;
+use crate::machine::Machine;
 use std::alloc::Global;
 use t3_holder::NoMemory;
 use t3_methods::Instr;
 
-/// Does to the newest frame and to the register what an instruction does, and gives what it asks for.
+/// Does to the newest frame and to the register what an instruction does, and what comes of that.
 #[inline(always)]
 pub(crate) fn act(
     alloc: Global,
     program: &Program,
-    core: &mut Core,
+    machine: &mut Machine,
     instr: Instr,
-) -> Result<Effect, NoMemory>
+) -> Result<Event, NoMemory>
+    requires method { machine.old.stage ≡ Method }
     requires cases { IsCased program.now.pools.code instr }
-    requires next { core.old.frames.newest.next < 2 ^ 31 }
-    ensures { IfOk result (λ effect. HasAction (action_of (program_of program.now) instr) core.old effect
-        core.new) }
+    requires next { machine.old.core.frames.newest.next < 2 ^ 31 }
+    ensures { IfOk result (λ event. comes_to machine.new event ≡ after_action
+        machine.old.core.frames.older
+        (action_of (program_of program.now) instr (context_of machine.old.core))) }
 {
+    // What comes of an effect is settled beside the instructions of its kind, so that the compiler knows it
+    // where there is but one.
     match instr {
-        Instr::Push(code) => Ok(push::push(core, code)),
-        Instr::Math(code) => Ok(math::math(core, code)),
-        Instr::Call(code) => Ok(call::call(core, code)),
-        Instr::Stack(code) => Ok(stack::stack(core, code)),
-        Instr::Jump(code) => Ok(jump::jump(&program.pools, core, code)),
-        Instr::Make(code) => make::make(alloc, program, core, code),
-        Instr::Local(code) => Ok(local::local(core, code)),
+        Instr::Push(code) => {
+            let effect = push::push(&mut machine.core, code);
+            Ok(machine.settle(effect))
+        }
+        Instr::Math(code) => {
+            let effect = math::math(&mut machine.core, code);
+            Ok(machine.settle(effect))
+        }
+        Instr::Call(code) => {
+            let effect = call::call(&mut machine.core, code);
+            Ok(machine.settle(effect))
+        }
+        Instr::Stack(code) => {
+            let effect = stack::stack(&mut machine.core, code);
+            Ok(machine.settle(effect))
+        }
+        Instr::Jump(code) => {
+            let effect = jump::jump(&program.pools, &mut machine.core, code);
+            Ok(machine.settle(effect))
+        }
+        Instr::Make(code) => {
+            let effect = make::make(alloc, program, &mut machine.core, code)?;
+            Ok(machine.settle(effect))
+        }
+        Instr::Local(code) => {
+            let effect = local::local(&mut machine.core, code);
+            Ok(machine.settle(effect))
+        }
     }
 }
