@@ -74,7 +74,7 @@ fn decode<const HOT: bool>(pools: &Pools, window: &Window) -> Result<Decoded, Co
     let Some(row) = row_at::<HOT>(opcode, window) else {
         return Err(CodeRefusal::Opcode(opcode));
     };
-    let Some(size) = instruction_end(pools, *window, row.end, row.is_plain, row.kinds) else {
+    let Some(size) = instruction_end(pools, *window, &row) else {
         return Err(CodeRefusal::Operand);
     };
     Ok(Decoded {
