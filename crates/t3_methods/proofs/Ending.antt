@@ -1,13 +1,13 @@
 -- Where operands end that stand at a place of a window, and that there are none.
-use Rattle.std.proofs.Common.{◌≡◌, ◌≢◌, ℕ, ◌+◌, ◌*◌, ◌^◌, ◌<◌, ◌≤◌, true, false, ◌==◌, List, [], ◌∷◌, length, map, Option, Some, None, refl, sym, ap, ◌∙◌, subst, arith, inl, inr}
-use Rattle.std.proofs.lemmas.Bool.{cases_lt}
+use Rattle.std.proofs.Common.{◌≡◌, ◌≢◌, ℕ, ◌+◌, ◌*◌, ◌^◌, ◌<◌, ◌≤◌, ◌⊎◌, Bool, true, false, nat_lt, List, [], ◌∷◌, length, map, Option, Some, None, refl, sym, ap, ◌∙◌, subst, arith, inl, inr}
+use Rattle.std.proofs.lemmas.Bool.{cases_lt, cases_Bool, and_parts, ltb-true, ltb-false}
 use Rattle.t3_holder.proofs.Numbers.{length-little_endian}
 use Rattle.t3_pools.specs.Pool.{Pool}
 use Rattle.t3_methods.specs.declared.kind.Kind.{Kind}
 use Rattle.t3_methods.specs.declared.kind.Kind.TheVariants as kinds
 use Rattle.t3_methods.specs.declared.window.Window.{Window}
 use Rattle.t3_methods.specs.Operands.{Operand, Cases, kind_of, width_of, number_of, operand_text, HasRest, HasOperand, HasOperands, size_of, sizes_of}
-use Rattle.t3_methods.specs.Inner.Window.{Shows, number_at, operand_by, operands_by, widths_of, are_plain, is_cases_last}
+use Rattle.t3_methods.specs.Inner.Window.{Shows, number_at, operand_by, operands_by, widths_of, named_by, are_named, are_cased, is_cases_last}
 use Rattle.t3_methods.specs.Inner.Cases.{IsNamed, HasSwitch, operand_in, EndsOperand, FindsEnd, EndsOperands, FindsEnds}
 use Rattle.t3_methods.proofs.Shown.{number_less, number_stands, short}
 use Rattle.t3_methods.proofs.Operating.{operand_by-number_of, kind_of-operand_by, one_number, one_operand, named, operand_there}
@@ -129,18 +129,7 @@ pub ends_one : (code : Pool) (w : Window) (place : ℕ) (kind : Kind) (found : O
 ends_one code w place kind None none = ends_first code w place kind [] none
 ends_one code w place kind (Some end) ends = record { have = (ends.has, tt); end_is = omega (arith, ends.end_is); bounded = ends.bounded }
 
--- an operand that isn't the last is no switch's
-pub not_cases : (kind next : Kind) (rest : List Kind) → is_cases_last (kind ∷ next ∷ rest) ≡ true → kind ≢ kinds.Cases
-not_cases kinds.Cases next rest last same = absurd cc
-not_cases kinds.Ubyte next rest last same = absurd cc
-not_cases kinds.Sbyte next rest last same = absurd cc
-not_cases kinds.Uint2 next rest last same = absurd cc
-not_cases kinds.Jump next rest last same = absurd cc
-not_cases kinds.Uint4 next rest last same = absurd cc
-not_cases kinds.Int4 next rest last same = absurd cc
-not_cases kinds.Property next rest last same = absurd cc
-not_cases kinds.Object next rest last same = absurd cc
-
+-- behind one that is no switch's
 pub last_behind : (kind next : Kind) (rest : List Kind) → is_cases_last (kind ∷ next ∷ rest) ≡ true → is_cases_last (next ∷ rest) ≡ true
 last_behind kinds.Cases next rest last = absurd cc
 last_behind kinds.Ubyte next rest last = last
@@ -151,13 +140,6 @@ last_behind kinds.Uint4 next rest last = last
 last_behind kinds.Int4 next rest last = last
 last_behind kinds.Property next rest last = last
 last_behind kinds.Object next rest last = last
-
--- where such an operand ends
-pub end_at : (code : Pool) (w : Window) (place end : ℕ) (kind : Kind) → kind ≢ kinds.Cases → EndsOperand code w place kind end
-    → (end ≡ place + width_of kind) × (end ≤ length w.bytes.now)
-end_at code w place end kind other ends =
-    let size = size_of-operand_by kind (w.address + place) (number_at (width_of kind) w.bytes.now place) other in
-    (ends.end_is ∙ ap (λ n. place + n) size, ends.shown (sym size))
 
 -- those behind the first don't stand there
 none_behind : (code : Pool) (at : ℕ) (first : Operand) (rest : List Kind) → HasOperand code at first
@@ -199,57 +181,169 @@ ends_more code w place mid kind rest (Some end) other first ends =
       bounded = ends.bounded;
     }
 
--- some operands, of which the first one ends there
-pub ends_all : (code : Pool) (w : Window) (place mid : ℕ) (kind : Kind) (all rest : List Kind) (found : Option ℕ) → all ≡ kind ∷ rest
-    → is_cases_last all ≡ true → (length rest == 0) ≡ false → EndsOperand code w place kind mid → FindsEnds code w mid rest found
-    → FindsEnds code w place all found
-ends_all code w place mid kind all [] found is last some first ends = absurd cc
-ends_all code w place mid kind all (next ∷ more) found is last some first ends =
-    let here : is_cases_last (kind ∷ next ∷ more) ≡ true = ap is_cases_last (sym is) ∙ last in
-    subst (λ (ks : List Kind). FindsEnds code w place ks found) (sym is)
-    (ends_more code w place mid kind (next ∷ more) found (not_cases kind next more here) first ends)
+-- ---- all operands, by the row
 
--- ---- operands that are there wherever their bytes are
+cases_or_other : (kind : Kind) → (kind ≡ kinds.Cases) ⊎ (kind ≢ kinds.Cases)
+cases_or_other kinds.Cases = inl refl
+cases_or_other kinds.Ubyte = inr (λ same. absurd cc)
+cases_or_other kinds.Sbyte = inr (λ same. absurd cc)
+cases_or_other kinds.Uint2 = inr (λ same. absurd cc)
+cases_or_other kinds.Jump = inr (λ same. absurd cc)
+cases_or_other kinds.Uint4 = inr (λ same. absurd cc)
+cases_or_other kinds.Int4 = inr (λ same. absurd cc)
+cases_or_other kinds.Property = inr (λ same. absurd cc)
+cases_or_other kinds.Object = inr (λ same. absurd cc)
 
--- such an operand, and those behind it
-record PlainFirst (kind : Kind) (rest : List Kind) : Type 0 where
-  pub other : kind ≢ kinds.Cases
-  pub named : (n : ℕ) → IsNamed kind n
-  pub behind : are_plain rest ≡ true
+-- nothing stands behind cases
+cases_alone : (kind : Kind) (rest : List Kind) → kind ≡ kinds.Cases → is_cases_last (kind ∷ rest) ≡ true → rest ≡ []
+cases_alone kind [] same last = refl
+cases_alone kind (next ∷ rest) same last =
+    let here : is_cases_last (kinds.Cases ∷ next ∷ rest) ≡ true = subst (λ (k : Kind). is_cases_last (k ∷ next ∷ rest) ≡ true) same last in
+    absurd cc
 
-plain_first : (kind : Kind) (rest : List Kind) → are_plain (kind ∷ rest) ≡ true → PlainFirst kind rest
-plain_first kinds.Ubyte rest plain = record { other = λ same. absurd cc; named = λ n. tt; behind = plain }
-plain_first kinds.Sbyte rest plain = record { other = λ same. absurd cc; named = λ n. tt; behind = plain }
-plain_first kinds.Uint2 rest plain = record { other = λ same. absurd cc; named = λ n. tt; behind = plain }
-plain_first kinds.Jump rest plain = record { other = λ same. absurd cc; named = λ n. tt; behind = plain }
-plain_first kinds.Uint4 rest plain = record { other = λ same. absurd cc; named = λ n. tt; behind = plain }
-plain_first kinds.Int4 rest plain = record { other = λ same. absurd cc; named = λ n. tt; behind = plain }
-plain_first kinds.Property rest plain = absurd cc
-plain_first kinds.Object rest plain = absurd cc
-plain_first kinds.Cases rest plain = absurd cc
+last_rest : (kind : Kind) (rest : List Kind) → is_cases_last (kind ∷ rest) ≡ true → is_cases_last rest ≡ true
+last_rest kind [] last = refl
+last_rest kind (next ∷ rest) last = last_behind kind next rest last
 
-pub ends_plain : (code : Pool) (w : Window) (place : ℕ) (kinds : List Kind) → Shows code w.address w.bytes.now → 0 < length w.bytes.now
-    → are_plain kinds ≡ true → place + widths_of kinds ≤ length w.bytes.now → EndsOperands code w place kinds (place + widths_of kinds)
-ends_plain code w place [] shows some plain le =
-    let here : place ≡ place + 0 = omega arith in
-    subst (λ (n : ℕ). EndsOperands code w place [] n) here (ends_none code w place shows some (omega arith))
-ends_plain code w place (kind ∷ rest) shows some plain le =
-    let first = plain_first kind rest plain in
-    let end = end_fixed code w place kind shows (omega arith) (first.named _) first.other in
-    let behind = ends_plain code w (place + width_of kind) rest shows some first.behind (omega arith) in
-    let same : (place + width_of kind) + widths_of rest ≡ place + (width_of kind + widths_of rest) = omega arith in
-    subst (λ (n : ℕ). EndsOperands code w place (kind ∷ rest) n) same
-    (ends_more code w place (place + width_of kind) kind rest (Some ((place + width_of kind) + widths_of rest)) first.other end behind)
+cased_behind : (kind : Kind) (rest : List Kind) → kind ≢ kinds.Cases → are_cased (kind ∷ rest) ≡ are_cased rest
+cased_behind kinds.Cases rest other = absurd (other refl)
+cased_behind kinds.Ubyte rest other = refl
+cased_behind kinds.Sbyte rest other = refl
+cased_behind kinds.Uint2 rest other = refl
+cased_behind kinds.Jump rest other = refl
+cased_behind kinds.Uint4 rest other = refl
+cased_behind kinds.Int4 rest other = refl
+cased_behind kinds.Property rest other = refl
+cased_behind kinds.Object rest other = refl
 
+-- cases have two bytes at least
+pub cased_wide : (kinds : List Kind) → are_cased kinds ≡ true → 2 ≤ widths_of kinds
+cased_wide [] cased = absurd cc
+cased_wide (kind ∷ rest) cased =
+    elim (cases_or_other kind) [
+      | inl same ↦ let width : width_of kind ≡ 2 = ap width_of same in omega (arith, width)
+      | inr other ↦ let behind = cased_wide rest (sym (cased_behind kind rest other) ∙ cased) in omega (arith, behind)
+    ]
+
+-- what the test of a number tells
+named_front : (kind : Kind) (front : Bool) (n : ℕ) → named_by kind front n ≡ true → front ≡ true
+named_front kinds.Ubyte front n is = is
+named_front kinds.Sbyte front n is = is
+named_front kinds.Uint2 front n is = is
+named_front kinds.Jump front n is = is
+named_front kinds.Uint4 front n is = is
+named_front kinds.Int4 front n is = is
+named_front kinds.Property front n is = (and_parts front (nat_lt 0 n) is).0
+named_front kinds.Object front n is = (and_parts front (nat_lt 0 n) is).0
+named_front kinds.Cases front n is = is
+
+named_is : (kind : Kind) (n : ℕ) → named_by kind true n ≡ true → IsNamed kind n
+named_is kinds.Ubyte n is = tt
+named_is kinds.Sbyte n is = tt
+named_is kinds.Uint2 n is = tt
+named_is kinds.Jump n is = tt
+named_is kinds.Uint4 n is = tt
+named_is kinds.Int4 n is = tt
+named_is kinds.Property n is = ltb-true 0 n is
+named_is kinds.Object n is = ltb-true 0 n is
+named_is kinds.Cases n is = tt
+
+unnamed_is : (kind : Kind) (n : ℕ) → named_by kind true n ≡ false → ¬ IsNamed kind n
+unnamed_is kinds.Ubyte n is some = absurd cc
+unnamed_is kinds.Sbyte n is some = absurd cc
+unnamed_is kinds.Uint2 n is some = absurd cc
+unnamed_is kinds.Jump n is some = absurd cc
+unnamed_is kinds.Uint4 n is some = absurd cc
+unnamed_is kinds.Int4 n is some = absurd cc
+unnamed_is kinds.Property n is some = let none = ltb-false 0 n is in omega (arith, none, some)
+unnamed_is kinds.Object n is some = let none = ltb-false 0 n is in omega (arith, none, some)
+unnamed_is kinds.Cases n is some = absurd cc
+
+-- those in front are named where all are
+all_named : (front : Bool) (bytes : List ℕ) (place : ℕ) (kinds : List Kind) → are_named front bytes place kinds ≡ true → front ≡ true
+all_named front bytes place [] is = is
+all_named front bytes place (kind ∷ rest) is =
+    named_front kind front (number_at (width_of kind) bytes place)
+    (all_named (named_by kind front (number_at (width_of kind) bytes place)) bytes (place + width_of kind) rest is)
+
+-- where the first is named, those behind it decide
+named_behind : (kind : Kind) (bytes : List ℕ) (place : ℕ) (rest : List Kind) (b : Bool)
+    → named_by kind true (number_at (width_of kind) bytes place) ≡ true → are_named true bytes place (kind ∷ rest) ≡ b
+    → are_named true bytes (place + width_of kind) rest ≡ b
+named_behind kind bytes place rest b named is = ap (λ front. are_named front bytes (place + width_of kind) rest) (sym named) ∙ is
+
+-- too few bytes
 pub ends_missing : (code : Pool) (w : Window) (place : ℕ) (kinds : List Kind) → Shows code w.address w.bytes.now → place ≤ length w.bytes.now
-    → place + widths_of kinds ≤ 10 → are_plain kinds ≡ true → length w.bytes.now < place + widths_of kinds → FindsEnds code w place kinds None
-ends_missing code w place [] shows behind room plain less = absurd (omega arith)
-ends_missing code w place (kind ∷ rest) shows behind room plain less =
-    let first = plain_first kind rest plain in
+    → place + widths_of kinds ≤ 10 → is_cases_last kinds ≡ true → length w.bytes.now < place + widths_of kinds → FindsEnds code w place kinds None
+ends_missing code w place [] shows behind room last less = absurd (omega arith)
+ends_missing code w place (kind ∷ rest) shows behind room last less =
+    let n : ℕ = number_at (width_of kind) w.bytes.now place in
     elim (cases_lt (length w.bytes.now) (place + width_of kind)) [
       | inl short ↦ ends_first code w place kind rest (end_short code w place kind (omega arith) behind short)
-      | inr enough ↦
-          let end = end_fixed code w place kind shows enough (first.named _) first.other in
-          ends_more code w place (place + width_of kind) kind rest None first.other end
-          (ends_missing code w (place + width_of kind) rest shows enough (omega arith) first.behind (omega arith))
+      | inr enough ↦ elim (cases_or_other kind) [
+        | inl same ↦
+            let none : widths_of rest ≡ 0 = ap widths_of (cases_alone kind rest same last) in
+            absurd (omega (arith, none, less, enough))
+        | inr other ↦ elim (cases_Bool (named_by kind true n)) [
+          | inl named ↦ ends_more code w place (place + width_of kind) kind rest None other
+              (end_fixed code w place kind shows enough (named_is kind n named) other)
+              (ends_missing code w (place + width_of kind) rest shows enough (omega arith) (last_rest kind rest last) (omega arith))
+          | inr unnamed ↦ ends_first code w place kind rest (end_unnamed code w place kind shows enough (unnamed_is kind n unnamed))
+        ]
+      ]
+    ]
+
+-- a property or an object of the number 0
+pub ends_unnamed : (code : Pool) (w : Window) (place : ℕ) (kinds : List Kind) → Shows code w.address w.bytes.now
+    → place + widths_of kinds ≤ length w.bytes.now → is_cases_last kinds ≡ true → are_named true w.bytes.now place kinds ≡ false
+    → FindsEnds code w place kinds None
+ends_unnamed code w place [] shows enough last unnamed = absurd cc
+ends_unnamed code w place (kind ∷ rest) shows enough last unnamed =
+    let n : ℕ = number_at (width_of kind) w.bytes.now place in
+    elim (cases_Bool (named_by kind true n)) [
+      | inr first ↦ ends_first code w place kind rest (end_unnamed code w place kind shows (omega arith) (unnamed_is kind n first))
+      | inl first ↦
+          let behind = named_behind kind w.bytes.now place rest false first unnamed in
+          elim (cases_or_other kind) [
+            | inl same ↦
+                let none : are_named true w.bytes.now (place + width_of kind) [] ≡ false =
+                subst (λ (ks : List Kind). are_named true w.bytes.now (place + width_of kind) ks ≡ false) (cases_alone kind rest same last) behind in
+                absurd cc
+            | inr other ↦ ends_more code w place (place + width_of kind) kind rest None other
+                (end_fixed code w place kind shows (omega arith) (named_is kind n first) other)
+                (ends_unnamed code w (place + width_of kind) rest shows (omega arith) (last_rest kind rest last) behind)
+          ]
+    ]
+
+-- what was found of the last operand: cases, or their end
+abbrev pub FindsLast : Pool → Window → ℕ → List Kind → Option ℕ → Type 0
+FindsLast code w end all found =
+    (are_cased all ≡ false → found ≡ Some end) × (are_cased all ≡ true → (at : ℕ) → at + 2 ≡ end → FindsEnd code w at kinds.Cases found)
+
+pub ends_named : (code : Pool) (w : Window) (place end : ℕ) (kinds : List Kind) (found : Option ℕ) → Shows code w.address w.bytes.now
+    → 0 < length w.bytes.now → end ≡ place + widths_of kinds → end ≤ length w.bytes.now → is_cases_last kinds ≡ true
+    → are_named true w.bytes.now place kinds ≡ true → FindsLast code w end kinds found → FindsEnds code w place kinds found
+ends_named code w place end [] found shows some is enough last are_so ends =
+    let here : end ≡ place = omega (arith, is) in
+    subst (λ (o : Option ℕ). FindsEnds code w place [] o) (sym (ends.0 refl ∙ ap Some here)) (ends_none code w place shows some (omega arith))
+ends_named code w place end (kind ∷ rest) found shows some is enough last are_so ends =
+    let n : ℕ = number_at (width_of kind) w.bytes.now place in
+    let first = all_named (named_by kind true n) w.bytes.now (place + width_of kind) rest are_so in
+    let behind = named_behind kind w.bytes.now place rest true first are_so in
+    elim (cases_or_other kind) [
+      | inl same ↦
+          let alone = cases_alone kind rest same last in
+          let none : widths_of rest ≡ 0 = ap widths_of alone in
+          let width : width_of kind ≡ 2 = ap width_of same in
+          let cased : are_cased (kind ∷ rest) ≡ true = ap (λ k. are_cased (k ∷ rest)) same in
+          let told : FindsEnd code w place kinds.Cases found = ends.1 cased place (omega (arith, is, none, width)) in
+          let one : FindsEnds code w place (kinds.Cases ∷ []) found = ends_one code w place kinds.Cases found told in
+          let all : kinds.Cases ∷ [] ≡ kind ∷ rest = (λ i. sym same i ∷ sym alone i) in
+          subst (λ (ks : List Kind). FindsEnds code w place ks found) all one
+      | inr other ↦
+          let cased = cased_behind kind rest other in
+          ends_more code w place (place + width_of kind) kind rest found other
+          (end_fixed code w place kind shows (omega (arith, is)) (named_is kind n first) other)
+          (ends_named code w (place + width_of kind) end rest found shows some (omega (arith, is)) enough (last_rest kind rest last) behind
+          (λ none. ends.0 (cased ∙ none), λ yes. ends.1 (cased ∙ yes)))
     ]

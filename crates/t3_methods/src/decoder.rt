@@ -40,9 +40,13 @@ pub fn decode_at(pools: &Pools, address: u32) -> Result<Decoded, CodeRefusal>
     let window = Window::in_page(pools, address);
     match decode::<true>(pools, &window) {
         Ok(decoded) => Ok(decoded),
-        Err(CodeRefusal::Operand) if window.bytes.len() < WINDOW_SIZE => decode_over(
-            pools, address,
-        ),
+        // Taken apart, so that what stands in a page isn't kept in memory for the sake of this call.
+        Err(CodeRefusal::Operand) if window.bytes.len() < WINDOW_SIZE => {
+            match decode_over(pools, address) {
+                Ok(decoded) => Ok(decoded),
+                Err(refusal) => Err(refusal),
+            }
+        }
         Err(refusal) => Err(refusal),
     }
 }
@@ -74,7 +78,7 @@ fn decode<const HOT: bool>(pools: &Pools, window: &Window) -> Result<Decoded, Co
     let Some(row) = row_at::<HOT>(opcode, window) else {
         return Err(CodeRefusal::Opcode(opcode));
     };
-    let Some(size) = instruction_end(pools, *window, row.end, row.is_plain, row.kinds) else {
+    let Some(size) = instruction_end(pools, *window, &row) else {
         return Err(CodeRefusal::Operand);
     };
     Ok(Decoded {

@@ -1,5 +1,5 @@
 //! The instruction table as code: a row for each opcode.
-ghost use Rattle.std.specs.Prelude.{◌<◌, ◌^◌};
+ghost use Rattle.std.specs.Prelude.{◌≡◌, ◌<◌, ◌^◌, ◌&&◌, nat_lt};
 ghost use Rattle.t3_methods.specs.Inner.Rows.{FindsRow};
 ghost use Rattle.t3_methods.specs.InstructionTable.{push_row, math_row, call_row, stack_row};
 ghost use Rattle.t3_methods.specs.InstructionTable.{jump_row, make_row, local_row, row_of};
@@ -17,9 +17,10 @@ pub(crate) struct TableRow<Code> {
     pub(crate) kinds: &'static [Kind],
     /// Where the numbers of the operands end, from the opcode on.
     pub(crate) end: u32,
-    /// Whether the instruction stands wherever so many bytes do: no operand is a property or an
-    /// object, whose number may not be 0, and none is cases.
-    pub(crate) is_plain: bool,
+    /// Whether no property and no object among the operands has the number 0.
+    pub(crate) is_named: bool,
+    /// Whether the last operand is cases, which stand behind its number.
+    pub(crate) has_cases: bool,
     pub(crate) takes: u32,
     pub(crate) slot: Slot,
 }
@@ -28,11 +29,11 @@ pub(crate) struct TableRow<Code> {
 /// instruction, how many values it takes off the stack or looks at there, and the local or argument
 /// that it names, if it names one.
 ///
-/// The operands are read one behind the other: `$at` is where the next one stands, and `$plain`
-/// whether those in front of it leave the row plain.
+/// The operands are read one behind the other: `$at` is where the next one stands, `$named` whether
+/// those in front of it are named, and `$cases` whether they are cases.
 macro_rules! row {
     ($name:literal [] $code:expr, $takes:expr) => {
-        row!(@read none, 1, true, [] { $name [] $code, $takes, NoSlot })
+        row!(@read none, 1, true, false, [] { $name [] $code, $takes, NoSlot })
     };
     ($name:literal [$($kind:ident $value:ident),*] in $window:ident, $code:expr, $takes:expr) => {
         row!($name [$($kind $value),*] in $window, $code, $takes, NoSlot)
@@ -41,47 +42,56 @@ macro_rules! row {
         $name:literal [$($kind:ident $value:ident),*] in $window:ident, $code:expr, $takes:expr,
         $slot:expr
     ) => {
-        row!(@read $window, 1, true, [$($kind $value)*]
+        row!(@read $window, 1, true, false, [$($kind $value)*]
             { $name [$($kind)*] $code, $takes, $slot })
     };
-    (@read $window:ident, $at:expr, $plain:tt, [Ubyte $value:ident $($rest:tt)*] $row:tt) => {{
+    (@read $window:ident, $at:expr, $named:expr, $cases:tt,
+        [Ubyte $value:ident $($rest:tt)*] $row:tt) => {{
         let $value = $window.ubyte($at);
-        row!(@read $window, $at + 1, $plain, [$($rest)*] $row)
+        row!(@read $window, $at + 1, $named, $cases, [$($rest)*] $row)
     }};
-    (@read $window:ident, $at:expr, $plain:tt, [Sbyte $value:ident $($rest:tt)*] $row:tt) => {{
+    (@read $window:ident, $at:expr, $named:expr, $cases:tt,
+        [Sbyte $value:ident $($rest:tt)*] $row:tt) => {{
         let $value = $window.sbyte($at);
-        row!(@read $window, $at + 1, $plain, [$($rest)*] $row)
+        row!(@read $window, $at + 1, $named, $cases, [$($rest)*] $row)
     }};
-    (@read $window:ident, $at:expr, $plain:tt, [Uint2 $value:ident $($rest:tt)*] $row:tt) => {{
+    (@read $window:ident, $at:expr, $named:expr, $cases:tt,
+        [Uint2 $value:ident $($rest:tt)*] $row:tt) => {{
         let $value = $window.uint2($at);
-        row!(@read $window, $at + 2, $plain, [$($rest)*] $row)
+        row!(@read $window, $at + 2, $named, $cases, [$($rest)*] $row)
     }};
-    (@read $window:ident, $at:expr, $plain:tt, [Jump $value:ident $($rest:tt)*] $row:tt) => {{
+    (@read $window:ident, $at:expr, $named:expr, $cases:tt,
+        [Jump $value:ident $($rest:tt)*] $row:tt) => {{
         let $value = $window.int2($at);
-        row!(@read $window, $at + 2, $plain, [$($rest)*] $row)
+        row!(@read $window, $at + 2, $named, $cases, [$($rest)*] $row)
     }};
-    (@read $window:ident, $at:expr, $plain:tt, [Uint4 $value:ident $($rest:tt)*] $row:tt) => {{
+    (@read $window:ident, $at:expr, $named:expr, $cases:tt,
+        [Uint4 $value:ident $($rest:tt)*] $row:tt) => {{
         let $value = $window.uint4($at);
-        row!(@read $window, $at + 4, $plain, [$($rest)*] $row)
+        row!(@read $window, $at + 4, $named, $cases, [$($rest)*] $row)
     }};
-    (@read $window:ident, $at:expr, $plain:tt, [Int4 $value:ident $($rest:tt)*] $row:tt) => {{
+    (@read $window:ident, $at:expr, $named:expr, $cases:tt,
+        [Int4 $value:ident $($rest:tt)*] $row:tt) => {{
         let $value = $window.int4($at);
-        row!(@read $window, $at + 4, $plain, [$($rest)*] $row)
+        row!(@read $window, $at + 4, $named, $cases, [$($rest)*] $row)
     }};
-    (@read $window:ident, $at:expr, $plain:tt, [Property $value:ident $($rest:tt)*] $row:tt) => {{
+    (@read $window:ident, $at:expr, $named:expr, $cases:tt,
+        [Property $value:ident $($rest:tt)*] $row:tt) => {{
         let $value = $window.uint2($at);
-        row!(@read $window, $at + 2, false, [$($rest)*] $row)
+        row!(@read $window, $at + 2, named_too($named, u32::from($value)), $cases, [$($rest)*] $row)
     }};
-    (@read $window:ident, $at:expr, $plain:tt, [Object $value:ident $($rest:tt)*] $row:tt) => {{
+    (@read $window:ident, $at:expr, $named:expr, $cases:tt,
+        [Object $value:ident $($rest:tt)*] $row:tt) => {{
         let $value = $window.uint4($at);
-        row!(@read $window, $at + 4, false, [$($rest)*] $row)
+        row!(@read $window, $at + 4, named_too($named, $value), $cases, [$($rest)*] $row)
     }};
-    (@read $window:ident, $at:expr, $plain:tt, [Cases $value:ident $($rest:tt)*] $row:tt) => {{
+    (@read $window:ident, $at:expr, $named:expr, $cases:tt,
+        [Cases $value:ident $($rest:tt)*] $row:tt) => {{
         let $value = $window.uint2($at);
-        row!(@read $window, $at + 2, false, [$($rest)*] $row)
+        row!(@read $window, $at + 2, $named, true, [$($rest)*] $row)
     }};
     (
-        @read $window:ident, $end:expr, $plain:tt, []
+        @read $window:ident, $end:expr, $named:expr, $cases:tt, []
         { $name:literal [$($kind:ident)*] $code:expr, $takes:expr, $slot:expr }
     ) => {
         Some(TableRow {
@@ -89,11 +99,20 @@ macro_rules! row {
             name: $name,
             kinds: &[$($kind),*],
             end: $end,
-            is_plain: $plain,
+            is_named: $named,
+            has_cases: $cases,
             takes: $takes,
             slot: $slot,
         })
     };
+}
+
+/// Whether the operands in front are named, and a property or an object of this number too.
+#[inline(always)]
+fn named_too(named: bool, number: u32) -> bool
+    ensures { result ≡ (named && nat_lt 0 number) }
+{
+    named && number != 0
 }
 
 #[inline(always)]
@@ -319,7 +338,8 @@ macro_rules! among {
                 name: row.name,
                 kinds: row.kinds,
                 end: row.end,
-                is_plain: row.is_plain,
+                is_named: row.is_named,
+                has_cases: row.has_cases,
                 takes: row.takes,
                 slot: row.slot,
             });

@@ -40,11 +40,6 @@ IsNamed kinds.Uint4 n = Unit {0}
 IsNamed kinds.Int4 n = Unit {0}
 IsNamed kinds.Cases n = Unit {0}
 
--- whether a number may be that of an operand of the kind
-abbrev pub DecidesNamed : Kind → ℕ → Bool → Type 0
-DecidesNamed kind n true = IsNamed kind n
-DecidesNamed kind n false = ¬ IsNamed kind n
-
 -- the operand that a window says of a kind at a place
 abbrev pub operand_in : Window → ℕ → Kind → Operand
 operand_in window place kind = operand_by kind (window.address + place) (number_at (width_of kind) window.bytes.now place)

@@ -4,7 +4,7 @@ use Rattle.t3_methods.specs.declared.instr.Instr.{Instr}
 use Rattle.t3_methods.specs.declared.window.Window.{Window}
 use Rattle.t3_methods.specs.declared.rows.TableRow.{TableRow}
 use Rattle.t3_methods.specs.InstructionTable.{Row, row, row_of}
-use Rattle.t3_methods.specs.Inner.Window.{operands_by, widths_of, are_plain, is_windowed}
+use Rattle.t3_methods.specs.Inner.Window.{operands_by, widths_of, are_named, are_cased, is_windowed}
 
 -- no row has the opcode
 abbrev pub HasNoRow : {Code : Type 0} → (Code → Row) → ℕ → Type 0
@@ -14,7 +14,8 @@ HasNoRow {Code} rows opcode = (code : Code) → (rows code).opcode ≢ opcode
 pub record IsRow {Code : Type 0} (rows : Code → Row) (opcode : ℕ) (window : Window) (found : TableRow Code) : Type 0 where
   pub row_is : rows found.code ≡ row opcode found.name.now (operands_by window.address window.bytes.now 1 found.kinds.now) found.takes found.slot
   pub end_is : found.end ≡ 1 + widths_of found.kinds.now
-  pub plain_is : found.is_plain ≡ are_plain found.kinds.now
+  pub named_is : found.is_named ≡ are_named true window.bytes.now 1 found.kinds.now
+  pub cases_are : found.has_cases ≡ are_cased found.kinds.now
   pub windowed : is_windowed found.kinds.now ≡ true
 
 -- the row of an opcode, or that none has it

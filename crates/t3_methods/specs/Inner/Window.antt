@@ -1,5 +1,5 @@
 -- The operands that the bytes of an instruction say.
-use Rattle.std.specs.Prelude.{◌≡◌, ℕ, ◌+◌, ◌^◌, ◌<◌, ◌≤◌, Bool, true, false, ◌&&◌, nat_le, List, [], ◌∷◌, length, take, drop, None, if◌then◌else◌}
+use Rattle.std.specs.Prelude.{◌≡◌, ℕ, ◌+◌, ◌^◌, ◌<◌, ◌≤◌, Bool, true, false, ◌&&◌, nat_lt, nat_le, List, [], ◌∷◌, length, take, drop, None, if◌then◌else◌}
 use Rattle.std.specs.FinMap.{get}
 use Rattle.t3_pools.specs.Pool.{Pool, HasBytes}
 use Rattle.std.specs.Int.{w8, w16, w32, cast_signed}
@@ -52,18 +52,29 @@ abbrev pub widths_of : List Kind → ℕ
 widths_of [] = 0
 widths_of (kind ∷ kinds) = width_of kind + widths_of kinds
 
--- whether each operand is there wherever its bytes are: a property and an object have no number 0, and more stands behind cases
-abbrev pub are_plain : List Kind → Bool
-are_plain [] = true
-are_plain (kinds.Ubyte ∷ kinds) = are_plain kinds
-are_plain (kinds.Sbyte ∷ kinds) = are_plain kinds
-are_plain (kinds.Uint2 ∷ kinds) = are_plain kinds
-are_plain (kinds.Jump ∷ kinds) = are_plain kinds
-are_plain (kinds.Uint4 ∷ kinds) = are_plain kinds
-are_plain (kinds.Int4 ∷ kinds) = are_plain kinds
-are_plain (kinds.Property ∷ kinds) = false
-are_plain (kinds.Object ∷ kinds) = false
-are_plain (kinds.Cases ∷ kinds) = false
+-- whether the number of an operand may be this one, and those in front may be theirs: a property and an object have no number 0
+abbrev pub named_by : Kind → Bool → ℕ → Bool
+named_by kinds.Ubyte front n = front
+named_by kinds.Sbyte front n = front
+named_by kinds.Uint2 front n = front
+named_by kinds.Jump front n = front
+named_by kinds.Uint4 front n = front
+named_by kinds.Int4 front n = front
+named_by kinds.Property front n = front && nat_lt 0 n
+named_by kinds.Object front n = front && nat_lt 0 n
+named_by kinds.Cases front n = front
+
+-- the same of all operands of these kinds that bytes say from a place on
+abbrev pub are_named : Bool → List ℕ → ℕ → List Kind → Bool
+are_named front bytes place [] = front
+are_named front bytes place (kind ∷ kinds) =
+    are_named (named_by kind front (number_at (width_of kind) bytes place)) bytes (place + width_of kind) kinds
+
+-- whether cases are among the operands
+abbrev pub are_cased : List Kind → Bool
+are_cased [] = false
+are_cased (kinds.Cases ∷ kinds) = true
+are_cased (_ ∷ kinds) = are_cased kinds
 
 -- whether cases stand behind all other operands
 abbrev pub is_cases_last : List Kind → Bool
