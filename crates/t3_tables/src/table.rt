@@ -1,4 +1,4 @@
-ghost use Rattle.std.specs.Prelude.{◌≡◌, ◌+◌, IsTrue, IsSome, IfOk, OnOk, OnErr, length};
+ghost use Rattle.std.specs.Prelude.{◌≡◌, ◌+◌, ◌≤◌, IsTrue, IsSome, IfOk, OnOk, OnErr, length};
 ghost use Rattle.std.specs.FinMap.{get};
 ghost use Rattle.std.specs.FinSet as set;
 ghost use Rattle.t3_undo.specs.Content.{shown, is_form, places_for};
@@ -122,6 +122,7 @@ impl Metaclass for Table {
         ensures next { self.new.next_tick ≡ tick_after self.old.next_tick (shown content) }
         ensures old { shown result ≡ get (parts_of self.old) cell.now }
         ensures formed { IsTrue (is_form cell.now (shown result)) }
+        ensures below { tick_after 0 (shown result) ≤ self.old.next_tick }
     {
         match cell {
             Cell::Default => exchange_default(&mut self.default, content),
