@@ -23,7 +23,7 @@ use Rattle.t3_undo.specs.declared.cell.Cell.TheVariants as cells
 use Rattle.t3_undo.specs.declared.content.Content.{Content}
 use Rattle.t3_undo.specs.declared.content.Content.TheVariants.{Absent, Held, Slot}
 use Rattle.t3_undo.proofs.SlotLists.{same, seen, get-parts_of, contains-places_of, parts_of-set_value, places_of-set_value, parts_of-add-absent, places_of-add, insert-places_of, len-places_of}
-use Rattle.t3_lists.specs.Vector.{content_of, numbered, parts_of, places_of, HasPlaceBelow}
+use Rattle.t3_lists.specs.Vector.{content_of, numbered, parts_of, places_of, is_element, HasPlaceBelow}
 use Rattle.t3_lists.specs.Inner.Elements.{index_of, content_found, content_in, element_of, exchanged, with_next, AreCounted, HasPlacesTo}
 
 abbrev Elements : Type 0
@@ -132,6 +132,13 @@ formed elements (cells.Elem (suc index)) e = by (slice_get elements index)
 formed elements (cells.Prop n) e = absurd (true≢false (sym e))
 formed elements (cells.Key key) e = absurd (true≢false (sym e))
 formed elements cells.Default e = absurd (true≢false (sym e))
+
+-- only an element has a place
+pub element-placed : (elements : Elements) (cell : Cell) → is_some (found elements (index_of cell)) ≡ true → IsTrue (is_element cell)
+element-placed elements (cells.Elem n) e = refl
+element-placed elements (cells.Prop n) e = absurd (true≢false (sym e))
+element-placed elements (cells.Key key) e = absurd (true≢false (sym e))
+element-placed elements cells.Default e = absurd (true≢false (sym e))
 
 -- an element set
 set-numbered : (number index m : ℕ) (elements : Elements) (element : Option Holder) → m ≡ number + index

@@ -1,5 +1,5 @@
 -- Vectors: elements that have a place, each with its value or missing; as cells, and as a list of items.
-use Rattle.std.specs.Prelude.{◌≡◌, ℕ, suc, ◌<◌, List, [], ◌∷◌, map, Option, None, Some, IsTrue}
+use Rattle.std.specs.Prelude.{◌≡◌, ℕ, suc, ◌<◌, Bool, true, false, List, [], ◌∷◌, map, Option, None, Some, IsTrue}
 use Rattle.std.specs.List.{filter_map}
 use Rattle.std.specs.FinMap.{entries}
 use Rattle.std.specs.FinSet as set
@@ -47,6 +47,13 @@ filled items = parts_of (map (λ item. Some item) items)
 -- no element is missing below another: there are items of which these are the parts
 abbrev pub IsWhole : Parts → Type 0
 IsWhole parts = (items : List Holder) × (parts ≡ filled items)
+
+-- whether the cell is an element
+abbrev pub is_element : Cell → Bool
+is_element (cells.Elem _) = true
+is_element (cells.Prop _) = false
+is_element (cells.Key _) = false
+is_element cells.Default = false
 
 -- the cell is an element, from number 1 on, and all lower elements have a place
 abbrev pub HasPlaceBelow : Places → Cell → Type 0

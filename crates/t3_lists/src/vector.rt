@@ -4,7 +4,7 @@ ghost use Rattle.std.specs.FinSet as set;
 ghost use Rattle.t3_holder.specs.declared.holder.Holder.{Holder};
 ghost use Rattle.t3_undo.specs.Content.{shown, is_form, places_for};
 ghost use Rattle.t3_undo.specs.Objects.{set_at};
-ghost use Rattle.t3_lists.specs.Vector.{parts_of, places_of, items_of, filled, IsWhole};
+ghost use Rattle.t3_lists.specs.Vector.{parts_of, places_of, items_of, filled, is_element, IsWhole};
 
 use crate::elements::{add_missing, content_in, exchange, one_if_present, present_elements};
 use std::alloc::Global;
@@ -80,7 +80,15 @@ impl Metaclass for Vector {
         content_in(&self.elements, cell)
     }
 
-    fn put(&mut self, cell: &Cell, content: Content) -> Content {
+    fn put(&mut self, cell: &Cell, content: Content) -> Content
+        requires place { IsTrue (set.contains (places_of self.old) cell.now) }
+        requires form { IsTrue (is_form cell.now (shown content)) }
+        ensures parts { parts_of self.new ≡ set_at (parts_of self.old) cell.now (shown content) }
+        ensures places { places_of self.new ≡ places_of self.old }
+        ensures old { shown result ≡ get (parts_of self.old) cell.now }
+        ensures formed { IsTrue (is_form cell.now (shown result)) }
+        ensures only_elements { IsTrue (is_element cell.now) }
+    {
         let added = one_if_present(&content);
         let old = exchange(&mut self.elements, cell, content);
         let present = &mut self.present;

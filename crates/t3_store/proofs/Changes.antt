@@ -1,20 +1,23 @@
 -- A cell of a store's object set or taken away: what the store is then, and what stays true of it.
-use Rattle.std.proofs.Common.{◌≡◌, ◌∙◌, ap, sym, subst, refl, ℕ, ◌+◌, ◌≤◌, ◌^◌, Bool, true, false, ◌&&◌, if◌then◌else◌, List, Option, None, Some, Result, Ok, Err, IsTrue, IsSome, is_some, is_none, true≢false, arith}
-use Rattle.std.specs.FinMap.{get, len}
+use Rattle.std.proofs.Common.{◌≡◌, ◌∙◌, ap, sym, subst, refl, ℕ, ◌+◌, ◌-◌, ◌<◌, ◌≤◌, ◌^◌, Bool, true, false, ◌&&◌, if◌then◌else◌, List, Option, None, Some, Result, Ok, Err, IsTrue, IsSome, is_some, is_none, true≢false, arith}
+use Rattle.std.specs.Ordering.{nat_cmp}
+use Rattle.std.specs.FinMap.{FinMap, get, len}
 use Rattle.t3_undo.specs.Content.{Present}
 use Rattle.t3_undo.specs.Objects.{Objects, OldPart, Segment, adjust}
 use Rattle.t3_undo.specs.Journal.{Held, note_in}
 use Rattle.t3_undo.specs.declared.cell.Cell.{Cell}
 use Rattle.t3_holder.specs.declared.holder.Holder.{Holder}
-use Rattle.t3_store.specs.Value.{Value, units_in, cell_units, holder_at, can_have_at, with_cell, without_cell}
+use Rattle.t3_store.specs.Value.{Value, units_in, cell_units, holder_at, can_have_at, can_lose_at, with_cell, without_cell}
 use Rattle.t3_store.specs.Store.{StoreValue, value_at, either, is_persistent, noted, with_value, changed_in, taken, written, set_cell, is_full_with, objects_in, store_units}
-use Rattle.t3_store.specs.Inner.Shapes.{Shape, Stored, values}
+use Rattle.t3_store.specs.Inner.Shapes.{Shape, Stored, values, AreWithin}
 use Rattle.t3_store.specs.Inner.Store.{marks_of, store_of, IsWritten, IsStore, AreNumbered, saved_units, IsFront}
 use Rattle.t3_store.specs.declared.limits.StoreLimits.{StoreLimits}
 use Rattle.t3_store.proofs.MapValues.{some-values, len-adjust, units_in-with, units_in-without, present-can_at}
 use Rattle.t3_store.proofs.Marks.{marks-changed}
 use Rattle.t3_store.specs.Inner.Whole.{supers_from, supers_of_both, AreWhole}
-use Rattle.t3_store.proofs.Turns.{not-full}
+use Rattle.t3_store.proofs.KindsKept.{kinds-persistent, kinds-transient, kinds-more}
+use Rattle.t3_store.proofs.Ticks.{within-more}
+use Rattle.t3_store.proofs.Creating.{not-full}
 use Rattle.t3_store.proofs.WholeKept.{whole-persistent, whole-transient}
 use Rattle.t3_store.proofs.Keeping.{front-of, front-changed, sound-keep, sound-noted, numbered-persistent, numbered-transient}
 
@@ -100,6 +103,7 @@ persistent-kept old new t next next_transient limits j units room writes n c g w
   whole = subst (λ o. AreWhole (supers_from o) (supers_of_both o t.objects) next next_transient
       (note_in j.record_limit (part n c was) j.segments)) (sym w.objects)
       (whole-persistent old.objects t.objects next next_transient j.record_limit n j.segments c w.content (part n c was) is.whole);
+  kinds = kinds-persistent old new t j.segments j.record_limit n writes c g was is.kinds w;
 }
 
 pub transient-kept : (p old new : Stored) (next next_transient : ℕ) (limits : StoreLimits) (j : Held) (units : List ℕ) (room writes n : ℕ)
@@ -126,7 +130,28 @@ transient-kept p old new next next_transient limits j units room writes n c g wa
   few_writes = more;
   whole = subst (λ o. AreWhole (supers_from p.objects) (supers_of_both p.objects o) next next_transient j.segments) (sym w.objects)
       (whole-transient p.objects old.objects next next_transient n j.segments c w.content is.whole);
+  kinds = kinds-transient p old new j.segments n writes c g was is.kinds w;
 }
+
+-- a write that changes nothing
+pub writes-kept : (p t : Stored) (next next_transient : ℕ) (limits : StoreLimits) (j : Held) (units : List ℕ) (room writes : ℕ)
+    → IsStore p t next next_transient limits j units room writes → writes + 1 ≤ 2 ^ 63
+    → IsStore p t next next_transient limits j units room (writes + 1)
+writes-kept p t next next_transient limits j units room writes is more = record {
+  bounded = is.bounded;
+  records = is.records;
+  savepoints = is.savepoints;
+  numbered = is.numbered;
+  sound = is.sound;
+  counted = is.counted;
+  few_writes = more;
+  whole = is.whole;
+  kinds = kinds-more p t j.segments writes is.kinds;
+}
+
+-- there is room for a tick more
+pub few-ticks : (ticks : FinMap nat_cmp ℕ) (writes : ℕ) → AreWithin (writes + 1) ticks → writes < 2 ^ 63 → AreWithin (2 ^ 64 - 2) ticks
+few-ticks ticks writes all few = within-more (writes + 1) (2 ^ 64 - 2) ticks (omega arith) all
 
 -- of a value in the one half or the other
 pub either-some : (a b : Option Value) → is_some a ≡ true → either a b ≡ a
@@ -164,7 +189,7 @@ ok-not r x e ok full b = let both : ◌≡◌ {A = Result _ _} (Ok x) (Err e) = 
 pub units-set : (old new : Stored) (n : ℕ) (c : Cell) (holder : Holder) (was : Option Present) (full : Bool) (limit : ℕ)
     → IsWritten old new n c (with_cell c holder) was → IsTrue (can_have_at (get (values old.objects) n) c)
     → (IsTrue (is_none (holder_at (get (values old.objects) n) c) && full) → ⊥)
-    → (full ≡ false → units_in (values old.objects) + 1 ≤ limit) → units_in (values old.objects) ≤ limit → units_in (values new.objects) ≤ limit
+    → (full ≡ false → units_in (values old.objects) + cell_units c ≤ limit) → units_in (values old.objects) ≤ limit → units_in (values new.objects) ≤ limit
 units-set old new n c holder was full limit w can apart room little =
     by (holder_at (get (values old.objects) n) c) full refl apart room
   where
@@ -172,20 +197,21 @@ units-set old new n c holder was full limit w can apart room little =
     sum = ap units_in w.values ∙ units_in-with (values old.objects) n c holder can
 
     by : (o : Option Holder) (f : Bool) → holder_at (get (values old.objects) n) c ≡ o → (IsTrue (is_none o && f) → ⊥)
-        → (f ≡ false → units_in (values old.objects) + 1 ≤ limit) → units_in (values new.objects) ≤ limit
+        → (f ≡ false → units_in (values old.objects) + cell_units c ≤ limit) → units_in (values new.objects) ≤ limit
     by (Some h) f e apart room =
         let same : units_in (values new.objects) ≡ units_in (values old.objects) =
         sum ∙ ap (λ o. if is_some o then units_in (values old.objects) else units_in (values old.objects) + cell_units c) e in
         omega arith
     by None true e apart room = absurd (apart refl)
     by None false e apart room =
-        let more : units_in (values new.objects) ≡ units_in (values old.objects) + 1 =
+        let more : units_in (values new.objects) ≡ units_in (values old.objects) + cell_units c =
         sum ∙ ap (λ o. if is_some o then units_in (values old.objects) else units_in (values old.objects) + cell_units c) e in
         omega (arith, room refl)
 
 pub units-taken : (old new : Stored) (n : ℕ) (c : Cell) (was : Option Present) → IsWritten old new n c (without_cell c) was
-    → IsSome (holder_at (get (values old.objects) n) c) → units_in (values new.objects) + 1 ≡ units_in (values old.objects)
-units-taken old new n c was w some = ap (λ m. units_in m + 1) w.values ∙ units_in-without (values old.objects) n c some
+    → IsSome (holder_at (get (values old.objects) n) c) → IsTrue (can_lose_at (get (values old.objects) n) c)
+    → units_in (values new.objects) + cell_units c ≡ units_in (values old.objects)
+units-taken old new n c was w some can = ap (λ m. units_in m + cell_units c) w.values ∙ units_in-without old.objects n c some can
 
 -- a write that isn't full
 pub written-ok : (s : StoreValue) (n : ℕ) (c : Cell) (holder : Holder) (o : Option Holder) → o ≡ holder_at (value_at s n) c
@@ -207,15 +233,17 @@ pub room-for : (s now : StoreValue) (objects units : ℕ) → s ≡ now → is_f
 room-for s now objects units same e =
     not-full s.limits.objects (objects_in s + objects) s.limits.units (store_units s + units) (ap (is_full_with objects units) same ∙ e)
 
-pub can-persistent : (s now : StoreValue) (n : ℕ) (c : Cell) → s ≡ now → is_some (get s.persistent n) ≡ true
-    → IsTrue (can_have_at (value_at now n) c) → IsTrue (can_have_at (get s.persistent n) c)
-can-persistent s now n c same there can =
-    sym (ap (λ o. can_have_at o c) (either-some (get s.persistent n) (get s.transient n) there)) ∙ ap (λ x. can_have_at (value_at x n) c) same ∙ can
+-- what can be done with a persistent object's cell, and with another's
+module _ (can : Option Value → Cell → Bool) where
+  pub can-persistent : (s now : StoreValue) (n : ℕ) (c : Cell) → s ≡ now → is_some (get s.persistent n) ≡ true
+      → IsTrue (can (value_at now n) c) → IsTrue (can (get s.persistent n) c)
+  can-persistent s now n c same there is =
+      sym (ap (λ o. can o c) (either-some (get s.persistent n) (get s.transient n) there)) ∙ ap (λ x. can (value_at x n) c) same ∙ is
 
-pub can-transient : (s now : StoreValue) (n : ℕ) (c : Cell) → s ≡ now → is_some (get s.persistent n) ≡ false
-    → IsTrue (can_have_at (value_at now n) c) → IsTrue (can_have_at (get s.transient n) c)
-can-transient s now n c same gone can =
-    sym (ap (λ o. can_have_at o c) (either-none (get s.persistent n) (get s.transient n) gone)) ∙ ap (λ x. can_have_at (value_at x n) c) same ∙ can
+  pub can-transient : (s now : StoreValue) (n : ℕ) (c : Cell) → s ≡ now → is_some (get s.persistent n) ≡ false
+      → IsTrue (can (value_at now n) c) → IsTrue (can (get s.transient n) c)
+  can-transient s now n c same gone is =
+      sym (ap (λ o. can o c) (either-none (get s.persistent n) (get s.transient n) gone)) ∙ ap (λ x. can (value_at x n) c) same ∙ is
 
 pub neither : (a b : Option Value) → a ≡ None → b ≡ None → either a b ≡ None
 neither a b e f = either-none a b (ap is_some e) ∙ f

@@ -122,7 +122,7 @@ sound-noted places top limit ss part can sound = by (is_due part.number part.cel
     by false e = sound
 
 -- numbers, where a cell is set
-none-set : {X : Type 0} (b : Bool) (f : X → X) (o : Option X) → o ≡ None → cond b (option_map f o) o ≡ None
+pub none-set : {X : Type 0} (b : Bool) (f : X → X) (o : Option X) → o ≡ None → cond b (option_map f o) o ≡ None
 none-set true f None e = refl
 none-set true f (Some x) e = cc
 none-set false f o e = e
@@ -144,6 +144,9 @@ some-kept things n c o q e =
 pub numbered-persistent : (p t : Objects Shape) (next next_transient n : ℕ) (c : Cell) (o : Option Present) → AreNumbered p t next next_transient
     → AreNumbered (journaled.set_cell p n c o) t next next_transient
 numbered-persistent p t next next_transient n c o are = record {
+  persistent_from_one = none-kept p n c o 0 are.persistent_from_one;
+  transient_from_one = are.transient_from_one;
+  next_from_one = are.next_from_one;
   persistent_below = λ q h. none-kept p n c o q (are.persistent_below q h);
   transient_low = are.transient_low;
   transient_high = are.transient_high;
@@ -156,6 +159,9 @@ numbered-persistent p t next next_transient n c o are = record {
 pub numbered-transient : (p t : Objects Shape) (next next_transient n : ℕ) (c : Cell) (o : Option Present) → AreNumbered p t next next_transient
     → AreNumbered p (journaled.set_cell t n c o) next next_transient
 numbered-transient p t next next_transient n c o are = record {
+  persistent_from_one = are.persistent_from_one;
+  transient_from_one = none-kept t n c o 0 are.transient_from_one;
+  next_from_one = are.next_from_one;
   persistent_below = are.persistent_below;
   transient_low = λ q h l. none-kept t n c o q (are.transient_low q h l);
   transient_high = λ q h. none-kept t n c o q (are.transient_high q h);

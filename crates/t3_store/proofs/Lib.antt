@@ -1,3 +1,6 @@
+pub mod TadsValues
+pub mod VectorValues
+pub mod TableValues
 pub mod KindValues
 pub mod Rows
 pub mod MapValues
@@ -8,5 +11,12 @@ pub mod Marks
 pub mod Keeping
 pub mod Changes
 pub mod PuttingBack
-pub mod Turns
+pub mod KindsKept
+pub mod Saving
+pub mod Creating
+pub mod Starting
+pub mod Adding
 pub mod WholeKept
+pub mod Copying
+pub mod Ticks
+pub mod Validity

@@ -1,5 +1,5 @@
 -- The values of objects, as finite maps: what changes of the objects do to them, and to the units that they count.
-use Rattle.std.proofs.Common.{◌≡◌, ◌∙◌, ap, sym, refl, ℕ, zero, suc, ◌+◌, ◌-◌, ◌<◌, ◌≤◌, nat_eq, get_or, drop, Bool, true, false, cond, ◌&&◌, T, IsTrue, IsSome, length, List, [], ◌∷◌, map, Option, None, Some, is_some, true≢false, arith}
+use Rattle.std.proofs.Common.{◌≡◌, ◌∙◌, ap, sym, subst, refl, ℕ, zero, suc, ◌+◌, ◌-◌, ◌<◌, ◌≤◌, nat_eq, get_or, drop, Bool, true, false, cond, ◌&&◌, T, IsTrue, IsSome, length, List, [], ◌∷◌, map, Option, None, Some, is_some, true≢false, arith}
 use Rattle.std.specs.declared.cmp.Ordering.{Ordering}
 use Rattle.std.specs.declared.cmp.Ordering.TheVariants.{Less, Equal, Greater}
 use Rattle.std.specs.Ordering.{nat_cmp, is_eq, is_lt}
@@ -12,18 +12,21 @@ use Rattle.std.specs.FinMap.Entries.{find, put, by_order, below_all, is_sorted}
 use Rattle.t3_undo.specs.Content.{Present, Parts}
 use Rattle.t3_undo.specs.Objects.{Objects, adjust, adjusted, part_of, part_at, with_part, set_cell}
 use Rattle.t3_undo.specs.declared.cell.Cell.{Cell}
+use Rattle.t3_undo.specs.declared.cell.Cell.TheVariants as cells
 use Rattle.t3_holder.specs.declared.holder.Holder.{Holder}
 use Rattle.t3_undo.proofs.Maps.{get-adjust}
-use Rattle.t3_store.specs.Value.{Value, units_of, units_in, cell_units, holder_in, holder_at, can_have_at, with_cell, without_cell, pair_of, IsNextAbove}
+use Rattle.t3_store.specs.Value.{Value, units_of, units_in, cell_units, holder_in, holder_at, can_have_at, can_lose_at, with_cell, without_cell, pair_of, IsNextAbove}
 use Rattle.t3_tadsobj.specs.Object as Tadsobject
 use Rattle.t3_tadsobj.specs.Object.{props_of, prop_in, bare}
 use Rattle.t3_undo.specs.Cell.{cell_cmp}
 use Rattle.t3_tadsobj.specs.declared.props.PropValue.{PropValue}
 use Rattle.t3_store.specs.Inner.Shapes.{Shape, thing_of, value_of, values, IsWithProp}
+use Rattle.t3_store.specs.Inner.Valid.{AreProps, AreValid}
 use Rattle.t3_store.specs.Inner.Entries.{IsRising, by_number, object_at, things_of, IsFirstFrom}
 use Rattle.t3_store.specs.declared.entries.Entry.{Entry}
 use Rattle.t3_store.specs.Inner.Store.{IsPersistent}
-use Rattle.t3_store.proofs.KindValues.{held-value, value-without, present-can, units_of-with, units_of-without}
+use Rattle.t3_store.proofs.TadsValues.{props-set}
+use Rattle.t3_store.proofs.KindValues.{HasApartKeys, apart-keys, held-value, value-without, present-can, units_of-with, units_of-without}
 use Rattle.t3_store.proofs.Rows.{same, same-is, differs, get-by_number, len-by_number}
 
 -- the value of an object among others
@@ -75,7 +78,7 @@ values-insert things n x =
     ∙ sym (get-insert nat_cmp_total (values things) n (value_of x) q))
 
 -- how much is counted
-pub amount : {X : Type 0} → (X → ℕ) → Option X → ℕ
+unfoldable pub amount : {X : Type 0} → (X → ℕ) → Option X → ℕ
 amount f None = 0
 amount f (Some x) = f x
 
@@ -155,16 +158,15 @@ unfolding adjust amount
 units_in-adjust m k g v e =
     (λ i. amount units_of (sym e i) + units_in (adjusted m k g (e i))) ∙ units_in-insert m k (g v)
 
--- what stands in a cell that the object can have
-pub held-at : (things : Objects Shape) (n : ℕ) (cell : Cell) → IsTrue (can_have_at (get (values things) n) cell)
+-- what stands in a cell of an object
+pub held-at : (things : Objects Shape) (n : ℕ) (cell : Cell) → AreValid things
     → option_map (λ present. present.value) (part_at things n cell) ≡ holder_at (get (values things) n) cell
-held-at things n cell can =
-    by (get things n) (sym (ap (λ o. can_have_at o cell) (get-values things n)) ∙ can) ∙ sym (ap (λ o. holder_at o cell) (get-values things n))
+held-at things n cell valid = by (get things n) refl ∙ sym (ap (λ o. holder_at o cell) (get-values things n))
   where
-    by : (o : Option (Shape × Parts)) → IsTrue (can_have_at (option_map value_of o) cell)
+    by : (o : Option (Shape × Parts)) → get things n ≡ o
         → option_map (λ present. present.value) (part_of o cell) ≡ holder_at (option_map value_of o) cell
-    by None can = refl
-    by (Some x) can = held-value x cell can
+    by None e = refl
+    by (Some x) e = held-value x cell (valid n x e)
 
 pub present-can_at : (o : Option Value) (cell : Cell) → IsSome (holder_at o cell) → IsTrue (can_have_at o cell)
 present-can_at None cell some = absurd (true≢false (sym some))
@@ -176,23 +178,34 @@ pub units_in-with : (m : FinMap nat_cmp Value) (n : ℕ) (cell : Cell) (holder :
     ≡ cond (is_some (holder_at (get m n) cell)) (units_in m) (units_in m + cell_units cell)
 units_in-with m n cell holder can = by (get m n) refl can
   where
-    more : (b : Bool) (u v a k : ℕ) → v ≡ cond b u (u + 1) → u + a ≡ v + k → a ≡ cond b k (k + 1)
-    more true u v a k e f = omega arith
-    more false u v a k e f = omega arith
+    more : (b : Bool) (u v a k c : ℕ) → v ≡ cond b u (u + c) → u + a ≡ v + k → a ≡ cond b k (k + c)
+    more true u v a k c e f = omega arith
+    more false u v a k c e f = omega arith
 
     by : (o : Option Value) → get m n ≡ o → IsTrue (can_have_at o cell)
         → units_in (adjust m n (with_cell cell holder)) ≡ cond (is_some (holder_at o cell)) (units_in m) (units_in m + cell_units cell)
     by None e can = absurd (true≢false (sym can))
     by (Some value) e can =
-        more (is_some (holder_in value cell)) _ _ _ _ (units_of-with value cell holder can) (units_in-adjust m n (with_cell cell holder) value e)
+        more (is_some (holder_in value cell)) _ _ _ _ (cell_units cell) (units_of-with value cell holder can)
+        (units_in-adjust m n (with_cell cell holder) value e)
 
-pub units_in-without : (m : FinMap nat_cmp Value) (n : ℕ) (cell : Cell) → IsSome (holder_at (get m n) cell)
-    → units_in (adjust m n (without_cell cell)) + cell_units cell ≡ units_in m
-units_in-without m n cell some = by (get m n) refl some
+pub units_in-without : (things : Objects Shape) (n : ℕ) (cell : Cell) → IsSome (holder_at (get (values things) n) cell)
+    → IsTrue (can_lose_at (get (values things) n) cell)
+    → units_in (adjust (values things) n (without_cell cell)) + cell_units cell ≡ units_in (values things)
+units_in-without things n cell some can = by (get (values things) n) refl (get things n) (get-values things n) some can
   where
-    by : (o : Option Value) → get m n ≡ o → IsSome (holder_at o cell) → units_in (adjust m n (without_cell cell)) + cell_units cell ≡ units_in m
-    by None e some = absurd (true≢false (sym some))
-    by (Some value) e some = omega (arith, units_of-without value cell some, units_in-adjust m n (without_cell cell) value e)
+    by : (o : Option Value) → get (values things) n ≡ o → (x : Option (Shape × Parts)) → get (values things) n ≡ option_map value_of x
+        → IsSome (holder_at o cell) → IsTrue (can_lose_at o cell)
+        → units_in (adjust (values things) n (without_cell cell)) + cell_units cell ≡ units_in (values things)
+    by None e x is some can = absurd (true≢false (sym some))
+    by (Some value) e None is some can = let none : ◌≡◌ {A = Option Value} (Some value) None = sym e ∙ is in cc
+    by (Some value) e (Some x) is some can =
+        let same : value_of x ≡ value = cc in
+        omega (
+          arith,
+          units_of-without value cell some can (subst HasApartKeys same (apart-keys x)),
+          units_in-adjust (values things) n (without_cell cell) value e,
+        )
 
 no_length : {X : Type 0} (xs : List X) → length xs ≡ 0 → xs ≡ []
 no_length [] e = refl
@@ -213,37 +226,37 @@ some-map f (Some x) = refl
 
 -- a cell that had nothing counts from now on
 pub counted-set : (things new : Objects Shape) (n : ℕ) (cell : Cell) (holder : Holder) (old : Option Present) (units : ℕ)
-    → values new ≡ adjust (values things) n (with_cell cell holder) → IsTrue (can_have_at (get (values things) n) cell)
+    → values new ≡ adjust (values things) n (with_cell cell holder) → AreValid things → IsTrue (can_have_at (get (values things) n) cell)
     → old ≡ part_at things n cell → units ≡ units_in (values things)
     → cond (is_some old) units (units + cell_units cell) ≡ units_in (values new)
-counted-set things new n cell holder old units set can is counted =
+counted-set things new n cell holder old units set valid can is counted =
     (λ i. cond (there i) (counted i) (counted i + cell_units cell)) ∙ sym (units_in-with (values things) n cell holder can) ∙ ap units_in (sym set)
   where
     there : is_some old ≡ is_some (holder_at (get (values things) n) cell)
-    there = ap is_some is ∙ sym (some-map (λ present. present.value) (part_at things n cell)) ∙ ap is_some (held-at things n cell can)
+    there = ap is_some is ∙ sym (some-map (λ present. present.value) (part_at things n cell)) ∙ ap is_some (held-at things n cell valid)
 
 none-of : {X : Type 0} (o : Option X) → is_some o ≡ false → o ≡ None
 none-of None e = refl
 none-of (Some x) e = absurd (true≢false e)
 
-pub absent : (things : Objects Shape) (n : ℕ) (cell : Cell) (old : Option Present) → IsTrue (can_have_at (get (values things) n) cell)
+pub absent : (things : Objects Shape) (n : ℕ) (cell : Cell) (old : Option Present) → AreValid things
     → old ≡ part_at things n cell → is_some old ≡ false → holder_at (get (values things) n) cell ≡ None
-absent things n cell old can is none =
-    sym (held-at things n cell can) ∙ ap (option_map (λ present. present.value)) (sym is ∙ none-of old none)
+absent things n cell old valid is none =
+    sym (held-at things n cell valid) ∙ ap (option_map (λ present. present.value)) (sym is ∙ none-of old none)
 
 -- a cell taken away
-pub values-without : (things : Objects Shape) (n : ℕ) (cell : Cell) → IsSome (holder_at (get (values things) n) cell)
+pub values-without : (things : Objects Shape) (n : ℕ) (cell : Cell) → AreValid things → IsTrue (can_lose_at (get (values things) n) cell)
     → values (set_cell things n cell None) ≡ adjust (values things) n (without_cell cell)
-values-without things n cell some =
+values-without things n cell valid can =
     values-adjust things n (with_part cell None) (without_cell cell) (λ x e.
-    value-without x cell (present-can (value_of x) cell
-    (sym (ap (λ o. is_some (holder_at o cell)) (get-values things n ∙ ap (option_map value_of) e)) ∙ some)))
+    value-without x cell (sym (ap (λ o. can_lose_at o cell) (get-values things n ∙ ap (option_map value_of) e)) ∙ can) (valid n x e))
 
 pub counted-without : (things new : Objects Shape) (n : ℕ) (cell : Cell) (units : ℕ)
-    → new ≡ set_cell things n cell None → IsSome (holder_at (get (values things) n) cell) → units ≡ units_in (values things)
+    → new ≡ set_cell things n cell None → AreValid things → IsSome (holder_at (get (values things) n) cell)
+    → IsTrue (can_lose_at (get (values things) n) cell) → units ≡ units_in (values things)
     → units_in (values new) + cell_units cell ≡ units
-counted-without things new n cell units is some counted =
-    ap (λ m. units_in m + cell_units cell) (ap values is ∙ values-without things n cell some) ∙ units_in-without (values things) n cell some
+counted-without things new n cell units is valid some can counted =
+    ap (λ m. units_in m + cell_units cell) (ap values is ∙ values-without things n cell valid can) ∙ units_in-without things n cell some can
     ∙ sym counted
 
 pub some-values : (things : Objects Shape) (q : ℕ) → is_some (get (values things) q) ≡ is_some (get things q)
@@ -253,12 +266,14 @@ option_map-twice : {X Y Z : Type 0} (f : X → Y) (g : Y → Z) (o : Option X) �
 option_map-twice f g None = refl
 option_map-twice f g (Some x) = refl
 
-pub len-values : (es : List Entry) → IsRising es → len (values (things_of es)) ≡ length es
-len-values es rises =
-    ap len (same_values (things_of es) (by_number (λ o. value_of (thing_of o)) es) (λ q.
+pub values-by_number : (es : List Entry) → values (things_of es) ≡ by_number (λ o. value_of (thing_of o)) es
+values-by_number es =
+    same_values (things_of es) (by_number (λ o. value_of (thing_of o)) es) (λ q.
     ap (option_map value_of) (get-by_number thing_of es q) ∙ option_map-twice thing_of value_of (object_at q es)
-    ∙ sym (get-by_number (λ o. value_of (thing_of o)) es q)))
-    ∙ len-by_number (λ o. value_of (thing_of o)) es rises
+    ∙ sym (get-by_number (λ o. value_of (thing_of o)) es q))
+
+pub len-values : (es : List Entry) → IsRising es → len (values (things_of es)) ≡ length es
+len-values es rises = ap len (values-by_number es) ∙ len-by_number (λ o. value_of (thing_of o)) es rises
 
 -- a change makes no object more or less
 pub len-adjust : (m : FinMap nat_cmp Value) (n : ℕ) (g : Value → Value) → len (adjust m n g) ≡ len m
@@ -294,6 +309,7 @@ pub record IsMade (object : Tadsobject.Tads) (supers : List ℕ) (class : Bool) 
   pub above : object.supers ≡ supers
   pub kind : object.class ≡ class
   pub within : left ≤ length items
+  pub props : AreProps object.parts
 
 drop-at : (items : List PropValue) (n : ℕ) (d : PropValue) → n < length items → drop n items ≡ get_or items n d ∷ drop (suc n) items
 drop-at [] n d h = absurd (omega arith)
@@ -315,6 +331,7 @@ made-more old new supers class items left d is h w = record {
   above = w.supers ∙ is.above;
   kind = w.class ∙ is.kind;
   within = omega (arith, is.within);
+  props = subst AreProps (sym w.parts) (props-set old.parts (cells.Prop (get_or items (left - 1) d).number) _ is.props refl);
 }
 
 -- distinct properties are as many as their numbers
@@ -339,11 +356,13 @@ values-empty = λ i. from_entries (map (λ (e : ℕ × (Shape × Parts)). (e.0, 
 pub units_in-empty : units_in empty ≡ 0
 units_in-empty = ap (sum_by (λ (e : ℕ × Value). units_of e.1)) entries-empty
 
-pub none-persistent : IsPersistent empty
+pub none-persistent : IsPersistent (record { objects = empty; places = empty; ticks = empty })
 none-persistent = record {
-  numbered = λ q h. get-empty nat_cmp q;
-  few = let none = len-empty nat_cmp Value in omega arith;
-  few_units = let none = units_in-empty in omega arith;
+  from_one = ap (λ m. get m 0) values-empty ∙ get-empty nat_cmp 0;
+  numbered = λ q h. ap (λ m. get m q) values-empty ∙ get-empty nat_cmp q;
+  few = let none = ap len values-empty ∙ len-empty nat_cmp Value in omega arith;
+  few_units = let none = ap units_in values-empty ∙ units_in-empty in omega arith;
+  ticks = λ q tick e. absurd (true≢false (ap is_some (sym e ∙ get-empty nat_cmp q)));
 }
 
 drop-all : (items : List PropValue) → drop (length items) items ≡ []
@@ -364,4 +383,5 @@ made-none object supers class items is = record {
   above = ap (λ (o : Tadsobject.Tads). o.supers) is;
   kind = ap (λ (o : Tadsobject.Tads). o.class) is;
   within = omega arith;
+  props = λ cell some. absurd (true≢false (sym some ∙ ap is_some (ap (λ (o : Tadsobject.Tads). get o.parts cell) is ∙ get-empty cell_cmp cell)));
 }

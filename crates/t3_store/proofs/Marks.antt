@@ -22,7 +22,7 @@ due-split n next e = by (nat_lt n next) refl e
     by false t e = ltb-false n next t
 
 -- a change that isn't due leaves the copy of the newest savepoint
-before-undue : (s : Segment) (m : Objects Shape) (n : ℕ) (c : Cell) (o : Option Present)
+pub before-undue : (s : Segment) (m : Objects Shape) (n : ℕ) (c : Cell) (o : Option Present)
     → (nat_lt n s.next && not (is_noted n c s.records)) ≡ false → before (journaled.set_cell m n c o) s ≡ before m s
 before-undue s m n c o e = by (is_noted n c s.records) refl
   where

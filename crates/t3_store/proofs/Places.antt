@@ -42,6 +42,7 @@ pub ready : (old new : Stored) (n : ℕ) (cell copy : Cell) → copy ≡ cell �
     → IsTrue (has_place new.places n copy) → IsReady old new n cell
 ready old new n cell copy same is placed = record {
   same = ap (λ s. s.objects) is;
+  ticks = ap (λ s. s.ticks) is;
   kept = λ q d h. (λ i. has_place (is i).places q d) ∙ kept-with_place old.places n copy q d h;
   placed = (λ i. has_place new.places n (sym same i)) ∙ placed;
 }

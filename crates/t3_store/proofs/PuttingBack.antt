@@ -1,13 +1,14 @@
 -- The newest savepoint's records put back one after another.
-use Rattle.std.proofs.Common.{◌≡◌, ◌∙◌, ap, sym, subst, refl, ◌<◌, List, [], ◌∷◌, length, drop, None, Some, arith}
+use Rattle.std.proofs.Common.{◌≡◌, ◌∙◌, ap, sym, subst, refl, ℕ, ◌<◌, ◌≤◌, List, [], ◌∷◌, length, drop, None, Some, arith}
+use Rattle.std.specs.List.{AllByRecursion}
 use Rattle.std.specs.Ordering.{nat_cmp}
 use Rattle.std.specs.FinMap.{FinMap}
 use Rattle.t3_undo.specs.Content.{Places}
 use Rattle.t3_undo.specs.Objects.{Objects, OldPart, Segment, set_cell, put_back}
 use Rattle.t3_undo.specs.Journal.{Held, newest_record, but_newest_record, first}
-use Rattle.t3_store.specs.Inner.Shapes.{Shape}
-use Rattle.t3_store.specs.Inner.Store.{CanBePut, CanAllBePut, newest_records, emptied}
-use Rattle.t3_store.specs.Inner.Entries.{IsRising, things_of, places_in}
+use Rattle.t3_store.specs.Inner.Shapes.{Shape, tick_behind, AreWithin}
+use Rattle.t3_store.specs.Inner.Store.{CanBePut, CanAllBePut, AreRecordsWithin, newest_records, emptied}
+use Rattle.t3_store.specs.Inner.Entries.{IsRising, things_of, places_in, ticks_in}
 use Rattle.t3_store.specs.declared.entries.Entry.{Entry}
 
 -- what is still to be put back leads to the same objects as all that was
@@ -17,6 +18,8 @@ pub record IsPutting (from es : List Entry) (before now : Held) : Type 0 where
   pub places : places_in es ≡ places_in from
   pub len : length es ≡ length from
   pub can : CanAllBePut (places_in es) (newest_records now.segments)
+  pub ticks : (bound : ℕ) → AreWithin bound (ticks_in from) → AreRecordsWithin bound before.segments
+      → AreWithin bound (ticks_in es) × AreRecordsWithin bound now.segments
   pub journal : record now { segments = emptied now.segments } ≡ record before { segments = emptied before.segments }
 
 record IsTaken (part : OldPart) (ss : List Segment) : Type 0 where
@@ -39,6 +42,24 @@ pub can-first : (part : OldPart) (ss : List Segment) (places : FinMap nat_cmp Pl
     → CanAllBePut places (newest_records ss) → CanBePut places part
 can-first part ss places e can = (subst (CanAllBePut places) (taken part ss e).records can).0
 
+-- the newest record's tick is within the bound, and those of the others
+first-within : (bound : ℕ) (part : OldPart) (ss : List Segment) → Some part ≡ newest_record ss → AreRecordsWithin bound ss
+    → tick_behind part.old ≤ bound
+first-within bound part [] e all = cc
+first-within bound part (s ∷ ss) e all = by s.records e all.0
+  where
+    by : (parts : List OldPart) → Some part ≡ first parts → AllByRecursion (λ p. tick_behind p.old ≤ bound) parts → tick_behind part.old ≤ bound
+    by [] e all = cc
+    by (p ∷ ps) e all = let is : p ≡ part = cc in subst (λ (p : OldPart). tick_behind p.old ≤ bound) is all.0
+
+rest-within : (bound : ℕ) (ss : List Segment) → AreRecordsWithin bound ss → AreRecordsWithin bound (but_newest_record ss)
+rest-within bound [] all = tt
+rest-within bound (s ∷ ss) all = (by s.records all.0, all.1)
+  where
+    by : (parts : List OldPart) → AllByRecursion (λ p. tick_behind p.old ≤ bound) parts → AllByRecursion (λ p. tick_behind p.old ≤ bound) (drop 1 parts)
+    by [] all = tt
+    by (p ∷ ps) all = all.1
+
 put-next : (things : Objects Shape) (part : OldPart) (parts : List OldPart) → put_back things (part ∷ parts)
     ≡ put_back (set_cell things part.number part.cell part.old) parts
 unfolding put_back
@@ -50,8 +71,9 @@ put-none things = refl
 
 pub putting-next : (from es new : List Entry) (before now left : Held) (part : OldPart) → IsPutting from es before now
     → Some part ≡ newest_record now.segments → left ≡ record now { segments = but_newest_record now.segments } → IsRising new
-    → things_of new ≡ set_cell (things_of es) part.number part.cell part.old → places_in new ≡ places_in es → length new ≡ length es → IsPutting from new before left
-putting-next from es new before now left part is e moved rises things places size =
+    → things_of new ≡ set_cell (things_of es) part.number part.cell part.old → places_in new ≡ places_in es → length new ≡ length es
+    → ((bound : ℕ) → AreWithin bound (ticks_in es) → tick_behind part.old ≤ bound → AreWithin bound (ticks_in new)) → IsPutting from new before left
+putting-next from es new before now left part is e moved rises things places size ticks =
     let t = taken part now.segments e in
     let rest : newest_records left.segments ≡ newest_records (but_newest_record now.segments) = ap (λ (h : Held). newest_records h.segments) moved in
     record {
@@ -60,6 +82,11 @@ putting-next from es new before now left part is e moved rises things places siz
           ∙ ap (put_back (things_of es)) (sym t.records) ∙ is.things;
       places = places ∙ is.places;
       len = size ∙ is.len;
+      ticks = λ bound all records.
+          let so = is.ticks bound all records in (
+            ticks bound so.0 (first-within bound part now.segments e so.1),
+            subst (AreRecordsWithin bound) (sym (ap (λ (h : Held). h.segments) moved)) (rest-within bound now.segments so.1),
+          );
       can = subst (CanAllBePut (places_in new)) (sym rest) (subst (λ p. CanAllBePut p (newest_records (but_newest_record now.segments))) (sym places)
           (subst (CanAllBePut (places_in es)) t.records is.can).1);
       journal = ap (λ (h : Held). record h { segments = emptied h.segments }) moved ∙ (λ i. record now { segments = t.same i }) ∙ is.journal;

@@ -8,7 +8,7 @@ use Rattle.std.specs.List.{AllByRecursion, AllWithin}
 use Rattle.std.specs.FinMap.{FinMap, empty, get, get-empty, same_map, get-insert, get-retain_keys, retain_keys, insert, len, len-empty, len-insert, nat_cmp-IsAntisymmetric}
 use Rattle.t3_undo.specs.Objects.{set_at, adjust, adjusted}
 use Rattle.t3_undo.proofs.Maps.{get-set_at, get-adjust}
-use Rattle.t3_store.specs.Inner.Entries.{IsRising, index_of, object_at, by_number, is_numbered, things_of, keyed, IsFirstFrom}
+use Rattle.t3_store.specs.Inner.Entries.{IsRising, index_of, object_at, by_number, is_numbered, things_of, IsFirstFrom}
 use Rattle.t3_store.specs.Inner.Shapes.{thing_of}
 use Rattle.std.proofs.lemmas.List.{map-append, take_more}
 use Rattle.t3_store.specs.declared.object.Object.{Object}
@@ -51,6 +51,11 @@ missed n [] all = refl
 missed n (x ∷ es) all =
     ap (λ b. cond b (Some 0) (option_map suc (index_of n es))) (differs n x.number (λ is. omega (arith, all.0)))
     ∙ ap (option_map suc) (missed n es all.1)
+
+pub missed-object : (n : ℕ) (es : List Entry) → AllByRecursion (λ l. n < l.number) es → object_at n es ≡ None
+missed-object n [] all = refl
+missed-object n (x ∷ es) all =
+    ap (λ b. cond b (Some x.object) (object_at n es)) (differs n x.number (λ is. omega (arith, all.0))) ∙ missed-object n es all.1
 
 all-later : (n k : ℕ) (es : List Entry) → n < k → AllByRecursion (λ l. k < l.number) es → AllByRecursion (λ l. n < l.number) es
 all-later n k [] h all = all
@@ -97,6 +102,10 @@ get-by_number {X} read (x ∷ es) q =
         (option_map read (cond b (Some x.object) (object_at q es)))
     by true = refl
     by false = refl
+
+pub read-found : {X : Type 0} (read : Object → X) (es : List Entry) (n : ℕ) (o : Object) → Some o ≡ object_at n es
+    → get (by_number read es) n ≡ Some (read o)
+read-found read es n o e = get-by_number read es n ∙ ap (option_map read) (sym e)
 
 -- the object at the index of its number
 pub record StandsAt (n : ℕ) (es : List Entry) (i : ℕ) : Type 0 where
@@ -496,47 +505,6 @@ first-from es i least entry rises low high e =
 pub none-from : (es : List Entry) (i least : ℕ) → IsRising es → AllWithin (λ e. e.number < least) es 0 i → slice_get es i ≡ None
     → IsFirstFrom (things_of es) least None
 none-from es i least rises low e = λ q h. none-by thing_of es q (none-at es i least q rises low e h)
-
--- numbers with shapes and parts say what a row is
-pub things-keyed : (xs ys : List Entry) → map keyed xs ≡ map keyed ys → things_of xs ≡ things_of ys
-unfolding by_number
-things-keyed [] [] e = refl
-things-keyed [] (y ∷ ys) e = cc
-things-keyed (x ∷ xs) [] e = cc
-things-keyed (x ∷ xs) (y ∷ ys) e =
-    let head : keyed x ≡ keyed y = cc in
-    let tail : map keyed xs ≡ map keyed ys = cc in
-    λ i. set_at (things-keyed xs ys tail i) (head i).0 (Some (head i).1)
-
-all-keyed : (n : ℕ) (xs ys : List Entry) → map keyed xs ≡ map keyed ys → AllByRecursion (λ l. n < l.number) ys → AllByRecursion (λ l. n < l.number) xs
-all-keyed n [] ys e all = tt
-all-keyed n (x ∷ xs) [] e all = cc
-all-keyed n (x ∷ xs) (y ∷ ys) e all =
-    let head : keyed x ≡ keyed y = cc in
-    let tail : map keyed xs ≡ map keyed ys = cc in
-    (subst (λ k. n < k) (sym (ap (λ p. p.0) head)) all.0, all-keyed n xs ys tail all.1)
-
-pub rising-keyed : (xs ys : List Entry) → map keyed xs ≡ map keyed ys → IsRising ys → IsRising xs
-rising-keyed [] ys e rises = tt
-rising-keyed (x ∷ xs) [] e rises = cc
-rising-keyed (x ∷ xs) (y ∷ ys) e rises =
-    let head : keyed x ≡ keyed y = cc in
-    let tail : map keyed xs ≡ map keyed ys = cc in
-    let number : y.number ≡ x.number = sym (ap (λ p. p.0) head) in
-    (all-keyed x.number xs ys tail (subst (λ k. AllByRecursion (λ l. k < l.number) ys) number rises.0), rising-keyed xs ys tail rises.1)
-
--- a row copied so far
-pub keyed-next : (copy entries : List Entry) (i : ℕ) (new entry : Entry) → i < length entries → entry ≡ get_or entries i entry
-    → thing_of new.object ≡ thing_of entry.object → new.number ≡ entry.number → map keyed copy ≡ map keyed (take i entries)
-    → map keyed (copy ++ new ∷ []) ≡ map keyed (take (i + 1) entries)
-keyed-next copy entries i new entry h is alike number so =
-    map-append keyed copy (new ∷ [])
-    ∙ (λ k. so k ++ (number k, alike k) ∷ [])
-    ∙ sym (map-append keyed (take i entries) (entry ∷ []))
-    ∙ ap (map keyed) (sym (taken entries i entry h is))
-  where
-    taken : (es : List Entry) (i : ℕ) (x : Entry) → i < length es → x ≡ get_or es i x → take (i + 1) es ≡ take i es ++ x ∷ []
-    taken es i x h is = take_more es i x h ∙ ap (λ y. take i es ++ y ∷ []) (sym is)
 
 pub slice_get-at : (es : List Entry) (i : ℕ) (d : Entry) → i < length es → slice_get es i ≡ Some (get_or es i d)
 slice_get-at [] i d h = absurd (omega arith)

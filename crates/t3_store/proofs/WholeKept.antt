@@ -18,7 +18,7 @@ use Rattle.t3_tadsobj.specs.Order.{SupersAt, IsWalk, IsAcyclicFrom}
 use Rattle.t3_store.specs.Value.{supers_of}
 use Rattle.t3_store.specs.Store.{StoreValue, either}
 use Rattle.t3_store.specs.Whole.{AreThere, IsAcyclic, IsWhole, HasSupersIn, supers_of_live}
-use Rattle.t3_store.specs.Inner.Shapes.{Shape, TadsShape, values, value_of}
+use Rattle.t3_store.specs.Inner.Shapes.{Shape, TadsShape, TextShape, ItemsShape, VectorShape, TableShape, values, value_of}
 use Rattle.t3_store.specs.Inner.Store.{AreNumbered, IsSound}
 use Rattle.t3_undo.specs.Content.{Places}
 use Rattle.t3_store.specs.Inner.Whole.{supers_by, supers_from, supers_of_both, IsGiven, AreGiven, AreOlderSupers, AreWhole}
@@ -33,6 +33,10 @@ alike f g e = λ i x. e x i
 supers-value : (o : Option (Shape × Parts)) → option_and_then supers_of (option_map value_of o) ≡ supers_by o
 supers-value None = refl
 supers-value (Some (TadsShape supers class, parts)) = refl
+supers-value (Some (TextShape bytes, parts)) = refl
+supers-value (Some (ItemsShape items, parts)) = refl
+supers-value (Some (VectorShape, parts)) = refl
+supers-value (Some (TableShape, parts)) = refl
 
 pub supers-values : (m : Objects Shape) (q : ℕ) → option_and_then supers_of (get (values m) q) ≡ supers_from m q
 supers-values m q = ap (option_and_then supers_of) (get-values m q) ∙ supers-value (get m q)
@@ -50,6 +54,10 @@ supers-both p t q =
 set-same : (b : Bool) (c : Cell) (o : Option Present) (x : Option (Shape × Parts)) → supers_by (cond b (option_map (with_part c o) x) x) ≡ supers_by x
 set-same true c o None = refl
 set-same true c o (Some (TadsShape supers class, parts)) = refl
+set-same true c o (Some (TextShape bytes, parts)) = refl
+set-same true c o (Some (ItemsShape items, parts)) = refl
+set-same true c o (Some (VectorShape, parts)) = refl
+set-same true c o (Some (TableShape, parts)) = refl
 set-same false c o x = refl
 
 supers-set : (m : Objects Shape) (n : ℕ) (c : Cell) (o : Option Present) (q : ℕ) → supers_from (journaled.set_cell m n c o) q ≡ supers_from m q
@@ -59,6 +67,10 @@ first-same : (b : Bool) (c : Cell) (o : Option Present) (x y : Option (Shape × 
     → supers_by (either (cond b (option_map (with_part c o) x) x) y) ≡ supers_by (either x y)
 first-same true c o None y = refl
 first-same true c o (Some (TadsShape supers class, parts)) y = refl
+first-same true c o (Some (TextShape bytes, parts)) y = refl
+first-same true c o (Some (ItemsShape items, parts)) y = refl
+first-same true c o (Some (VectorShape, parts)) y = refl
+first-same true c o (Some (TableShape, parts)) y = refl
 first-same false c o x y = refl
 
 second-same : (b : Bool) (c : Cell) (o : Option Present) (x y : Option (Shape × Parts))
@@ -449,6 +461,10 @@ pub has-supers : (at from : SupersAt) (x : Shape × Parts) → ((q : ℕ) → at
 has-supers at from (TadsShape supers class, parts) same has found e =
     let is : supers ≡ found = cc in
     there-same at from found same (subst (AreThere at) is has)
+has-supers at from (TextShape bytes, parts) same has found e = cc
+has-supers at from (ItemsShape items, parts) same has found e = cc
+has-supers at from (VectorShape, parts) same has found e = cc
+has-supers at from (TableShape, parts) same has found e = cc
 
 pub acyclic-live : (p t : Objects Shape) (s : StoreValue) (next next_transient : ℕ) (ss : List Segment) → s.persistent ≡ values p → s.transient ≡ values t
     → AreWhole (supers_from p) (supers_of_both p t) next next_transient ss → (n : ℕ) → IsAcyclicFrom (supers_of_live s) n

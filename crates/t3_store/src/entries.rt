@@ -1,14 +1,15 @@
 //! Objects in a row, by rising number.
-ghost use Rattle.std.specs.Prelude.{◌≡◌, ◌<◌, ◌≤◌, ◌++◌, [], ◌∷◌, ℕ, length, take, drop, slice_get, IsTrue, IsSome, IfSome, IfOk, None, OnOk, OnErr, option_map, map};
+ghost use Rattle.std.specs.Prelude.{◌≡◌, ◌+◌, ◌-◌, ◌^◌, ◌<◌, ◌≤◌, ◌++◌, [], ◌∷◌, ℕ, length, take, drop, slice_get, IsTrue, IsSome, IfSome, IfOk, None, OnOk, OnErr, option_map, map};
 ghost use Rattle.std.specs.FinMap.{get, insert};
 ghost use Rattle.std.specs.List.{AllWithin};
 ghost use Rattle.t3_undo.specs.Content.{shown, is_form};
 ghost use Rattle.t3_undo.specs.Objects.{part_at, set_cell, adjust, below, put_back};
 ghost use Rattle.t3_undo.specs.Journal.{old_of};
-ghost use Rattle.t3_store.specs.Inner.Store.{CanBePut, CanAllBePut, newest_records, emptied};
+ghost use Rattle.t3_store.specs.Inner.Store.{CanBePut, CanAllBePut, AreRecordsWithin, newest_records, emptied};
 ghost use Rattle.t3_store.specs.Value.{holder_at, can_have_at, with_cell};
-ghost use Rattle.t3_store.specs.Inner.Shapes.{thing_of, places_of, value_of, values, has_place, with_place, places_below};
-ghost use Rattle.t3_store.specs.Inner.Entries.{IsRising, index_of, is_numbered, object_at, things_of, places_in, keyed, IsFirstFrom};
+ghost use Rattle.t3_store.specs.Inner.Shapes.{thing_of, places_of, tick_of, values, has_place, with_place, places_below, ticks_below, tick_behind, risen, AreWithin};
+ghost use Rattle.t3_store.specs.Inner.Valid.{IsValid, AreValid};
+ghost use Rattle.t3_store.specs.Inner.Entries.{IsRising, index_of, is_numbered, object_at, things_of, places_in, ticks_in, keyed, AreAllValid, HaveTicksForUnits, HasTickForUnits, IsFirstFrom};
 
 use crate::object::Object;
 use std::alloc::Global;
@@ -82,9 +83,14 @@ pub(crate) fn object_at(entries: &[Entry], number: u32) -> Option<&Object>
 pub(crate) fn content_with(entries: &[Entry], number: u32, cell: &Cell, value: Holder) -> Content
     requires rising { IsRising entries.now }
     requires can { IsTrue (can_have_at (get (values (things_of entries.now)) number) cell.now) }
+    requires valid { AreValid (things_of entries.now) }
+    requires room { AreWithin (2 ^ 64 - 2) (ticks_in entries.now) }
     ensures form { IsTrue (is_form cell.now (shown result)) }
     ensures set { values (set_cell (things_of entries.now) number cell.now (shown result))
         ≡ adjust (values (things_of entries.now)) number (with_cell cell.now value) }
+    ensures valid { AreValid (set_cell (things_of entries.now) number cell.now (shown result)) }
+    ensures tick { (bound : ℕ) → AreWithin bound (ticks_in entries.now)
+        → tick_behind (shown result) ≤ risen bound (part_at (things_of entries.now) number cell.now) }
 {
     match object_at(entries, number) {
         Some(object) => object.content_with(cell, value),
@@ -101,8 +107,11 @@ pub(crate) fn put(entries: &mut Vec<Entry>, number: u32, cell: &Cell, content: C
     ensures things { things_of entries.new.items
         ≡ set_cell (things_of entries.old.items) number cell.now (shown content) }
     ensures places { places_in entries.new.items ≡ places_in entries.old.items }
+    ensures ticks { (bound : ℕ) → AreWithin bound (ticks_in entries.old.items) → tick_behind (shown content) ≤ bound
+        → AreWithin bound (ticks_in entries.new.items) }
     ensures len { length entries.new.items ≡ length entries.old.items }
     ensures old { shown result ≡ part_at (things_of entries.old.items) number cell.now }
+    ensures below { (bound : ℕ) → AreWithin bound (ticks_in entries.old.items) → tick_behind (shown result) ≤ bound }
     ensures formed { IsTrue (is_form cell.now (shown result)) }
 {
     match index_of(entries, number) {
@@ -115,8 +124,10 @@ pub(crate) fn put(entries: &mut Vec<Entry>, number: u32, cell: &Cell, content: C
 pub(crate) fn make_place(entries: &mut Vec<Entry>, number: u32, cell: Cell) -> Result<(), NoMemory>
     requires rising { IsRising entries.old.items }
     requires can { IsTrue (can_have_at (get (values (things_of entries.old.items)) number) cell) }
+    requires valid { AreValid (things_of entries.old.items) }
     ensures rising { IsRising entries.new.items }
     ensures things { things_of entries.new.items ≡ things_of entries.old.items }
+    ensures ticks { ticks_in entries.new.items ≡ ticks_in entries.old.items }
     ensures ok { OnOk result (places_in entries.new.items ≡ with_place number cell (places_in entries.old.items)) }
     ensures placed { OnOk result (IsTrue (has_place (places_in entries.new.items) number cell)) }
     ensures err { OnErr result (places_in entries.new.items ≡ places_in entries.old.items) }
@@ -136,6 +147,8 @@ pub(crate) fn add(entries: &mut Vec<Entry>, number: u32, object: Object) -> Resu
         ≡ insert (things_of entries.old.items) number (thing_of object)) }
     ensures places { OnOk result (places_in entries.new.items
         ≡ insert (places_in entries.old.items) number (places_of object)) }
+    ensures ticks { OnOk result (ticks_in entries.new.items
+        ≡ insert (ticks_in entries.old.items) number (tick_of object)) }
     ensures err { OnErr result (entries.new.items ≡ entries.old.items) }
 {
     let index = bound_of(entries, number);
@@ -149,6 +162,7 @@ pub(crate) fn cut(entries: &mut Vec<Entry>, next: u32)
     ensures rising { IsRising entries.new.items }
     ensures things { things_of entries.new.items ≡ below next (things_of entries.old.items) }
     ensures places { places_in entries.new.items ≡ places_below next (places_in entries.old.items) }
+    ensures ticks { ticks_in entries.new.items ≡ ticks_below next (ticks_in entries.old.items) }
     ensures len { length entries.new.items ≤ length entries.old.items }
 {
     let bound = bound_of(entries, next);
@@ -163,6 +177,8 @@ pub(crate) fn put_back(entries: &mut Vec<Entry>, journal: &mut Journal)
     ensures things { things_of entries.new.items
         ≡ put_back (things_of entries.old.items) (newest_records journal.old.segments) }
     ensures places { places_in entries.new.items ≡ places_in entries.old.items }
+    ensures ticks { (bound : ℕ) → AreWithin bound (ticks_in entries.old.items)
+        → AreRecordsWithin bound journal.old.segments → AreWithin bound (ticks_in entries.new.items) }
     ensures len { length entries.new.items ≡ length entries.old.items }
     ensures journal { journal.new ≡ record journal.old { segments = emptied journal.old.segments } }
 {
@@ -179,6 +195,8 @@ fn put_kept(entries: &mut Vec<Entry>, kept: Kept)
     ensures things { things_of entries.new.items
         ≡ set_cell (things_of entries.old.items) kept.number kept.cell (shown kept.old) }
     ensures places { places_in entries.new.items ≡ places_in entries.old.items }
+    ensures ticks { (bound : ℕ) → AreWithin bound (ticks_in entries.old.items) → tick_behind (shown kept.old) ≤ bound
+        → AreWithin bound (ticks_in entries.new.items) }
     ensures len { length entries.new.items ≡ length entries.old.items }
 {
     let _changed = put(entries, kept.number, &kept.cell, kept.old);
@@ -197,16 +215,28 @@ pub(crate) fn number_from(entries: &[Entry], least: u32) -> Option<u32>
     }
 }
 
-/// The same objects, with a place for each present cell alone.
+/// Objects of the same values, with a place for each present cell alone.
 pub(crate) fn copy_all(alloc: Global, entries: &[Entry]) -> Result<Vec<Entry>, NoMemory>
-    ensures { IfOk result (λ copy. map keyed copy.items ≡ map keyed entries.now) }
+    requires { AreAllValid entries.now }
+    ensures values { IfOk result (λ copy. map keyed copy.items ≡ map keyed entries.now) }
+    ensures valid { IfOk result (λ copy. AreAllValid copy.items) }
+    ensures ticks { IfOk result (λ copy. HaveTicksForUnits copy.items) }
 {
     let mut copy = Vec::with_capacity(alloc, entries.len())?;
     for entry in entries {
-        copy.push(Entry {
-            number: entry.number,
-            object: entry.object.copy(alloc)?,
-        })?;
+        copy.push(copy_one(alloc, entry)?)?;
     }
     Ok(copy)
+}
+
+/// An object of the same value under the same number.
+fn copy_one(alloc: Global, entry: &Entry) -> Result<Entry, NoMemory>
+    requires { IsValid (thing_of entry.now.object) }
+    ensures same { IfOk result (λ copy. keyed copy ≡ keyed entry.now) }
+    ensures valid { IfOk result (λ copy. IsValid (thing_of copy.object)) }
+    ensures tick { IfOk result (λ copy. HasTickForUnits copy) }
+{
+    let number = entry.number;
+    let object = entry.object.copy(alloc)?;
+    Ok(Entry { number, object })
 }

@@ -2,4 +2,8 @@
 #[derive(Clone, Copy, Debug, PartialEq, Eq)]
 pub enum Kind {
     Tads,
+    Text,
+    List,
+    Vector,
+    Table,
 }

@@ -30,6 +30,7 @@ mod object;
 mod object_map;
 mod persistent;
 mod store;
+mod table_cells;
 #[cfg(test)]
 mod tests;
 mod unit_rows;

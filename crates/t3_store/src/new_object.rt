@@ -1,12 +1,17 @@
-ghost use Rattle.std.specs.Prelude.{◌≡◌, ◌+◌, IfOk, OnOk, map, length};
+ghost use Rattle.std.specs.Prelude.{◌≡◌, ◌+◌, ◌<◌, ◌≤◌, IfOk, OnOk, map, length};
 ghost use Rattle.std.specs.FinMap.{from_entries, len};
 ghost use Rattle.std.specs.Ordering.{nat_cmp};
-ghost use Rattle.t3_store.specs.Value.{Tads, pair_of, new_value, units_of};
-ghost use Rattle.t3_store.specs.Inner.Shapes.{thing_of, value_of, IsWithProp};
+ghost use Rattle.t3_lists.specs.Vector.{parts_of, filled};
+ghost use Rattle.t3_store.specs.Value.{Tads, pair_of, new_value, units_of, HasFittingLength};
+ghost use Rattle.t3_store.specs.Inner.Shapes.{thing_of, value_of, tick_of, IsWithProp, HasElements, IsWithElement};
+ghost use Rattle.t3_store.specs.Inner.Valid.{IsValid};
 
 use crate::object::Object;
+use crate::table_cells::eights;
 use std::alloc::Global;
-use t3_holder::{Holder, NoMemory};
+use t3_holder::{Bytes, Holder, NoMemory};
+use t3_lists::{Holders, List, Text, Vector};
+use t3_tables::Table;
 use t3_tadsobj::{Props, TadsObject};
 use t3_undo::{Cell, Content, Metaclass, Numbers};
 
@@ -19,6 +24,12 @@ pub enum NewObject {
         class: bool,
         props: Props,
     },
+    Text(Bytes),
+    List(Holders),
+    /// With these elements.
+    Vector(Holders),
+    /// Without entries, and with nil as its default.
+    Table,
 }
 
 impl NewObject {
@@ -32,12 +43,18 @@ impl NewObject {
                 class: _,
                 props,
             } => tads_units(supers, props),
+            NewObject::Text(bytes) => eights(bytes.0.len()),
+            NewObject::List(items) | NewObject::Vector(items) => items.0.len() as u64,
+            NewObject::Table => 0,
         }
     }
 
     /// The object.
     pub(crate) fn make(self, alloc: Global) -> Result<Object, NoMemory>
-        ensures { IfOk result (λ object. value_of (thing_of object) ≡ new_value self) }
+        requires { HasFittingLength (new_value self) }
+        ensures value { IfOk result (λ object. value_of (thing_of object) ≡ new_value self) }
+        ensures valid { IfOk result (λ object. IsValid (thing_of object)) }
+        ensures tick { IfOk result (λ object. tick_of object ≤ 1) }
     {
         match self {
             NewObject::Tads {
@@ -45,6 +62,10 @@ impl NewObject {
                 class,
                 props,
             } => make_tads(alloc, supers, class, &props),
+            NewObject::Text(bytes) => Ok(Object::Text(Text::of(bytes))),
+            NewObject::List(items) => Ok(Object::List(List::of(items))),
+            NewObject::Vector(items) => Ok(Object::Vector(make_vector(alloc, &items)?)),
+            NewObject::Table => Ok(Object::Table(Table::new(alloc))),
         }
     }
 }
@@ -58,7 +79,10 @@ fn tads_units(supers: &Numbers, props: &Props) -> u64
 
 /// A tads-object with these superclasses, this class flag and these properties.
 fn make_tads(alloc: Global, supers: Numbers, class: bool, props: &Props) -> Result<Object, NoMemory>
-    ensures { IfOk result (λ object. value_of (thing_of object) ≡ Tads supers class (from_entries (map pair_of props.now))) }
+    ensures value { IfOk result (λ object. value_of (thing_of object)
+        ≡ Tads supers class (from_entries (map pair_of props.now))) }
+    ensures valid { IfOk result (λ object. IsValid (thing_of object)) }
+    ensures tick { IfOk result (λ object. tick_of object ≤ 1) }
 {
     let mut object = TadsObject::of(alloc, supers, class);
     let items = props.items();
@@ -76,5 +100,29 @@ fn add_prop(object: &mut TadsObject, number: u16, value: Holder) -> Result<(), N
 {
     object.make_place(Cell::Prop(number))?;
     let _old = object.put(&Cell::Prop(number), Content::Held(value));
+    Ok(())
+}
+
+/// A vector of these elements.
+fn make_vector(alloc: Global, items: &Holders) -> Result<Vector, NoMemory>
+    requires { length items.now ≤ 65535 }
+    ensures { IfOk result (λ vector. parts_of vector ≡ filled items.now) }
+{
+    let mut vector = Vector::new(alloc);
+    for index in 0..items.0.len() {
+        add_element(&mut vector, index as u32, items.0[index])?;
+    }
+    Ok(vector)
+}
+
+/// Adds an element to a vector of so many.
+fn add_element(vector: &mut Vector, count: u32, value: Holder) -> Result<(), NoMemory>
+    requires few { count < 65535 }
+    requires count { HasElements vector.old count }
+    ensures { OnOk result (IsWithElement vector.old vector.new count value) }
+{
+    let cell = Cell::Elem(count + 1);
+    vector.make_place(Cell::Elem(count + 1))?;
+    let _absent = vector.put(&cell, Content::Held(value));
     Ok(())
 }

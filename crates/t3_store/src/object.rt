@@ -1,15 +1,19 @@
-ghost use Rattle.std.specs.Prelude.{◌≡◌, IsTrue, IsSome, IfOk, OnOk, OnErr, option_map, map};
+ghost use Rattle.std.specs.Prelude.{◌≡◌, ◌+◌, ◌<◌, ◌≤◌, ◌-◌, ◌^◌, ℕ, IsTrue, IsSome, IfOk, OnOk, OnErr, option_map, map};
 ghost use Rattle.std.specs.List.Sorted.{IsStrictlyIncreasing};
 ghost use Rattle.std.specs.FinMap.{get, entries};
 ghost use Rattle.std.specs.FinSet as set;
 ghost use Rattle.t3_undo.specs.Content.{shown, is_form};
 ghost use Rattle.t3_undo.specs.Objects.{with_part};
-ghost use Rattle.t3_store.specs.Value.{kind_of, supers_of, is_class_of, props_in, holder_in, with_cell, can_have};
-ghost use Rattle.t3_store.specs.Inner.Shapes.{thing_of, places_of, value_of};
+ghost use Rattle.t3_store.specs.Value.{kind_of, supers_of, is_class_of, props_in, text_of, items_in, length_of, entries_in, with_cell, can_have, units_of};
+ghost use Rattle.t3_store.specs.Inner.Shapes.{thing_of, places_of, tick_of, value_of, tick_behind, risen};
+ghost use Rattle.t3_store.specs.Inner.Valid.{IsValid};
 
 use crate::kind::Kind;
+use crate::table_cells;
 use std::alloc::Global;
 use t3_holder::{Holder, NoMemory};
+use t3_lists::{List, Text, Vector};
+use t3_tables::{Entries, Table};
 use t3_tadsobj::{Props, TadsObject};
 use t3_undo::{Cell, Content, Metaclass};
 
@@ -17,20 +21,26 @@ use t3_undo::{Cell, Content, Metaclass};
 #[derive(Drop)]
 pub(crate) enum Object {
     Tads(TadsObject),
+    Text(Text),
+    List(List),
+    Vector(Vector),
+    Table(Table),
 }
 
 impl Object {
     /// What stands in the cell.
     pub(crate) fn get(&self, cell: &Cell) -> Content
         ensures content { shown result ≡ get (thing_of self.now).1 cell.now }
-        ensures value { option_map (λ present. present.value) (shown result)
-            ≡ holder_in (value_of (thing_of self.now)) cell.now }
         ensures placed { IsSome (shown result) → IsTrue (set.contains (places_of self.now) cell.now) }
         ensures formed { IsTrue (set.contains (places_of self.now) cell.now)
             → IsTrue (is_form cell.now (shown result)) }
     {
         match self {
             Object::Tads(object) => object.get(cell),
+            Object::Text(text) => text.get(cell),
+            Object::List(list) => list.get(cell),
+            Object::Vector(vector) => vector.get(cell),
+            Object::Table(table) => table.get(cell),
         }
     }
 
@@ -40,44 +50,69 @@ impl Object {
         requires form { IsTrue (is_form cell.now (shown content)) }
         ensures thing { thing_of self.new ≡ with_part cell.now (shown content) (thing_of self.old) }
         ensures places { places_of self.new ≡ places_of self.old }
+        ensures ticks { (bound : ℕ) → tick_of self.old ≤ bound → tick_behind (shown content) ≤ bound
+            → tick_of self.new ≤ bound }
         ensures old { shown result ≡ get (thing_of self.old).1 cell.now }
+        ensures below { tick_behind (shown result) ≤ tick_of self.old }
         ensures formed { IsTrue (is_form cell.now (shown result)) }
     {
         match self {
             Object::Tads(object) => object.put(cell, content),
+            Object::Text(text) => text.put(cell, content),
+            Object::List(list) => list.put(cell, content),
+            Object::Vector(vector) => vector.put(cell, content),
+            Object::Table(table) => table.put(cell, content),
         }
     }
 
     /// Makes a place for the cell, which stays as it is.
     pub(crate) fn make_place(&mut self, cell: Cell) -> Result<(), NoMemory>
-        requires { IsTrue (can_have (value_of (thing_of self.old)) cell) }
+        requires can { IsTrue (can_have (value_of (thing_of self.old)) cell) }
+        requires valid { IsValid (thing_of self.old) }
         ensures thing { thing_of self.new ≡ thing_of self.old }
+        ensures ticks { tick_of self.new ≡ tick_of self.old }
         ensures ok { OnOk result (places_of self.new ≡ set.insert (places_of self.old) cell) }
         ensures err { OnErr result (places_of self.new ≡ places_of self.old) }
     {
         match self {
             Object::Tads(object) => object.make_place(cell),
+            Object::Text(text) => text.make_place(cell),
+            Object::List(list) => list.make_place(cell),
+            Object::Vector(vector) => vector.make_place(cell),
+            Object::Table(table) => table.make_place(cell),
         }
     }
 
     /// What stands in the cell once it is set to a value.
     pub(crate) fn content_with(&self, cell: &Cell, value: Holder) -> Content
-        requires { IsTrue (can_have (value_of (thing_of self.now)) cell.now) }
+        requires can { IsTrue (can_have (value_of (thing_of self.now)) cell.now) }
+        requires valid { IsValid (thing_of self.now) }
+        requires room { tick_of self.now < 2 ^ 64 - 1 }
         ensures form { IsTrue (is_form cell.now (shown result)) }
         ensures set { value_of (with_part cell.now (shown result) (thing_of self.now))
             ≡ with_cell cell.now value (value_of (thing_of self.now)) }
+        ensures valid { IsValid (with_part cell.now (shown result) (thing_of self.now)) }
+        ensures tick { tick_behind (shown result) ≤ risen (tick_of self.now) (get (thing_of self.now).1 cell.now) }
     {
         match self {
-            Object::Tads(_) => Content::Held(value),
+            Object::Table(table) => table_cells::content_with(table, cell, value),
+            _ => Content::Held(value),
         }
     }
 
-    /// The same object, with a place for each present cell alone.
+    /// An object of the same value, with a place for each present cell alone.
     pub(crate) fn copy(&self, alloc: Global) -> Result<Object, NoMemory>
-        ensures { IfOk result (λ copy. thing_of copy ≡ thing_of self.now) }
+        requires { IsValid (thing_of self.now) }
+        ensures value { IfOk result (λ copy. value_of (thing_of copy) ≡ value_of (thing_of self.now)) }
+        ensures valid { IfOk result (λ copy. IsValid (thing_of copy)) }
+        ensures tick { IfOk result (λ copy. tick_of copy ≤ units_of (value_of (thing_of copy)) + 1) }
     {
         match self {
             Object::Tads(object) => Ok(Object::Tads(object.copy(alloc)?)),
+            Object::Text(text) => Ok(Object::Text(text.copy(alloc)?)),
+            Object::List(list) => Ok(Object::List(list.copy(alloc)?)),
+            Object::Vector(vector) => Ok(Object::Vector(vector.copy(alloc)?)),
+            Object::Table(table) => Ok(Object::Table(table.copy(alloc)?)),
         }
     }
 
@@ -87,6 +122,10 @@ impl Object {
     {
         match self {
             Object::Tads(_) => Kind::Tads,
+            Object::Text(_) => Kind::Text,
+            Object::List(_) => Kind::List,
+            Object::Vector(_) => Kind::Vector,
+            Object::Table(_) => Kind::Table,
         }
     }
 
@@ -96,6 +135,7 @@ impl Object {
     {
         match self {
             Object::Tads(object) => Some(object.supers()),
+            _ => None,
         }
     }
 
@@ -105,17 +145,61 @@ impl Object {
     {
         match self {
             Object::Tads(object) => object.is_class(),
+            _ => false,
         }
     }
 
     /// The properties of a tads-object with their values, by rising number.
     pub(crate) fn props(&self, alloc: Global) -> Result<Props, NoMemory>
+        requires { IsSome (supers_of (value_of (thing_of self.now))) }
         ensures props { IfOk result (λ props. map (λ prop. (prop.number, prop.value)) props
             ≡ entries (props_in (value_of (thing_of self.now)))) }
         ensures rising { IfOk result (λ props. IsStrictlyIncreasing (map (λ prop. prop.number) props)) }
     {
         match self {
             Object::Tads(object) => object.props(alloc),
+            _ => Ok(Props(Vec::new(alloc))),
+        }
+    }
+
+    /// The bytes of a string.
+    pub(crate) fn text(&self) -> Option<&[u8]>
+        ensures { option_map (λ bytes. bytes.now) result ≡ text_of (value_of (thing_of self.now)) }
+    {
+        match self {
+            Object::Text(text) => Some(text.bytes()),
+            _ => None,
+        }
+    }
+
+    /// The items of a list.
+    pub(crate) fn items(&self) -> Option<&[Holder]>
+        ensures { option_map (λ items. items.now) result ≡ items_in (value_of (thing_of self.now)) }
+    {
+        match self {
+            Object::List(list) => Some(list.items()),
+            _ => None,
+        }
+    }
+
+    /// How many elements a vector has.
+    pub(crate) fn length(&self) -> Option<u32>
+        ensures { result ≡ length_of (value_of (thing_of self.now)) }
+    {
+        match self {
+            Object::Vector(vector) => Some(vector.length()),
+            _ => None,
+        }
+    }
+
+    /// The entries of a table, the oldest first.
+    pub(crate) fn entries(&self, alloc: Global) -> Result<Entries, NoMemory>
+        requires { IsSome (entries_in (value_of (thing_of self.now))) }
+        ensures { IfOk result (λ pairs. Some pairs ≡ entries_in (value_of (thing_of self.now))) }
+    {
+        match self {
+            Object::Table(table) => table.entries(alloc),
+            _ => Ok(Entries(Vec::new(alloc))),
         }
     }
 }

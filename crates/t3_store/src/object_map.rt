@@ -1,12 +1,13 @@
-ghost use Rattle.std.specs.Prelude.{◌≡◌, ◌+◌, ◌<◌, ◌≤◌, ◌^◌, Some, None, IsTrue, IsSome, IfOk, OnOk, OnErr, is_some, option_map, option_and_then, drop, map};
+ghost use Rattle.std.specs.Prelude.{◌≡◌, ◌+◌, ◌-◌, ◌<◌, ◌≤◌, ◌^◌, ℕ, Some, None, IsTrue, IsSome, IfSome, IfOk, OnOk, OnErr, is_some, option_map, option_and_then, drop, map};
 ghost use Rattle.std.specs.List.Sorted.{IsStrictlyIncreasing};
 ghost use Rattle.std.specs.FinMap as finite;
 ghost use Rattle.std.specs.FinMap.{get, insert, entries};
 ghost use Rattle.t3_undo.specs.Content.{shown, is_form};
 ghost use Rattle.t3_undo.specs.Objects.{part_at};
-ghost use Rattle.t3_store.specs.Value.{holder_at, can_have_at, with_cell, without_cell, cell_units, units_of, units_in, kind_of, supers_of, is_class_at, props_at, IsNextAbove};
-ghost use Rattle.t3_store.specs.Inner.Shapes.{thing_of, places_of, value_of, values, has_place, with_place, places_below, IsChanged};
-ghost use Rattle.t3_store.specs.Inner.Store.{CanAllBePut, newest_records};
+ghost use Rattle.t3_store.specs.Value.{holder_at, can_have_at, can_lose_at, with_cell, without_cell, cell_units, units_of, units_in, kind_of, supers_of, is_class_at, props_at, text_of, items_in, length_of, entries_in, IsNextAbove};
+ghost use Rattle.t3_store.specs.Inner.Shapes.{thing_of, places_of, tick_of, value_of, values, has_place, with_place, places_below, AreWithin, IsChanged};
+ghost use Rattle.t3_store.specs.Inner.Valid.{IsValid, AreValid};
+ghost use Rattle.t3_store.specs.Inner.Store.{CanAllBePut, AreRecordsWithin, HaveRisen, newest_records};
 ghost use Rattle.t3_undo.specs.Journal.{newest_next};
 ghost use Rattle.t3_undo.specs.UndoLaw.{undone};
 
@@ -15,9 +16,11 @@ use crate::entries::{
 };
 use crate::kind::Kind;
 use crate::object::Object;
+use crate::table_cells::cell_units;
 use std::alloc::Global;
 use std::marker::Model;
 use t3_holder::{Holder, NoMemory};
+use t3_tables::Entries;
 use t3_tadsobj::Props;
 use t3_undo::{Cell, Content, Journal};
 
@@ -35,9 +38,13 @@ impl Model for ObjectMap {
 
     ghost coded = { coded_stored };
 
-    ghost use Rattle.t3_store.specs.Inner.Entries.{things_of, places_in, IsObjectMap};
+    ghost use Rattle.t3_store.specs.Inner.Entries.{things_of, places_in, ticks_in, IsObjectMap};
 
-    ghost view = { λ m. record { objects = things_of m.entries.items; places = places_in m.entries.items } };
+    ghost view = { λ m. record {
+      objects = things_of m.entries.items;
+      places = places_in m.entries.items;
+      ticks = ticks_in m.entries.items;
+    } };
 
     ghost invariant = { λ m. IsObjectMap m.entries.items m.units };
 }
@@ -45,7 +52,7 @@ impl Model for ObjectMap {
 impl ObjectMap {
     /// No objects. Takes no memory.
     pub(crate) fn new(alloc: Global) -> ObjectMap
-        ensures { result ≡ record { objects = finite.empty; places = finite.empty } }
+        ensures { result ≡ record { objects = finite.empty; places = finite.empty; ticks = finite.empty } }
     {
         ObjectMap {
             entries: Vec::new(alloc),
@@ -57,6 +64,7 @@ impl ObjectMap {
     pub(crate) fn object(&self, number: u32) -> Option<&Object>
         ensures thing { option_map (λ object. thing_of object.now) result ≡ get self.now.objects number }
         ensures places { option_map (λ object. places_of object.now) result ≡ get self.now.places number }
+        ensures valid { IfSome result (λ object. IsValid (thing_of object.now)) }
     {
         object_at(&self.entries, number)
     }
@@ -88,14 +96,16 @@ impl ObjectMap {
         requires can { IsTrue (can_have_at (get (values self.old.objects) number) cell.now) }
         requires room { holder_at (get (values self.old.objects) number) cell.now ≡ None
             → units_in (values self.old.objects) + cell_units cell.now < 2 ^ 32 }
+        requires few { AreWithin (2 ^ 64 - 2) self.old.ticks }
         ensures changed { IsChanged self.old self.new number cell.now (with_cell cell.now value) }
         ensures old { shown result ≡ part_at self.old.objects number cell.now }
         ensures formed { IsTrue (is_form cell.now (shown result)) }
+        ensures ticks { HaveRisen self.old.ticks self.new.ticks (shown result) }
     {
         let content = content_with(&self.entries, number, cell, value);
         let old = put(&mut self.entries, number, cell, content);
         if !old.is_present() {
-            self.units += 1;
+            self.units += cell_units(cell) as u32;
         }
         old
     }
@@ -104,12 +114,14 @@ impl ObjectMap {
     pub(crate) fn take(&mut self, number: u32, cell: &Cell) -> Content
         requires place { IsTrue (has_place self.old.places number cell.now) }
         requires present { IsSome (holder_at (get (values self.old.objects) number) cell.now) }
+        requires can { IsTrue (can_lose_at (get (values self.old.objects) number) cell.now) }
         ensures changed { IsChanged self.old self.new number cell.now (without_cell cell.now) }
         ensures old { shown result ≡ part_at self.old.objects number cell.now }
         ensures formed { IsTrue (is_form cell.now (shown result)) }
+        ensures ticks { HaveRisen self.old.ticks self.new.ticks (shown result) }
     {
         let old = put(&mut self.entries, number, cell, Content::Absent);
-        self.units -= 1;
+        self.units -= cell_units(cell) as u32;
         old
     }
 
@@ -129,9 +141,11 @@ impl ObjectMap {
         requires new { get self.old.objects number ≡ None }
         requires units { units ≡ units_of (value_of (thing_of object)) }
         requires room { units_in (values self.old.objects) + units < 2 ^ 32 }
+        requires valid { IsValid (thing_of object) }
         ensures ok { OnOk result (self.new ≡ record {
           objects = insert self.old.objects number (thing_of object);
           places = insert self.old.places number (places_of object);
+          ticks = insert self.old.ticks number (tick_of object);
         }) }
         ensures err { OnErr result (self.new ≡ self.old) }
     {
@@ -146,10 +160,11 @@ impl ObjectMap {
         requires can { CanAllBePut self.old.places (newest_records journal.old.segments) }
         requires next { newest_next journal.old.segments ≡ Some next }
         requires units { units ≡ units_in (values (undone self.old.objects journal.old.segments)) }
-        ensures objects { self.new ≡ record {
-          objects = undone self.old.objects journal.old.segments;
-          places = places_below next self.old.places;
-        } }
+        requires valid { AreValid (undone self.old.objects journal.old.segments) }
+        ensures objects { self.new.objects ≡ undone self.old.objects journal.old.segments }
+        ensures places { self.new.places ≡ places_below next self.old.places }
+        ensures ticks { (bound : ℕ) → AreWithin bound self.old.ticks → AreRecordsWithin bound journal.old.segments
+            → AreWithin bound self.new.ticks }
         ensures fewer { finite.len (values self.new.objects) ≤ finite.len (values self.old.objects) }
         ensures journal { journal.new ≡ record journal.old { segments = drop 1 journal.old.segments } }
     {
@@ -167,9 +182,10 @@ impl ObjectMap {
         number_from(&self.entries, number + 1)
     }
 
-    /// The same objects, with a place for each present cell alone.
+    /// Objects of the same values, with a place for each present cell alone.
     pub(crate) fn copy(&self, alloc: Global) -> Result<ObjectMap, NoMemory>
-        ensures { IfOk result (λ copy. copy.objects ≡ self.now.objects) }
+        ensures values { IfOk result (λ copy. values copy.objects ≡ values self.now.objects) }
+        ensures ticks { IfOk result (λ copy. AreWithin (units_in (values self.now.objects) + 1) copy.ticks) }
     {
         let entries = copy_all(alloc, &self.entries)?;
         Ok(ObjectMap {
@@ -211,6 +227,7 @@ impl ObjectMap {
 
     /// The properties of a tads-object with their values, by rising number.
     pub(crate) fn props(&self, alloc: Global, number: u32) -> Result<Props, NoMemory>
+        requires { IsSome (option_and_then supers_of (get (values self.now.objects) number)) }
         ensures props { IfOk result (λ props. map (λ prop. (prop.number, prop.value)) props
             ≡ entries (props_at (get (values self.now.objects) number))) }
         ensures rising { IfOk result (λ props. IsStrictlyIncreasing (map (λ prop. prop.number) props)) }
@@ -218,6 +235,50 @@ impl ObjectMap {
         match self.object(number) {
             Some(object) => object.props(alloc),
             None => Ok(Props(Vec::new(alloc))),
+        }
+    }
+
+    /// The bytes of a string.
+    pub(crate) fn text(&self, number: u32) -> Option<&[u8]>
+        ensures { option_map (λ bytes. bytes.now) result
+            ≡ option_and_then text_of (get (values self.now.objects) number) }
+    {
+        match self.object(number) {
+            Some(object) => object.text(),
+            None => None,
+        }
+    }
+
+    /// The items of a list.
+    pub(crate) fn items(&self, number: u32) -> Option<&[Holder]>
+        ensures { option_map (λ items. items.now) result
+            ≡ option_and_then items_in (get (values self.now.objects) number) }
+    {
+        match self.object(number) {
+            Some(object) => object.items(),
+            None => None,
+        }
+    }
+
+    /// How many elements a vector has.
+    pub(crate) fn length(&self, number: u32) -> Option<u32>
+        ensures { result ≡ option_and_then length_of (get (values self.now.objects) number) }
+    {
+        match self.object(number) {
+            Some(object) => object.length(),
+            None => None,
+        }
+    }
+
+    /// The entries of a table, the oldest first.
+    pub(crate) fn entries(&self, alloc: Global, number: u32) -> Result<Entries, NoMemory>
+        requires { IsSome (option_and_then entries_in (get (values self.now.objects) number)) }
+        ensures { IfOk result (λ pairs. Some pairs
+            ≡ option_and_then entries_in (get (values self.now.objects) number)) }
+    {
+        match self.object(number) {
+            Some(object) => object.entries(alloc),
+            None => Ok(Entries(Vec::new(alloc))),
         }
     }
 
@@ -230,7 +291,8 @@ impl ObjectMap {
 
     /// How many units they count together.
     pub(crate) fn units(&self) -> u32
-        ensures { result ≡ units_in (values self.now.objects) }
+        ensures units { result ≡ units_in (values self.now.objects) }
+        ensures valid { AreValid self.now.objects }
     {
         self.units
     }

@@ -1,19 +1,23 @@
-ghost use Rattle.std.specs.Prelude.{◌≡◌, ◌+◌, ◌<◌, ◌≤◌, ◌^◌, ◌↔◌, ◌||◌, None, Err, IsTrue, IsSome, IfOk, OnOk, OnErr, is_some, nat_lt, option_map, option_and_then, map};
+ghost use Rattle.std.specs.Prelude.{◌≡◌, ◌+◌, ◌<◌, ◌≤◌, ◌^◌, ◌↔◌, ◌||◌, Some, None, Err, IsTrue, IsSome, IfOk, OnOk, OnErr, is_some, nat_lt, option_map, option_and_then, map};
 ghost use Rattle.std.specs.List.Sorted.{IsStrictlyIncreasing};
 ghost use Rattle.std.specs.FinMap as finite;
 ghost use Rattle.std.specs.FinMap.{get, insert, len, entries};
-ghost use Rattle.t3_store.specs.Value.{is_past, holder_at, kind_of, supers_of, is_class_at, props_at, units_of, units_in, new_value, IsNextAbove};
-ghost use Rattle.t3_store.specs.Inner.Shapes.{values};
+ghost use Rattle.t3_store.specs.Value.{is_past, is_past_units, key_units, with_cell, IsTableWithout, HasFittingLength, text_of, items_in, length_of, entries_in, holder_at, kind_of, supers_of, is_class_at, props_at, units_of, units_in, new_value, IsNextAbove};
+ghost use Rattle.t3_store.specs.Inner.Shapes.{values, AreWithin};
+ghost use Rattle.t3_undo.specs.Objects.{adjust};
 
 use crate::kind::Kind;
 use crate::limits::StoreRefusal;
 use crate::new_object::NewObject;
 use crate::object_map::ObjectMap;
+use crate::table_cells::cell_units;
+use crate::writing;
 use std::alloc::Global;
 use std::marker::Model;
 use t3_holder::{Holder, NoMemory};
+use t3_tables::Entries;
 use t3_tadsobj::{Props, Supers};
-use t3_undo::Cell;
+use t3_undo::{Cell, Key};
 
 /// How many objects and units there are at most.
 const MOST_OBJECTS: u64 = 1_048_576;
@@ -40,7 +44,7 @@ impl Model for Persistent {
 
     ghost view = { λ p. values p.objects.objects };
 
-    ghost invariant = { λ p. IsPersistent (values p.objects.objects) };
+    ghost invariant = { λ p. IsPersistent p.objects };
 }
 
 impl Persistent {
@@ -59,6 +63,7 @@ impl Persistent {
     pub fn add(&mut self, number: u32, what: NewObject) -> Result<(), StoreRefusal>
         requires number { (0 < number) × (number < 2 ^ 31) }
         requires new { get self.old number ≡ None }
+        requires length { HasFittingLength (new_value what) }
         ensures full { (result ≡ Err StoreRefusal.Full)
             ↔ IsTrue (is_past self.old (units_of (new_value what))) }
         ensures ok { OnOk result (self.new ≡ insert self.old number (new_value what)) }
@@ -71,6 +76,28 @@ impl Persistent {
         let object = what.make(self.alloc)?;
         self.objects.add(number, object, units as u32)?;
         Ok(())
+    }
+
+    /// Adds an entry to a table that doesn't have its key. It comes last. `Full` comes exactly where there would
+    /// be more than 4,194,304 units.
+    pub fn add_pair(&mut self, number: u32, key: Key, value: Holder) -> Result<(), StoreRefusal>
+        requires table { IsTableWithout key (get self.old number) }
+        ensures full { (result ≡ Err StoreRefusal.Full) ↔ IsTrue (is_past_units self.old (key_units key)) }
+        ensures ok { OnOk result (self.new ≡ adjust self.old number (with_cell (Cell.Key key) value)) }
+        ensures err { OnErr result (self.new ≡ self.old) }
+    {
+        let cell = Cell::Key(key);
+        let full = is_past_units(&self.objects, cell_units(&cell));
+        let _absent = writing::set(&mut self.objects, self.alloc, number, &cell, value, full)?;
+        Ok(())
+    }
+
+    /// Sets the default of a table. No memory is taken.
+    pub fn set_default(&mut self, number: u32, value: Holder)
+        requires table { IsSome (option_and_then entries_in (get self.old number)) }
+        ensures { self.new ≡ adjust self.old number (with_cell Cell.Default value) }
+    {
+        let _old = writing::overwrite(&mut self.objects, number, &Cell::Default, value);
     }
 
     /// The least object number above this one. `None` exactly where no object has a greater number.
@@ -123,9 +150,40 @@ impl Persistent {
         self.objects.props(alloc, number)
     }
 
+    /// The bytes of a string. `None` exactly where the number isn't that of one.
+    pub fn text(&self, number: u32) -> Option<&[u8]>
+        ensures { option_map (λ bytes. bytes.now) result ≡ option_and_then text_of (get self.now number) }
+    {
+        self.objects.text(number)
+    }
+
+    /// The items of a list. `None` exactly where the number isn't that of one.
+    pub fn items(&self, number: u32) -> Option<&[Holder]>
+        ensures { option_map (λ items. items.now) result ≡ option_and_then items_in (get self.now number) }
+    {
+        self.objects.items(number)
+    }
+
+    /// How many elements a vector has. `None` exactly where the number isn't that of one.
+    pub fn length(&self, number: u32) -> Option<u32>
+        ensures { result ≡ option_and_then length_of (get self.now number) }
+    {
+        self.objects.length(number)
+    }
+
+    /// The entries of a table, the oldest first.
+    pub fn entries(&self, alloc: Global, number: u32) -> Result<Entries, NoMemory>
+        requires { IsSome (option_and_then entries_in (get self.now number)) }
+        ensures { IfOk result (λ pairs. Some pairs ≡ option_and_then entries_in (get self.now number)) }
+    {
+        self.objects.entries(alloc, number)
+    }
+
     /// The objects themselves.
     pub(crate) fn into_map(self) -> ObjectMap
-        ensures { values result.objects ≡ self }
+        ensures objects { values result.objects ≡ self }
+        ensures from_one { get self 0 ≡ None }
+        ensures ticks { AreWithin (units_in self + 1) result.ticks }
     {
         let Persistent { alloc: _, objects } = self;
         objects
@@ -153,6 +211,13 @@ impl Supers for Persistent {
 fn is_past(objects: &ObjectMap, units: u64) -> bool
     ensures { result ≡ is_past (values objects.now.objects) units }
 {
+    objects.len() >= MOST_OBJECTS || is_past_units(objects, units)
+}
+
+/// Whether so many units more would be more than there may be.
+fn is_past_units(objects: &ObjectMap, units: u64) -> bool
+    ensures { result ≡ is_past_units (values objects.now.objects) units }
+{
     let sum = u64::from(objects.units());
-    objects.len() >= MOST_OBJECTS || sum > MOST_UNITS || units > MOST_UNITS - sum
+    sum > MOST_UNITS || units > MOST_UNITS - sum
 }

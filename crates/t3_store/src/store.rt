@@ -1,10 +1,11 @@
 ghost use Rattle.std.specs.Prelude.{◌≡◌, ◌+◌, ◌<◌, ◌≤◌, ◌^◌, ◌↔◌, ◌||◌, ℕ, true, false, Some, None, Ok, Err, IsTrue, IsSome, IfOk, OnOk, OnErr, is_some, length, map, option_map, option_and_then};
 ghost use Rattle.std.specs.FinMap.{get, len, entries};
 ghost use Rattle.std.specs.List.Sorted.{IsStrictlyIncreasing};
-ghost use Rattle.t3_store.specs.Value.{Objects, holder_at, can_have_at, new_value, kind_of, supers_of, is_class_at, props_at, units_of, units_in};
+ghost use Rattle.t3_store.specs.Value.{Objects, holder_at, can_have_at, can_lose_at, can_be_written, new_value, text_of, items_in, length_of, entries_in, HasFittingLength, kind_of, supers_of, is_class_at, props_at, units_of, units_in};
 ghost use Rattle.t3_store.specs.Store.{AreLimits, AreBelow, value_at, objects_in, store_units, started, is_full_with, no_number, with_object, created_in, after_write, written, taken, set_cell, saved, undone, is_held, changed_cells};
 ghost use Rattle.t3_store.specs.Whole.{AreApart, IsWhole, HasSupersIn, supers_in, supers_among, supers_of_live, supers_for};
-ghost use Rattle.t3_store.specs.Inner.Shapes.{thing_of, value_of, values};
+ghost use Rattle.t3_store.specs.Inner.Shapes.{thing_of, tick_of, value_of, values};
+ghost use Rattle.t3_store.specs.Inner.Valid.{IsValid};
 ghost use Rattle.t3_tadsobj.specs.Order.{IsAcyclicFrom};
 
 use crate::kind::Kind;
@@ -13,11 +14,13 @@ use crate::new_object::NewObject;
 use crate::object::Object;
 use crate::object_map::ObjectMap;
 use crate::persistent::Persistent;
+use crate::table_cells::cell_units;
 use crate::unit_rows::{pop_units, push_units};
 use crate::writing;
 use std::alloc::Global;
 use std::marker::Model;
 use t3_holder::{Holder, NoMemory};
+use t3_tables::Entries;
 use t3_tadsobj::{Props, Supers};
 use t3_undo::{Cell, Journal};
 
@@ -134,6 +137,38 @@ impl Store {
         self.half(number).props(alloc, number)
     }
 
+    /// The bytes of a string. `None` exactly where the number isn't that of one.
+    pub fn text(&self, number: u32) -> Option<&[u8]>
+        ensures { option_map (λ bytes. bytes.now) result
+            ≡ option_and_then text_of (value_at self.now.store number) }
+    {
+        self.half(number).text(number)
+    }
+
+    /// The items of a list. `None` exactly where the number isn't that of one.
+    pub fn items(&self, number: u32) -> Option<&[Holder]>
+        ensures { option_map (λ items. items.now) result
+            ≡ option_and_then items_in (value_at self.now.store number) }
+    {
+        self.half(number).items(number)
+    }
+
+    /// How many elements a vector has. `None` exactly where the number isn't that of one.
+    pub fn length(&self, number: u32) -> Option<u32>
+        ensures { result ≡ option_and_then length_of (value_at self.now.store number) }
+    {
+        self.half(number).length(number)
+    }
+
+    /// The entries of a table, the oldest first.
+    pub fn entries(&self, alloc: Global, number: u32) -> Result<Entries, NoMemory>
+        requires { IsSome (option_and_then entries_in (value_at self.now.store number)) }
+        ensures { IfOk result (λ pairs. Some pairs
+            ≡ option_and_then entries_in (value_at self.now.store number)) }
+    {
+        self.half(number).entries(alloc, number)
+    }
+
     /// The half in which the object of a number is, if it is in any.
     fn half(&self, number: u32) -> &ObjectMap
         ensures { get (values result.now.objects) number ≡ value_at self.now.store number }
@@ -148,7 +183,8 @@ impl Store {
     /// Makes an object, and gives its number. `Full` comes exactly where there is no room for it, or no
     /// number is left.
     pub fn create(&mut self, what: NewObject, transient: bool) -> Result<u32, StoreRefusal>
-        requires { HasSupersIn (supers_for transient self.old.store) (new_value what) }
+        requires supers { HasSupersIn (supers_for transient self.old.store) (new_value what) }
+        requires length { HasFittingLength (new_value what) }
         ensures full { (result ≡ Err StoreRefusal.Full)
             ↔ (created_in (new_value what) transient self.old.store ≡ None) }
         ensures ok { IfOk result (λ number. created_in (new_value what) transient self.old.store
@@ -171,7 +207,8 @@ impl Store {
         Ok(number)
     }
 
-    /// Sets a cell of an object, or takes it away where there is no value.
+    /// Sets a cell of an object, or takes it away where there is no value. A vector's element is set where it
+    /// is there, or is the next one and at most number 65,535; and only the last one is taken away.
     ///
     /// `Full` comes exactly where an absent cell is to be set for which there is no room.
     pub fn write(
@@ -180,7 +217,7 @@ impl Store {
         cell: Cell,
         value: Option<Holder>,
     ) -> Result<(), StoreRefusal>
-        requires can { IsTrue (can_have_at (value_at self.old.store number) cell) }
+        requires can { IsTrue (can_be_written value (value_at self.old.store number) cell) }
         requires few { self.old.writes < 2 ^ 63 }
         ensures full { (result ≡ Err StoreRefusal.Full)
             ↔ (after_write number cell value self.old.store ≡ None) }
@@ -208,7 +245,7 @@ impl Store {
         ensures savepoints { self.new.savepoints ≡ self.old.savepoints }
         ensures err { OnErr result (self.new ≡ self.old) }
     {
-        let full = self.is_full(0, 1);
+        let full = self.is_full(0, cell_units(&cell));
         if self.persistent.has(number) {
             let old = writing::set(&mut self.persistent, self.alloc, number, &cell, value, full)?;
             self.journal.note(number, cell, old);
@@ -222,7 +259,8 @@ impl Store {
 
     /// Takes a cell of an object away, if it is present. No memory is taken.
     fn take(&mut self, number: u32, cell: Cell)
-        requires { self.old.writes < 2 ^ 63 }
+        requires can { IsTrue (can_lose_at (value_at self.old.store number) cell) }
+        requires few { self.old.writes < 2 ^ 63 }
         ensures { self.new ≡ record self.old {
           store = taken number cell self.old.store;
           writes = self.old.writes + 1;
@@ -269,6 +307,8 @@ impl Store {
         requires room { is_full_with 1 units self.old.store ≡ false }
         requires number { no_number false self.old.store ≡ false }
         requires supers { HasSupersIn (supers_in self.old.store.persistent) (value_of (thing_of object)) }
+        requires valid { IsValid (thing_of object) }
+        requires tick { tick_of object ≤ 1 }
         ensures number { IfOk result (λ number. number ≡ self.old.store.next) }
         ensures fresh { IfOk result (λ number. value_at self.old.store number ≡ None) }
         ensures ok { OnOk result (self.new ≡ record self.old {
@@ -288,6 +328,8 @@ impl Store {
         requires room { is_full_with 1 units self.old.store ≡ false }
         requires number { no_number true self.old.store ≡ false }
         requires supers { HasSupersIn (supers_of_live self.old.store) (value_of (thing_of object)) }
+        requires valid { IsValid (thing_of object) }
+        requires tick { tick_of object ≤ 1 }
         ensures number { IfOk result (λ number. number ≡ self.old.store.next_transient) }
         ensures fresh { IfOk result (λ number. value_at self.old.store number ≡ None) }
         ensures ok { OnOk result (self.new ≡ record self.old {

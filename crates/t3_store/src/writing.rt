@@ -1,9 +1,9 @@
 //! A cell of an object set, taken away or set anew, in a half of a store.
-ghost use Rattle.std.specs.Prelude.{◌≡◌, ◌+◌, ◌<◌, ◌^◌, ◌&&◌, ◌↔◌, true, false, None, Err, IsTrue, IsSome, IfOk, OnOk, OnErr, is_none};
+ghost use Rattle.std.specs.Prelude.{◌≡◌, ◌+◌, ◌-◌, ◌<◌, ◌^◌, ◌&&◌, ◌↔◌, true, false, None, Err, IsTrue, IsSome, IfOk, OnOk, OnErr, is_none};
 ghost use Rattle.std.specs.FinMap.{get};
 ghost use Rattle.t3_undo.specs.Content.{shown};
-ghost use Rattle.t3_store.specs.Value.{holder_at, can_have_at, with_cell, without_cell, units_in, cell_units};
-ghost use Rattle.t3_store.specs.Inner.Shapes.{values};
+ghost use Rattle.t3_store.specs.Value.{holder_at, can_have_at, can_lose_at, with_cell, without_cell, units_in, cell_units};
+ghost use Rattle.t3_store.specs.Inner.Shapes.{values, AreWithin};
 ghost use Rattle.t3_store.specs.Inner.Store.{IsReady, IsWritten};
 
 use crate::limits::StoreRefusal;
@@ -24,6 +24,7 @@ pub(crate) fn set(
 ) -> Result<Content, StoreRefusal>
     requires can { IsTrue (can_have_at (get (values objects.old.objects) number) cell.now) }
     requires room { full ≡ false → units_in (values objects.old.objects) + cell_units cell.now < 2 ^ 32 }
+    requires few { AreWithin (2 ^ 64 - 2) objects.old.ticks }
     ensures full { (result ≡ Err StoreRefusal.Full)
         ↔ IsTrue (is_none (holder_at (get (values objects.old.objects) number) cell.now) && full) }
     ensures ok { IfOk result (λ old. IsWritten objects.old objects.new number cell.now
@@ -62,7 +63,8 @@ fn make_room(
 
 /// Sets a present cell of an object anew, and hands out what stood there. No memory is taken.
 pub(crate) fn overwrite(objects: &mut ObjectMap, number: u32, cell: &Cell, value: Holder) -> Content
-    requires { IsSome (holder_at (get (values objects.old.objects) number) cell.now) }
+    requires present { IsSome (holder_at (get (values objects.old.objects) number) cell.now) }
+    requires few { AreWithin (2 ^ 64 - 2) objects.old.ticks }
     ensures { IsWritten objects.old objects.new number cell.now (with_cell cell.now value) (shown result) }
 {
     let _present = objects.get(number, cell);
@@ -71,7 +73,8 @@ pub(crate) fn overwrite(objects: &mut ObjectMap, number: u32, cell: &Cell, value
 
 /// Takes a present cell of an object away, and hands out what stood there. No memory is taken.
 pub(crate) fn take(objects: &mut ObjectMap, number: u32, cell: &Cell) -> Content
-    requires { IsSome (holder_at (get (values objects.old.objects) number) cell.now) }
+    requires present { IsSome (holder_at (get (values objects.old.objects) number) cell.now) }
+    requires can { IsTrue (can_lose_at (get (values objects.old.objects) number) cell.now) }
     ensures { IsWritten objects.old objects.new number cell.now (without_cell cell.now) (shown result) }
 {
     let _present = objects.get(number, cell);

@@ -128,6 +128,16 @@ below-set next entries cell o below q present tick stands is =
     by true e stands = put o stands
     by false e stands = let h = below q present tick stands is in let m = more-after next o in omega (arith, h, m)
 
+-- a content is below the next tick
+pub tick-below : (next : ℕ) (entries : Parts) (cell : Cell) (o : Option Present) → AreBelow next entries → o ≡ get entries cell
+    → tick_after 0 o ≤ next
+tick-below next entries cell None below is = omega arith
+tick-below next entries cell (Some present) below is = by present.tick refl
+  where
+    by : (tick : Option ℕ) → present.tick ≡ tick → above 0 tick ≤ next
+    by None e = omega arith
+    by (Some tick) e = let h = below cell present tick (sym is) e in omega arith
+
 pub below-empty : (next : ℕ) → AreBelow next (empty {R = cell_cmp})
 below-empty next cell present tick stands is = absurd (true≢false (ap is_some (sym stands ∙ get-empty cell_cmp cell)))
 

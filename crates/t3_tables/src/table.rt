@@ -1,4 +1,4 @@
-ghost use Rattle.std.specs.Prelude.{◌≡◌, ◌+◌, IsTrue, IsSome, IfOk, OnOk, OnErr, length};
+ghost use Rattle.std.specs.Prelude.{◌≡◌, ◌+◌, ◌≤◌, ◌^◌, IsTrue, IsSome, IfOk, OnOk, OnErr, length};
 ghost use Rattle.std.specs.FinMap.{get};
 ghost use Rattle.std.specs.FinSet as set;
 ghost use Rattle.t3_undo.specs.Content.{shown, is_form, places_for};
@@ -62,6 +62,7 @@ impl Table {
         ensures places { IfOk result (λ copy. places_of copy ≡ places_for (parts_of copy)) }
         ensures next { IfOk result (λ copy. copy.next_tick
             ≡ 1 + length (entries_of (parts_of self.now))) }
+        ensures few { IfOk result (λ copy. copy.next_tick ≤ 2 ^ 63) }
     {
         let slots = slots_anew(alloc, &self.slots)?;
         let next_tick = slots.places() + 1;
@@ -122,6 +123,7 @@ impl Metaclass for Table {
         ensures next { self.new.next_tick ≡ tick_after self.old.next_tick (shown content) }
         ensures old { shown result ≡ get (parts_of self.old) cell.now }
         ensures formed { IsTrue (is_form cell.now (shown result)) }
+        ensures below { tick_after 0 (shown result) ≤ self.old.next_tick }
     {
         match cell {
             Cell::Default => exchange_default(&mut self.default, content),

@@ -129,6 +129,7 @@ impl Metaclass for TadsObject {
         ensures object { self.new ≡ record self.old { parts = set_at self.old.parts cell.now (shown content) } }
         ensures old { shown result ≡ get self.old.parts cell.now }
         ensures formed { IsTrue (is_form cell.now (shown result)) }
+        ensures only_props { IsTrue (is_prop cell.now) }
     {
         self.slots.put(cell, content)
     }

@@ -1,12 +1,13 @@
 -- Objects as they stand in a row, by rising number.
-use Rattle.std.specs.Prelude.{◌≡◌, ◌<◌, ◌≤◌, ◌==◌, Bool, false, ℕ, suc, List, [], ◌∷◌, Option, None, Some, if◌then◌else◌, option_map, MatchOption, IsSome}
+use Rattle.std.specs.Prelude.{◌≡◌, ◌+◌, ◌<◌, ◌≤◌, ◌==◌, Bool, false, ℕ, suc, List, [], ◌∷◌, Option, None, Some, if◌then◌else◌, option_map, MatchOption, IsSome}
 use Rattle.std.specs.List.{AllByRecursion}
 use Rattle.std.specs.Ordering.{nat_cmp, eq_by_cmp}
 use Rattle.std.specs.FinMap.{FinMap, empty, get}
-use Rattle.t3_undo.specs.Content.{Parts, Places}
+use Rattle.t3_undo.specs.Content.{Places}
 use Rattle.t3_undo.specs.Objects.{Objects, set_at}
-use Rattle.t3_store.specs.Inner.Shapes.{Shape, thing_of, places_of, values}
-use Rattle.t3_store.specs.Value.{units_in}
+use Rattle.t3_store.specs.Inner.Shapes.{Shape, thing_of, places_of, tick_of, value_of, values}
+use Rattle.t3_store.specs.Value.{Value, units_of, units_in}
+use Rattle.t3_store.specs.Inner.Valid.{IsValid, AreValid}
 use Rattle.t3_store.specs.declared.object.Object.{Object}
 use Rattle.t3_store.specs.declared.entries.Entry.{Entry}
 
@@ -40,19 +41,35 @@ things_of entries = by_number thing_of entries
 abbrev pub places_in : List Entry → FinMap nat_cmp Places
 places_in entries = by_number places_of entries
 
+-- and the next tick of each
+abbrev pub ticks_in : List Entry → FinMap nat_cmp ℕ
+ticks_in entries = by_number tick_of entries
+
 -- whether there is an entry, of that number
 abbrev pub is_numbered : ℕ → Option Entry → Bool
 is_numbered number None = false
 is_numbered number (Some entry) = entry.number == number
 
--- numbers rise, and the units are counted
+-- numbers rise, the units are counted, and each object is as one of its kind can be
 pub record IsObjectMap (entries : List Entry) (units : ℕ) : Type 0 where
   pub rising : IsRising entries
   pub counted : units ≡ units_in (values (things_of entries))
+  pub valid : AreValid (things_of entries)
 
--- an entry's number, with its object's shape and parts
-abbrev pub keyed : Entry → ℕ × (Shape × Parts)
-keyed entry = (entry.number, thing_of entry.object)
+-- an entry's number, with its object's value
+abbrev pub keyed : Entry → ℕ × Value
+keyed entry = (entry.number, value_of (thing_of entry.object))
+
+-- each object is as one of its kind can be
+abbrev pub AreAllValid : List Entry → Type 0
+AreAllValid entries = AllByRecursion (λ entry. IsValid (thing_of entry.object)) entries
+
+-- a table's next tick is at most one more than its units
+abbrev pub HasTickForUnits : Entry → Type 0
+HasTickForUnits entry = tick_of entry.object ≤ units_of (value_of (thing_of entry.object)) + 1
+
+abbrev pub HaveTicksForUnits : List Entry → Type 0
+HaveTicksForUnits entries = AllByRecursion HasTickForUnits entries
 
 -- this is the least number of an object from that one on
 abbrev pub IsFirstFrom : Objects Shape → ℕ → Option ℕ → Type 0

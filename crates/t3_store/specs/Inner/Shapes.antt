@@ -1,33 +1,71 @@
 -- Objects as what never changes of each, its shape, and its parts; and what value that is.
-use Rattle.std.specs.Prelude.{◌≡◌, ℕ, Bool, false, List, Option, None, Some, map, nat_lt, refl}
+use Rattle.std.specs.Prelude.{◌≡◌, ◌+◌, ◌≤◌, ℕ, zero, suc, Bool, false, List, [], ◌∷◌, ◌++◌, length, Option, None, Some, map, nat_lt, refl}
 use Rattle.std.specs.Ordering.{nat_cmp}
-use Rattle.std.specs.FinMap.{FinMap, get, insert, retain_keys, entries, from_entries, code as coded_map}
+use Rattle.std.specs.FinMap.{FinMap, empty, get, insert, retain_keys, entries, from_entries, code as coded_map}
 use Rattle.std.specs.FinSet as set
 use Rattle.std.specs.Coded.{Coded, code_by, coded×, coded_ℕ, coded_bool, coded_list}
-use Rattle.t3_undo.specs.Content.{Parts, Places, Present, coded_parts, coded_places}
-use Rattle.t3_undo.specs.Objects.{Objects, set_cell, adjust}
+use Rattle.t3_undo.specs.Content.{Parts, Places, Present, coded_parts, coded_places, coded_holder}
+use Rattle.t3_undo.specs.Objects.{Objects, set_at, set_cell, adjust}
 use Rattle.t3_undo.specs.declared.cell.Cell.{Cell}
+use Rattle.t3_undo.specs.declared.cell.Cell.TheVariants as cells
 use Rattle.t3_holder.specs.declared.holder.Holder.{Holder}
+use Rattle.t3_holder.specs.declared.holder.Holder.TheVariants as holders
 use Rattle.t3_tadsobj.specs.Object.{props_of}
 use Rattle.t3_tadsobj.specs.Object as Tadsobject
-use Rattle.t3_store.specs.Value.{Value, Tads}
+use Rattle.t3_lists.specs.Vector.{items_of}
+use Rattle.t3_lists.specs.Vector as vectors
+use Rattle.t3_tables.specs.Table.{entries_of, tick_after}
+use Rattle.t3_tables.specs.Table as tables
+use Rattle.t3_store.specs.Value.{Value, Tads, Text, Items, Vector, Table}
 use Rattle.t3_store.specs.declared.object.Object.{Object}
 use Rattle.t3_store.specs.declared.object.Object.TheVariants as object
 
 -- an object's kind, with what never changes of it
 pub data Shape : Type 0 where
   TadsShape : (supers : List ℕ) (class : Bool) → Shape
+  TextShape : (bytes : List ℕ) → Shape
+  ItemsShape : (items : List Holder) → Shape
+  VectorShape : Shape
+  TableShape : Shape
 
 -- an object as its shape and its parts
 abbrev pub thing_of : Object → Shape × Parts
 thing_of (object.Tads o) = (TadsShape o.supers o.class, o.parts)
+thing_of (object.Text t) = (TextShape t, empty)
+thing_of (object.List l) = (ItemsShape l, empty)
+thing_of (object.Vector v) = (VectorShape, vectors.parts_of v)
+thing_of (object.Table t) = (TableShape, tables.parts_of t)
 
 -- the cells of an object that have a place
 abbrev pub places_of : Object → Places
 places_of (object.Tads o) = o.places
+places_of (object.Text t) = set.empty
+places_of (object.List l) = set.empty
+places_of (object.Vector v) = vectors.places_of v
+places_of (object.Table t) = tables.places_of t
+
+-- a table's next tick, and 0 of other objects
+abbrev pub tick_of : Object → ℕ
+tick_of (object.Tads o) = 0
+tick_of (object.Text t) = 0
+tick_of (object.List l) = 0
+tick_of (object.Vector v) = 0
+tick_of (object.Table t) = t.next_tick
+
+abbrev pub value_or_nil : Option Present → Holder
+value_or_nil None = holders.Nil
+value_or_nil (Some present) = present.value
+
+-- the default among the parts of a table
+abbrev pub default_of : Parts → Holder
+default_of parts = value_or_nil (get parts cells.Default)
 
 abbrev pub value_by : Shape → Parts → Value
 value_by (TadsShape supers class) parts = Tads supers class (props_of parts)
+value_by (TextShape bytes) parts = Text bytes
+value_by (ItemsShape items) parts = Items items
+value_by VectorShape parts = Vector (items_of parts)
+value_by TableShape parts = Table (entries_of parts) (default_of parts)
 
 -- the value of an object
 abbrev pub value_of : Shape × Parts → Value
@@ -37,25 +75,49 @@ value_of thing = value_by thing.0 thing.1
 unfoldable pub values : Objects Shape → FinMap nat_cmp Value
 values things = from_entries (map (λ e. (e.0, value_of e.1)) (entries things))
 
-abbrev pub shape_parts : Shape → List ℕ × Bool
-shape_parts (TadsShape supers class) = (supers, class)
+abbrev Coding : Type 0
+Coding = ℕ × (List ℕ × (Bool × List Holder))
 
-pub shape_from-shape_parts : (s : Shape) → TadsShape (shape_parts s).0 (shape_parts s).1 ≡ s
-shape_from-shape_parts (TadsShape supers class) = refl
+abbrev to_code : Shape → Coding
+to_code (TadsShape supers class) = (0, (supers, (class, [])))
+to_code (TextShape bytes) = (1, (bytes, (false, [])))
+to_code (ItemsShape items) = (2, ([], (false, items)))
+to_code VectorShape = (3, ([], (false, [])))
+to_code TableShape = (4, ([], (false, [])))
+
+abbrev shape_from : ℕ → List ℕ × (Bool × List Holder) → Shape
+shape_from zero c = TadsShape c.0 c.1.0
+shape_from (suc zero) c = TextShape c.0
+shape_from (suc (suc zero)) c = ItemsShape c.1.1
+shape_from (suc (suc (suc zero))) c = VectorShape
+shape_from (suc (suc (suc (suc _)))) c = TableShape
+
+abbrev from_code : Coding → Shape
+from_code c = shape_from c.0 c.1
+
+pub from_code-to_code : (s : Shape) → from_code (to_code s) ≡ s
+from_code-to_code (TadsShape supers class) = refl
+from_code-to_code (TextShape bytes) = refl
+from_code-to_code (ItemsShape items) = refl
+from_code-to_code VectorShape = refl
+from_code-to_code TableShape = refl
 
 abbrev pub coded_shape : Coded Shape
 coded_shape =
-    code_by (List ℕ × Bool) (coded× (coded_list coded_ℕ) coded_bool) shape_parts (λ t. TadsShape t.0 t.1) shape_from-shape_parts
+    code_by Coding (coded× coded_ℕ (coded× (coded_list coded_ℕ) (coded× coded_bool (coded_list coded_holder)))) to_code from_code
+    from_code-to_code
 
--- objects by their numbers, and of each the cells that have a place
+-- objects by their numbers, of each the cells that have a place, and its next tick
 pub record Stored : Type 0 where
   pub objects : Objects Shape
   pub places : FinMap nat_cmp Places
+  pub ticks : FinMap nat_cmp ℕ
 
 abbrev pub coded_stored : Coded Stored
 coded_stored =
-    code_by (Objects Shape × FinMap nat_cmp Places) (coded× (coded_map coded_ℕ (coded× coded_shape coded_parts)) (coded_map coded_ℕ coded_places))
-    (λ s. (s.objects, s.places)) (λ t. record { objects = t.0; places = t.1 }) (λ _. refl)
+    code_by (Objects Shape × (FinMap nat_cmp Places × FinMap nat_cmp ℕ))
+    (coded× (coded_map coded_ℕ (coded× coded_shape coded_parts)) (coded× (coded_map coded_ℕ coded_places) (coded_map coded_ℕ coded_ℕ)))
+    (λ s. (s.objects, (s.places, s.ticks))) (λ t. record { objects = t.0; places = t.1.0; ticks = t.1.1 }) (λ _. refl)
 
 abbrev pub has_place_in : Option Places → Cell → Bool
 has_place_in None cell = false
@@ -73,10 +135,28 @@ with_place number cell places = adjust places number (λ own. set.insert own cel
 abbrev pub places_below : ℕ → FinMap nat_cmp Places → FinMap nat_cmp Places
 places_below next places = retain_keys places (λ number. nat_lt number next)
 
+-- the ticks of objects numbered below
+abbrev pub ticks_below : ℕ → FinMap nat_cmp ℕ → FinMap nat_cmp ℕ
+ticks_below next ticks = retain_keys ticks (λ number. nat_lt number next)
+
+-- a tick above that of a content, 0 where it has none
+abbrev pub tick_behind : Option Present → ℕ
+tick_behind content = tick_after 0 content
+
+-- where nothing stood a tick more may be given, and else none
+abbrev pub risen : ℕ → Option Present → ℕ
+risen bound None = bound + 1
+risen bound (Some present) = bound
+
+-- none of these is above the bound
+abbrev pub AreWithin : ℕ → FinMap nat_cmp ℕ → Type 0
+AreWithin bound ticks = (number tick : ℕ) → get ticks number ≡ Some tick → tick ≤ bound
+
 -- one cell of one object was set or taken away, which changes its value so
 pub record IsChanged (old new : Stored) (number : ℕ) (cell : Cell) (change : Value → Value) : Type 0 where
   pub content : Option Present
-  pub stored : new ≡ record old { objects = set_cell old.objects number cell content }
+  pub objects : new.objects ≡ set_cell old.objects number cell content
+  pub places : new.places ≡ old.places
   pub values : values new.objects ≡ adjust (values old.objects) number change
 
 -- a tads-object has a property more, or another value for it
@@ -84,3 +164,16 @@ pub record IsWithProp (old new : Tadsobject.Tads) (number : ℕ) (value : Holder
   pub props : props_of new.parts ≡ insert (props_of old.parts) number value
   pub supers : new.supers ≡ old.supers
   pub class : new.class ≡ old.class
+  pub parts : new.parts ≡ set_at old.parts (cells.Prop number) (Some (record { tick = None; value = value }))
+
+-- a vector has so many elements, and none is missing
+pub record HasElements (elements : List (Option Holder)) (number : ℕ) : Type 0 where
+  pub items : List Holder
+  pub are : vectors.parts_of elements ≡ vectors.filled items
+  pub count : length items ≡ number
+
+-- a vector has an element more
+abbrev pub IsWithElement : List (Option Holder) → List (Option Holder) → ℕ → Holder → Type 0
+IsWithElement old new count value =
+    (items : List Holder) → vectors.parts_of old ≡ vectors.filled items → length items ≡ count
+    → vectors.parts_of new ≡ vectors.filled (items ++ value ∷ [])

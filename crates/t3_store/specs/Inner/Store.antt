@@ -8,9 +8,9 @@ use Rattle.t3_undo.specs.Objects.{Objects, OldPart, Segment, set_cell, adjust, p
 use Rattle.t3_undo.specs.Journal.{Held}
 use Rattle.t3_undo.specs.declared.cell.Cell.{Cell}
 use Rattle.t3_store.specs.Value.{Value, units_in}
-use Rattle.t3_store.specs.Value.{Objects as Values}
 use Rattle.t3_store.specs.Store.{Mark, StoreValue, AreLimits}
-use Rattle.t3_store.specs.Inner.Shapes.{Shape, Stored, values, has_place}
+use Rattle.t3_store.specs.Inner.Shapes.{Shape, Stored, values, has_place, tick_behind, risen, AreWithin}
+use Rattle.t3_store.specs.Inner.Valid.{AreValidBefore}
 use Rattle.t3_store.specs.Inner.Whole.{supers_from, supers_of_both, AreWhole}
 use Rattle.t3_store.specs.declared.limits.StoreLimits.{StoreLimits}
 
@@ -70,8 +70,13 @@ AreKept old new = (number : ℕ) (cell : Cell) → IsTrue (has_place old number 
 -- an object has a place for a cell, and no place was lost for it
 pub record IsReady (old new : Stored) (number : ℕ) (cell : Cell) : Type 0 where
   pub same : new.objects ≡ old.objects
+  pub ticks : new.ticks ≡ old.ticks
   pub kept : AreKept old.places new.places
   pub placed : IsTrue (has_place new.places number cell)
+
+-- where no tick was above the bound, this content's isn't, and none is above the bound that it gives now
+abbrev pub HaveRisen : FinMap nat_cmp ℕ → FinMap nat_cmp ℕ → Option Present → Type 0
+HaveRisen old new was = (bound : ℕ) → AreWithin bound old → (tick_behind was ≤ bound) × AreWithin (risen bound was) new
 
 -- a cell of an object was set or taken away, where this stood
 pub record IsWritten (old new : Stored) (number : ℕ) (cell : Cell) (change : Value → Value) (was : Option Present) : Type 0 where
@@ -82,10 +87,14 @@ pub record IsWritten (old new : Stored) (number : ℕ) (cell : Cell) (change : V
   pub placed : IsTrue (has_place new.places number cell)
   pub stood : was ≡ part_at old.objects number cell
   pub formed : IsTrue (is_form cell was)
+  pub ticks : HaveRisen old.ticks new.ticks was
 
--- objects have numbers that were given: persistent ones below the next number, transient ones below it too, or from
+-- objects have numbers from 1 on that were given: persistent ones below the next number, transient ones below it too, or from
 -- 2^31 on and below the next transient number; and none is given twice
 pub record AreNumbered (persistent transient : Objects Shape) (next next_transient : ℕ) : Type 0 where
+  pub persistent_from_one : get persistent 0 ≡ None
+  pub transient_from_one : get transient 0 ≡ None
+  pub next_from_one : 1 ≤ next
   pub persistent_below : (q : ℕ) → next ≤ q → get persistent q ≡ None
   pub transient_low : (q : ℕ) → next ≤ q → q < 2 ^ 31 → get transient q ≡ None
   pub transient_high : (q : ℕ) → next_transient ≤ q → get transient q ≡ None
@@ -114,6 +123,18 @@ pub record AreCounted (persistent transient : Objects Shape) (limits : StoreLimi
   pub few : length units ≤ limits.savepoints
   pub fits : limits.savepoints ≤ room
 
+-- the records' contents have no ticks above the bound
+abbrev pub AreRecordsWithin : ℕ → List Segment → Type 0
+AreRecordsWithin bound segments = AllByRecursion (λ segment. AllByRecursion (λ part. tick_behind part.old ≤ bound) segment.records) segments
+
+-- what the kinds rest on: each object was as one of its kind can be at each savepoint, and no tick is above that of a table
+-- that was given one at each write
+pub record AreKindsKept (persistent transient : Stored) (segments : List Segment) (writes : ℕ) : Type 0 where
+  pub valid : AreValidBefore persistent.objects segments
+  pub persistent_ticks : AreWithin (writes + 1) persistent.ticks
+  pub transient_ticks : AreWithin (writes + 1) transient.ticks
+  pub records : AreRecordsWithin (writes + 1) segments
+
 -- what stays true of a store
 pub record IsStore (persistent transient : Stored) (next next_transient : ℕ) (limits : StoreLimits) (journal : Held) (units : List ℕ)
     (room writes : ℕ) : Type 0 where
@@ -126,9 +147,13 @@ pub record IsStore (persistent transient : Stored) (next next_transient : ℕ) (
   pub few_writes : writes ≤ 2 ^ 63
   pub whole : AreWhole (supers_from persistent.objects) (supers_of_both persistent.objects transient.objects) next next_transient
       journal.segments
+  pub kinds : AreKindsKept persistent transient journal.segments writes
 
--- numbers are below 2^31, and the sums are no greater than they may be
-pub record IsPersistent (objects : Values) : Type 0 where
-  pub numbered : (q : ℕ) → 2 ^ 31 ≤ q → get objects q ≡ None
-  pub few : len objects ≤ 1048576
-  pub few_units : units_in objects ≤ 4194304
+-- numbers are from 1 on and below 2^31, the sums are no greater than they may be, and no tick is above that of a table that
+-- was given one for each unit
+pub record IsPersistent (stored : Stored) : Type 0 where
+  pub from_one : get (values stored.objects) 0 ≡ None
+  pub numbered : (q : ℕ) → 2 ^ 31 ≤ q → get (values stored.objects) q ≡ None
+  pub few : len (values stored.objects) ≤ 1048576
+  pub few_units : units_in (values stored.objects) ≤ 4194304
+  pub ticks : AreWithin (units_in (values stored.objects) + 1) stored.ticks

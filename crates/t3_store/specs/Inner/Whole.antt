@@ -7,10 +7,14 @@ use Rattle.t3_undo.specs.Objects.{Objects, Segment}
 use Rattle.t3_tadsobj.specs.Order.{SupersAt}
 use Rattle.t3_store.specs.Store.{either}
 use Rattle.t3_store.specs.Whole.{AreThere, IsAcyclic}
-use Rattle.t3_store.specs.Inner.Shapes.{Shape, TadsShape}
+use Rattle.t3_store.specs.Inner.Shapes.{Shape, TadsShape, TextShape, ItemsShape, VectorShape, TableShape}
 
 abbrev pub supers_by_shape : Shape → Option (List ℕ)
 supers_by_shape (TadsShape supers class) = Some supers
+supers_by_shape (TextShape bytes) = None
+supers_by_shape (ItemsShape items) = None
+supers_by_shape VectorShape = None
+supers_by_shape TableShape = None
 
 abbrev pub supers_by : Option (Shape × Parts) → Option (List ℕ)
 supers_by None = None

@@ -1,7 +1,7 @@
 use Rattle.std.proofs.Common.{◌∙◌, ap, sym, subst, ◌<◌, ◌≤◌, List, length}
 use Rattle.std.specs.List.{AllWithin}
-use Rattle.t3_store.specs.Inner.Shapes.{thing_of, places_of}
-use Rattle.t3_store.specs.Inner.Entries.{IsRising, things_of, places_in}
+use Rattle.t3_store.specs.Inner.Shapes.{thing_of, places_of, tick_of}
+use Rattle.t3_store.specs.Inner.Entries.{IsRising, things_of, places_in, ticks_in}
 use Rattle.t3_store.specs.declared.entries.Entry.{Entry}
 use Rattle.t3_store.proofs.Rows.{by_number-add, rising-add, none-of}
 use Rattle.t3_store.proofs.entries.add.Goals as goal
@@ -27,4 +27,10 @@ pub returns-clause-places : goal.returns-clause-places
 returns-clause-places c =
     ap places_in c.in_ok-insert.ensures.items
     ∙ by_number-add places_of c.args.entries.now.items c.bound_of-index.result (record { number = c.args.number; object = c.args.object })
+    (none-of thing_of c.args.entries.now.items c.args.number c.requires.new)
+
+pub returns-clause-ticks : goal.returns-clause-ticks
+returns-clause-ticks c =
+    ap ticks_in c.in_ok-insert.ensures.items
+    ∙ by_number-add tick_of c.args.entries.now.items c.bound_of-index.result (record { number = c.args.number; object = c.args.object })
     (none-of thing_of c.args.entries.now.items c.args.number c.requires.new)

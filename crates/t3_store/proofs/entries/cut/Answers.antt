@@ -1,7 +1,7 @@
 use Rattle.std.proofs.Common.{◌∙◌, ap, sym, subst, ◌<◌, ◌≤◌, List, length}
 use Rattle.std.specs.List.{AllWithin}
-use Rattle.t3_store.specs.Inner.Shapes.{thing_of, places_of}
-use Rattle.t3_store.specs.Inner.Entries.{IsRising, things_of, places_in}
+use Rattle.t3_store.specs.Inner.Shapes.{thing_of, places_of, tick_of}
+use Rattle.t3_store.specs.Inner.Entries.{IsRising, things_of, places_in, ticks_in}
 use Rattle.t3_store.specs.declared.entries.Entry.{Entry}
 use Rattle.t3_store.proofs.Rows.{rising-take, by_number-cut}
 use Rattle.t3_store.proofs.entries.cut.Goals as goal
@@ -28,3 +28,8 @@ pub returns-clause-places : goal.returns-clause-places
 returns-clause-places c =
     ap places_in c.truncate.ensures.items
     ∙ by_number-cut places_of c.args.entries.now.items c.bound_of-bound.result c.args.next (low c) (high c)
+
+pub returns-clause-ticks : goal.returns-clause-ticks
+returns-clause-ticks c =
+    ap ticks_in c.truncate.ensures.items
+    ∙ by_number-cut tick_of c.args.entries.now.items c.bound_of-bound.result c.args.next (low c) (high c)

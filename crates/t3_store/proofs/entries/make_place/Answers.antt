@@ -2,12 +2,12 @@ use Rattle.std.proofs.Common.{◌∙◌, ap, sym, true≢false}
 use Rattle.std.specs.Option.{option_map}
 use Rattle.t3_store.specs.Value.{can_have_at}
 use Rattle.t3_store.proofs.Places.{contains-own}
-use Rattle.t3_store.proofs.MapValues.{get-values}
+use Rattle.t3_store.proofs.MapValues.{get-values, found-value}
 use Rattle.std.specs.FinSet as set
-use Rattle.t3_store.specs.Inner.Shapes.{thing_of, places_of, value_of, has_place_in}
+use Rattle.t3_store.specs.Inner.Shapes.{thing_of, places_of, tick_of, value_of, has_place_in}
 use Rattle.t3_store.specs.Inner.Entries.{things_of, places_in}
 use Rattle.t3_store.proofs.Outcomes.{OnOk-map, OnErr-map}
-use Rattle.t3_store.proofs.Rows.{adjust-none, entry-at, no-entry, get-nowhere, get-changed, rising-at, by_number-changed, by_number-kept}
+use Rattle.t3_store.proofs.Rows.{adjust-none, entry-at, no-entry, get-nowhere, get-at, get-changed, rising-at, by_number-changed, by_number-kept}
 use Rattle.t3_store.proofs.entries.make_place.Goals as goal
 
 pub returns-in-Some-clause-rising : goal.returns-in-Some-clause-rising
@@ -53,3 +53,20 @@ returns-in-None-clause-placed c =
     ∙ ap (option_map value_of) (get-nowhere thing_of c.args.number c.args.entries.now.items
     (no-entry c.args.number c.args.entries.now.items _ _ c.deref.ensures.value c.index_of.ensures.index c.in-None.is)) in
     absurd (true≢false (sym c.requires.can ∙ ap (λ o. can_have_at o c.args.cell) gone))
+
+pub make_place-requires-clause-can : goal.make_place-requires-clause-can
+make_place-requires-clause-can c =
+    let at = entry-at c.args.number c.args.entries.now.items _ _ c.in-Some.index _ c.deref.ensures.value c.index_of.ensures.index c.in-Some.is c.index_mut.ensures.value in
+    let value = found-value (things_of c.args.entries.now.items) c.args.number _ (sym (get-at thing_of _ _ _ _ at)) in
+    ap (λ o. can_have_at o c.args.cell) value ∙ c.requires.can
+
+pub make_place-requires-clause-valid : goal.make_place-requires-clause-valid
+make_place-requires-clause-valid c =
+    c.requires.valid c.args.number _ (get-at thing_of _ _ _ _
+    (entry-at c.args.number c.args.entries.now.items _ _ c.in-Some.index _ c.deref.ensures.value c.index_of.ensures.index c.in-Some.is c.index_mut.ensures.value))
+
+pub returns-in-Some-clause-ticks : goal.returns-in-Some-clause-ticks
+returns-in-Some-clause-ticks c =
+    by_number-kept tick_of _ _ _ _ c.make_place.new.self
+    (entry-at c.args.number c.args.entries.now.items _ _ c.in-Some.index _ c.deref.ensures.value c.index_of.ensures.index c.in-Some.is c.index_mut.ensures.value)
+    c.make_place.ensures.ticks

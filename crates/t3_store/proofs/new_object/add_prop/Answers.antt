@@ -18,5 +18,7 @@ returns c = record {
       ∙ ap (λ (o : Tads). props_of (set_at o.parts (cells.Prop c.args.number) (Some (record { tick = None; value = c.args.value })))) c.in_ok-make_place.ensures.ok
       ∙ props_of-set c.args.object.now.parts c.args.number (record { tick = None; value = c.args.value });
   supers = ap (λ (o : Tads). o.supers) c.put-old.ensures.object ∙ ap (λ (o : Tads). o.supers) c.in_ok-make_place.ensures.ok;
+  parts = ap (λ (o : Tads). o.parts) c.put-old.ensures.object
+      ∙ ap (λ (o : Tads). set_at o.parts (cells.Prop c.args.number) (Some (record { tick = None; value = c.args.value }))) c.in_ok-make_place.ensures.ok;
   class = ap (λ (o : Tads). o.class) c.put-old.ensures.object ∙ ap (λ (o : Tads). o.class) c.in_ok-make_place.ensures.ok;
 }

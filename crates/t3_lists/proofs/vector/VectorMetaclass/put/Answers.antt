@@ -3,7 +3,7 @@ use Rattle.t3_holder.specs.declared.holder.Holder.{Holder}
 use Rattle.t3_undo.specs.Content.{Present, shown, is_form}
 use Rattle.t3_lists.specs.Vector.{parts_of, places_of}
 use Rattle.t3_lists.specs.Inner.Elements.{index_of, content_in, exchanged, AreCounted}
-use Rattle.t3_lists.proofs.ElementLists.{found, one, get-parts, contains-places, formed, parts-exchanged, places-exchanged, one-of-present, counted-exchanged, present-fits}
+use Rattle.t3_lists.proofs.ElementLists.{found, one, get-parts, contains-places, formed, parts-exchanged, places-exchanged, one-of-present, counted-exchanged, present-fits, element-placed}
 use Rattle.t3_lists.proofs.vector.VectorMetaclass.put.Goals as goal
 
 abbrev Elements : Type 0
@@ -68,3 +68,7 @@ returns-clause-formed c =
     subst P (sym (ap shown c.exchange-old.ensures.old
     ∙ ap (λ (elements : Elements). shown (content_in elements (index_of c.args.cell.now))) c.self.view_is))
     (formed c.args.self.now c.args.cell.now (sym (contains-places c.args.self.now c.args.cell.now) ∙ c.requires.place))
+
+pub returns-clause-only_elements : goal.returns-clause-only_elements
+returns-clause-only_elements c =
+    element-placed c.args.self.now c.args.cell.now (sym (contains-places c.args.self.now c.args.cell.now) ∙ c.requires.place)

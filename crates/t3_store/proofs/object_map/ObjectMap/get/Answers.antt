@@ -1,17 +1,17 @@
-use Rattle.std.proofs.Common.{◌∙◌, ap, sym}
+use Rattle.std.proofs.Common.{◌∙◌, ap}
 use Rattle.std.specs.Option.{option_map}
+use Rattle.t3_undo.specs.Content.{Present}
 use Rattle.t3_store.specs.Value.{holder_at}
-use Rattle.t3_store.specs.Inner.Shapes.{value_of}
-use Rattle.t3_store.proofs.MapValues.{get-values}
+use Rattle.t3_store.proofs.KindValues.{held-value}
+use Rattle.t3_store.proofs.MapValues.{found-value, no-value}
 use Rattle.t3_store.proofs.object_map.ObjectMap.get.Goals as goal
 
 pub returns-in-Some-clause-value : goal.returns-in-Some-clause-value
 returns-in-Some-clause-value c =
-    c.get.ensures.value
-    ∙ sym (ap (λ o. holder_at o c.args.cell.now) (get-values c.args.self.now.objects c.args.number
-    ∙ ap (option_map value_of) (sym c.in-Some.ensures.thing)))
+    ap (option_map (λ (p : Present). p.value)) c.get.ensures.content
+    ∙ held-value _ c.args.cell.now c.in-Some.ensures.valid
+    ∙ ap (λ o. holder_at o c.args.cell.now) (found-value c.args.self.now.objects c.args.number _ c.in-Some.ensures.thing)
 
 pub returns-in-None-clause-value : goal.returns-in-None-clause-value
 returns-in-None-clause-value c =
-    sym (ap (λ o. holder_at o c.args.cell.now) (get-values c.args.self.now.objects c.args.number
-    ∙ ap (option_map value_of) (sym c.in-None.ensures.thing)))
+    ap (λ o. holder_at o c.args.cell.now) (no-value c.args.self.now.objects c.args.number c.in-None.ensures.thing)

@@ -1,8 +1,9 @@
-use Rattle.std.proofs.Common.{◌∙◌, ap, sym, subst, List, map, nat_eq}
+use Rattle.std.proofs.Common.{◌∙◌, ap, sym, subst, is_some, List, map, nat_eq}
+use Rattle.std.specs.Option.{option_and_then}
 use Rattle.std.specs.List.{IsDistinct}
 use Rattle.std.specs.FinMap.{entries}
 use Rattle.t3_tadsobj.specs.declared.props.PropValue.{PropValue}
-use Rattle.t3_store.specs.Value.{props_at}
+use Rattle.t3_store.specs.Value.{props_at, supers_of}
 use Rattle.t3_store.proofs.MapValues.{found-value, no-value, entries-empty}
 use Rattle.t3_store.proofs.Outcomes.{IfOk-map}
 use Rattle.t3_store.proofs.object_map.ObjectMap.props.Goals as goal
@@ -23,3 +24,7 @@ returns-in-None-clause-props c =
     ap (map (λ (prop : PropValue). (prop.number, prop.value))) c.new.ensures.items
     ∙ sym entries-empty
     ∙ ap (λ o. entries (props_at o)) (no-value c.args.self.now.objects c.args.number c.in-None.ensures.thing)
+
+pub props-requires : goal.props-requires
+props-requires c =
+    ap (λ o. is_some (option_and_then supers_of o)) (found-value c.args.self.now.objects c.args.number _ c.in-Some.ensures.thing) ∙ c.requires

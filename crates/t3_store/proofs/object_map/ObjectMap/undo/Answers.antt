@@ -1,6 +1,13 @@
-use Rattle.std.proofs.Common.{ap, arith}
+use Rattle.std.proofs.Common.{◌≡◌, ◌∙◌, ap, sym, subst, arith}
 use Rattle.std.specs.FinMap.{len}
-use Rattle.t3_store.specs.Inner.Shapes.{Stored, values}
+use Rattle.t3_store.specs.Inner.Shapes.{Shape, Stored, values, AreWithin}
+use Rattle.t3_undo.specs.Objects.{Objects, below}
+use Rattle.t3_undo.specs.UndoLaw.{undone}
+use Rattle.t3_store.specs.Value.{units_in}
+use Rattle.t3_store.specs.Inner.Valid.{AreValid}
+use Rattle.t3_store.specs.Inner.Entries.{things_of}
+use Rattle.t3_store.proofs.Ticks.{within-below}
+use Rattle.t3_store.proofs.Validity.{undone-is}
 use Rattle.t3_store.proofs.MapValues.{len-values}
 use Rattle.t3_store.proofs.object_map.ObjectMap.undo.Goals as goal
 
@@ -10,3 +17,20 @@ returns-clause-fewer c =
     let before = len-values c.self.inside.entries.items c.self.invariant.rising in
     let view = ap (λ (s : Stored). len (values s.objects)) c.self.view_is in
     omega (arith, c.cut.ensures.len, c.put_back.ensures.len)
+
+pub invariant_of-self : goal.invariant_of-self
+invariant_of-self c =
+    let things = c.cut.ensures.things ∙ ap (below c.args.next) c.put_back.ensures.things
+    ∙ undone-is (things_of c.self.inside.entries.items) c.args.journal.now.segments c.args.next c.requires.next
+    ∙ ap (λ (s : Stored). undone s.objects c.args.journal.now.segments) c.self.view_is in
+    record {
+      rising = c.cut.ensures.rising;
+      counted = c.requires.units ∙ ap (λ (m : Objects Shape). units_in (values m)) (sym things);
+      valid = subst AreValid (sym things) c.requires.valid;
+    }
+
+pub returns-clause-ticks : goal.returns-clause-ticks
+returns-clause-ticks c bound all records =
+    subst (AreWithin bound) (sym c.cut.ensures.ticks)
+    (within-below bound c.args.next _
+    (c.put_back.ensures.ticks bound (subst (λ (s : Stored). AreWithin bound s.ticks) (sym c.self.view_is) all) records))

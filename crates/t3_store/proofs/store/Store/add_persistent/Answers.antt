@@ -1,7 +1,7 @@
 use Rattle.std.proofs.Common.{◌+◌, ◌∙◌, ap, sym, false, vec_capacity, nat_le, ◌^◌, leb-false, arith}
 use Rattle.std.specs.FinMap.{get}
 use Rattle.t3_store.specs.Store.{value_at, with_object}
-use Rattle.t3_store.specs.Inner.Shapes.{values, thing_of, places_of, value_of}
+use Rattle.t3_store.specs.Inner.Shapes.{values, thing_of, places_of, tick_of, value_of}
 use Rattle.t3_store.specs.Inner.Store.{store_of}
 use Rattle.t3_store.proofs.MapValues.{values-insert}
 use Rattle.std.specs.Prelude.{option_and_then}
@@ -10,7 +10,7 @@ use Rattle.t3_store.specs.Whole.{supers_in}
 use Rattle.t3_store.specs.Inner.Whole.{supers_from}
 use Rattle.t3_store.proofs.WholeKept.{has-supers, supers-values}
 use Rattle.t3_store.proofs.Changes.{room-for, neither}
-use Rattle.t3_store.proofs.Turns.{persistent-created, marks-created, value-none}
+use Rattle.t3_store.proofs.Creating.{persistent-created, marks-created, value-none}
 use Rattle.t3_store.proofs.store.Store.add_persistent.Goals as goal
 
 pub invariant_of-self-2 : goal.invariant_of-self-2
@@ -21,10 +21,10 @@ invariant_of-self-2 c =
     let less = leb-false _ _ ((λ i. nat_le (2 ^ 31) (c.self.view_is i).store.next) ∙ c.requires.number) in
     persistent-created c.self.inside.persistent c.self.inside.transient c.add.new.self c.self.inside.next c.self.inside.next_transient
     c.self.inside.limits c.self.inside.journal c.self.inside.units.items (vec_capacity c.self.inside.units) c.self.inside.writes
-    (thing_of c.args.object) (places_of c.args.object) c.self.invariant (omega arith) (omega arith) (omega arith)
+    (thing_of c.args.object) (places_of c.args.object) (tick_of c.args.object) c.self.invariant (omega arith) (omega arith) (omega arith)
     (has-supers (supers_in c.args.self.now.store.persistent) (supers_from c.self.inside.persistent.objects) (thing_of c.args.object)
     (λ q. (λ i. option_and_then supers_of (get (sym view i).persistent q)) ∙ supers-values c.self.inside.persistent.objects q)
-    c.requires.supers) c.in_ok-add.ensures.ok
+    c.requires.supers) c.requires.tick c.in_ok-add.ensures.ok
 
 pub returns-clause-fresh : goal.returns-clause-fresh
 returns-clause-fresh c =

@@ -1,6 +1,6 @@
 use Rattle.std.proofs.Common.{◌+◌, ◌∙◌, ap, sym, true, vec_capacity, nat_le, ◌^◌, leb-false, arith}
 use Rattle.t3_store.specs.Store.{value_at, with_object}
-use Rattle.t3_store.specs.Inner.Shapes.{values, thing_of, places_of, value_of}
+use Rattle.t3_store.specs.Inner.Shapes.{values, thing_of, places_of, tick_of, value_of}
 use Rattle.t3_store.specs.Inner.Store.{store_of, marks_of}
 use Rattle.t3_store.proofs.MapValues.{values-insert}
 use Rattle.std.specs.Prelude.{option_and_then}
@@ -9,7 +9,7 @@ use Rattle.t3_store.specs.Whole.{supers_of_live}
 use Rattle.t3_store.specs.Inner.Whole.{supers_of_both}
 use Rattle.t3_store.proofs.WholeKept.{has-supers, supers-both}
 use Rattle.t3_store.proofs.Changes.{room-for, neither}
-use Rattle.t3_store.proofs.Turns.{transient-created, value-none}
+use Rattle.t3_store.proofs.Creating.{transient-created, value-none}
 use Rattle.t3_store.proofs.store.Store.add_transient.Goals as goal
 
 pub invariant_of-self-2 : goal.invariant_of-self-2
@@ -20,11 +20,11 @@ invariant_of-self-2 c =
     let less = leb-false _ _ ((λ i. nat_le (2 ^ 32) (c.self.view_is i).store.next_transient) ∙ c.requires.number) in
     transient-created c.self.inside.persistent c.self.inside.transient c.add.new.self c.self.inside.next c.self.inside.next_transient
     c.self.inside.limits c.self.inside.journal c.self.inside.units.items (vec_capacity c.self.inside.units) c.self.inside.writes
-    (thing_of c.args.object) (places_of c.args.object) c.self.invariant (omega arith) (omega arith) (omega arith)
+    (thing_of c.args.object) (places_of c.args.object) (tick_of c.args.object) c.self.invariant (omega arith) (omega arith) (omega arith)
     (has-supers (supers_of_live c.args.self.now.store)
     (supers_of_both c.self.inside.persistent.objects c.self.inside.transient.objects) (thing_of c.args.object)
     (λ q. (λ i. option_and_then supers_of (value_at (sym view i) q))
-    ∙ supers-both c.self.inside.persistent.objects c.self.inside.transient.objects q) c.requires.supers) c.in_ok-add.ensures.ok
+    ∙ supers-both c.self.inside.persistent.objects c.self.inside.transient.objects q) c.requires.supers) c.requires.tick c.in_ok-add.ensures.ok
 
 pub returns-clause-fresh : goal.returns-clause-fresh
 returns-clause-fresh c =

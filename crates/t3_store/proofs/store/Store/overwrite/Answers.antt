@@ -1,16 +1,26 @@
-use Rattle.std.proofs.Common.{◌∙◌, ◌+◌, ap, sym, subst, is_some, vec_capacity, arith}
+use Rattle.std.proofs.Common.{◌∙◌, ◌+◌, ◌<◌, ◌^◌, ap, sym, subst, is_some, vec_capacity, arith}
 use Rattle.t3_undo.specs.Content.{shown}
 use Rattle.t3_undo.specs.Journal.{Held}
 use Rattle.t3_store.specs.Value.{with_cell}
 use Rattle.t3_store.specs.Store.{set_cell}
 use Rattle.t3_store.specs.Inner.Store.{store_of, IsStore}
-use Rattle.t3_store.proofs.Changes.{held-persistent, held-transient, persistent-changed, persistent-kept, transient-kept, units-overwritten}
+use Rattle.t3_store.proofs.Changes.{few-ticks, held-persistent, held-transient, persistent-changed, persistent-kept, transient-kept, units-overwritten}
 use Rattle.t3_store.proofs.store.Store.overwrite.Goals as goal
 
-pub overwrite-old-requires : goal.overwrite-old-requires
-overwrite-old-requires c =
+pub overwrite-old-requires-clause-present : goal.overwrite-old-requires-clause-present
+overwrite-old-requires-clause-present c =
     sym (ap is_some (held-persistent _ _ c.args.number c.args.cell (ap (λ s. s.store) c.self.view_is) (sym c.has.ensures.value ∙ c.if-has.true)))
     ∙ c.requires.present
+
+pub overwrite-old-requires-clause-few : goal.overwrite-old-requires-clause-few
+overwrite-old-requires-clause-few c =
+    few-ticks c.self.inside.persistent.ticks c.self.inside.writes c.self.invariant.kinds.persistent_ticks
+    (let counted = ap (λ s. s.writes) c.self.view_is in omega (arith, counted, c.requires.few))
+
+pub overwrite-old-requires-2-clause-few : goal.overwrite-old-requires-2-clause-few
+overwrite-old-requires-2-clause-few c =
+    few-ticks c.self.inside.transient.ticks c.self.inside.writes c.self.invariant.kinds.transient_ticks
+    (let counted = ap (λ s. s.writes) c.self.view_is in omega (arith, counted, c.requires.few))
 
 pub invariant_of-self : goal.invariant_of-self
 invariant_of-self c =

@@ -4,7 +4,7 @@ use Rattle.t3_store.specs.Store.{saved}
 use Rattle.t3_store.specs.Inner.Shapes.{values}
 use Rattle.t3_store.specs.Inner.Store.{store_of, marks_of, IsStore}
 use Rattle.t3_store.proofs.Marks.{marks-saved, marks-take}
-use Rattle.t3_store.proofs.Turns.{saved-kept}
+use Rattle.t3_store.proofs.Saving.{saved-kept}
 use Rattle.t3_store.proofs.store.Store.savepoint.Goals as goal
 
 pub invariant_of-self : goal.invariant_of-self
@@ -13,7 +13,7 @@ invariant_of-self c =
     c.self.inside.limits j c.push_units.new.units.items (vec_capacity c.push_units.new.units) c.self.inside.writes) (sym c.mark.ensures)
     (saved-kept c.self.inside.persistent c.self.inside.transient c.self.inside.next c.self.inside.next_transient c.self.inside.limits
     c.self.inside.journal c.self.inside.units.items c.push_units.new.units.items _ _ c.self.inside.writes c.units.result c.self.invariant
-    c.units.ensures c.push_units.ensures.units c.push_units.ensures.few c.push_units.ensures.room)
+    c.units.ensures.valid c.units.ensures.units c.push_units.ensures.units c.push_units.ensures.few c.push_units.ensures.room)
 
 pub returns : goal.returns
 returns c = λ i. record {

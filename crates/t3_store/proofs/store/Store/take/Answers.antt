@@ -1,10 +1,10 @@
 use Rattle.std.proofs.Common.{◌+◌, ◌∙◌, ap, sym, subst, is_some, not, vec_capacity, arith}
 use Rattle.t3_undo.specs.Content.{shown}
 use Rattle.t3_undo.specs.Journal.{Held}
-use Rattle.t3_store.specs.Value.{without_cell}
+use Rattle.t3_store.specs.Value.{without_cell, can_lose_at}
 use Rattle.t3_store.specs.Store.{StoreValue, noted, with_value}
 use Rattle.t3_store.specs.Inner.Store.{store_of, IsStore}
-use Rattle.t3_store.proofs.Changes.{held-persistent, held-transient, persistent-changed, persistent-kept, transient-kept, units-taken, taken-some}
+use Rattle.t3_store.proofs.Changes.{writes-kept, can-persistent, can-transient, held-persistent, held-transient, persistent-changed, persistent-kept, transient-kept, units-taken, taken-some}
 use Rattle.t3_store.proofs.store.Store.take.Goals as goal
 
 pub invariant_of-self-then-has : goal.invariant_of-self-then-has
@@ -14,12 +14,14 @@ invariant_of-self-then-has c =
     let some = sym (ap is_some c.get.ensures) ∙ c.is_none.ensures ∙ ap not c.if-is_none.false in
     let present = sym (ap is_some (held-persistent _ _ c.args.number c.args.cell (ap (λ s. s.store) c.self.view_is)
     (sym c.has.ensures.value ∙ c.if-has.true))) ∙ some in
-    let less = units-taken _ _ _ _ _ c.take-old.ensures present in
+    let can = can-persistent can_lose_at _ _ c.args.number c.args.cell (ap (λ s. s.store) c.self.view_is)
+    (sym c.has.ensures.value ∙ c.if-has.true) c.requires.can in
+    let less = units-taken _ _ _ _ _ c.take-old.ensures present can in
     subst (λ (j : Held). IsStore c.take-old.new.objects c.self.inside.transient c.self.inside.next c.self.inside.next_transient
     c.self.inside.limits j c.self.inside.units.items (vec_capacity c.self.inside.units) (c.self.inside.writes + 1)) (sym c.note.ensures)
     (persistent-kept _ _ c.self.inside.transient c.self.inside.next c.self.inside.next_transient c.self.inside.limits c.self.inside.journal
     c.self.inside.units.items (vec_capacity c.self.inside.units) c.self.inside.writes c.args.number c.args.cell (without_cell c.args.cell) _ is
-    c.take-old.ensures (omega (arith, less, is.counted.persistent_units)) (omega (arith, counted, c.requires)))
+    c.take-old.ensures (omega (arith, less, is.counted.persistent_units)) (omega (arith, counted, c.requires.few)))
 
 pub returns-then-has : goal.returns-then-has
 returns-then-has c =
@@ -45,7 +47,16 @@ invariant_of-self-2 c =
     let some = sym (ap is_some c.get.ensures) ∙ c.is_none.ensures ∙ ap not c.if-is_none.false in
     let present = sym (ap is_some (held-transient _ _ c.args.number c.args.cell (ap (λ s. s.store) c.self.view_is)
     (sym c.has.ensures.value ∙ c.if-has.false))) ∙ some in
-    let less = units-taken _ _ _ _ _ c.take-old-2.ensures present in
+    let can = can-transient can_lose_at _ _ c.args.number c.args.cell (ap (λ s. s.store) c.self.view_is)
+    (sym c.has.ensures.value ∙ c.if-has.false) c.requires.can in
+    let less = units-taken _ _ _ _ _ c.take-old-2.ensures present can in
     transient-kept c.self.inside.persistent _ _ c.self.inside.next c.self.inside.next_transient c.self.inside.limits c.self.inside.journal
     c.self.inside.units.items (vec_capacity c.self.inside.units) c.self.inside.writes _ _ (without_cell c.args.cell) _ is
-    c.take-old-2.ensures (omega (arith, less, is.counted.transient_units)) (omega (arith, counted, c.requires))
+    c.take-old-2.ensures (omega (arith, less, is.counted.transient_units)) (omega (arith, counted, c.requires.few))
+
+pub invariant_of-self : goal.invariant_of-self
+invariant_of-self c =
+    let counted = ap (λ s. s.writes) c.self.view_is in
+    writes-kept c.self.inside.persistent c.self.inside.transient c.self.inside.next c.self.inside.next_transient c.self.inside.limits
+    c.self.inside.journal c.self.inside.units.items (vec_capacity c.self.inside.units) c.self.inside.writes c.self.invariant
+    (omega (arith, counted, c.requires.few))

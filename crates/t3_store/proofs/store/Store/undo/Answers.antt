@@ -4,7 +4,8 @@ use Rattle.t3_store.specs.Store.{undone, is_held}
 use Rattle.t3_store.specs.Inner.Shapes.{values}
 use Rattle.t3_store.specs.Inner.Store.{store_of, IsStore}
 use Rattle.t3_store.proofs.Marks.{values-undone, marks-undone, held-marks, marks-unheld, unheld}
-use Rattle.t3_store.proofs.Turns.{has-units, popped-units, undone-kept}
+use Rattle.t3_store.proofs.Validity.{valid-undone}
+use Rattle.t3_store.proofs.Saving.{has-units, popped-units, undone-kept}
 use Rattle.t3_store.proofs.store.Store.undo.Goals as goal
 
 pub pop_units-units-requires : goal.pop_units-units-requires
@@ -18,6 +19,11 @@ undo-requires-clause-units c =
     c.in-Some.next c.pop_units-units.result (sym c.newest_next.ensures ∙ c.in-Some.is) c.self.invariant.counted.copies
     c.pop_units-units.ensures.units
 
+pub undo-requires-clause-valid : goal.undo-requires-clause-valid
+undo-requires-clause-valid c =
+    valid-undone c.self.inside.journal.segments c.self.inside.persistent.objects c.in-Some.next (sym c.newest_next.ensures ∙ c.in-Some.is)
+    c.self.invariant.kinds.valid
+
 pub invariant_of-self : goal.invariant_of-self
 invariant_of-self c =
     subst (λ (j : Held). IsStore c.undo.new.self c.self.inside.transient c.self.inside.next c.self.inside.next_transient
@@ -26,11 +32,11 @@ invariant_of-self c =
     (undone-kept c.self.inside.persistent c.self.inside.transient c.undo.new.self c.self.inside.next c.self.inside.next_transient
     c.self.inside.limits c.self.inside.journal c.self.inside.units.items c.pop_units-units.new.units.items _ _ c.self.inside.writes
     c.pop_units-units.result c.in-Some.next c.self.invariant (sym c.newest_next.ensures ∙ c.in-Some.is) c.pop_units-units.ensures.units
-    c.pop_units-units.ensures.few c.pop_units-units.ensures.room c.undo.ensures.objects c.undo.ensures.fewer)
+    c.pop_units-units.ensures.few c.pop_units-units.ensures.room c.undo.ensures.objects c.undo.ensures.places c.undo.ensures.ticks c.undo.ensures.fewer)
 
 pub returns-in-Some-clause-store : goal.returns-in-Some-clause-store
 returns-in-Some-clause-store c = λ i. record {
-  store = ((λ k. store_of (c.undo.ensures.objects k).objects c.self.inside.transient.objects c.self.inside.next
+  store = ((λ k. store_of (c.undo.ensures.objects k) c.self.inside.transient.objects c.self.inside.next
       c.self.inside.next_transient c.self.inside.limits (c.undo.ensures.journal k).segments)
       ∙ (λ k. record {
         persistent = values-undone c.self.inside.journal.segments c.self.inside.persistent.objects k;

@@ -58,4 +58,5 @@ returns c =
           ∙ places-filled c.self.inside.default (entries_of (parts_of c.args.self.now))
           ∙ ap (λ (s : Slotted). places_for (with_default (slots.parts_of s) c.self.inside.default)) (sym is);
       next = omega (arith, e, c.places-next_tick.ensures.slots);
+      few = omega (arith, c.places-next_tick.ensures.bound);
     }

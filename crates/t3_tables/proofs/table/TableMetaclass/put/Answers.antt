@@ -1,4 +1,4 @@
-use Rattle.std.proofs.Common.{◌≡◌, ◌∙◌, ap, sym, false}
+use Rattle.std.proofs.Common.{◌≡◌, ◌∙◌, ◌≤◌, ℕ, ap, sym, subst, false, arith}
 use Rattle.std.specs.FinMap.{get}
 use Rattle.std.specs.FinSet.{contains, insert}
 use Rattle.t3_undo.specs.Content.{Parts, Places, shown}
@@ -7,7 +7,7 @@ use Rattle.t3_undo.specs.Slots as slots
 use Rattle.t3_undo.specs.declared.cell.Cell.TheVariants as cells
 use Rattle.t3_undo.proofs.SlotLists.{same}
 use Rattle.t3_tables.specs.Table.{parts_of, places_of, with_default, tick_after}
-use Rattle.t3_tables.proofs.Defaults.{get-default, get-other, contains-other, default-set, other-set, apart-default}
+use Rattle.t3_tables.proofs.Defaults.{get-default, get-other, contains-other, default-set, other-set, apart-default, tick-below}
 use Rattle.t3_tables.proofs.TableLists.{table-put}
 use Rattle.t3_tables.proofs.table.TableMetaclass.put.Goals as goal
 
@@ -54,4 +54,13 @@ returns-in_default c =
           ∙ sym (get-other (slots.parts_of c.self.inside.slots) c.self.inside.default c.args.cell.now apart)
           ∙ ap (λ t. get (parts_of t) c.args.cell.now) c.self.view_is;
       formed = c.put.ensures.formed;
+      below =
+          subst (λ (n : ℕ). tick_after 0 (shown c.put.result) ≤ n) (ap (λ t. t.next_tick) c.self.view_is)
+          (tick-below c.self.inside.next_tick (slots.parts_of c.self.inside.slots) c.args.cell.now (shown c.put.result)
+          c.self.invariant.below c.put.ensures.old);
     }
+
+pub returns-in-Default-clause-below : goal.returns-in-Default-clause-below
+returns-in-Default-clause-below c =
+    let none : tick_after 0 (shown c.exchange_default.result) ≡ 0 = ap (λ o. tick_after 0 (shown o)) c.exchange_default.ensures.old in
+    omega arith

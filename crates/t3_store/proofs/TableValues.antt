@@ -1,0 +1,433 @@
+-- What a change of a table's parts does to its entries and its default.
+use Rattle.std.proofs.Common.{◌≡◌, ◌∙◌, ap, sym, subst, refl, ℕ, zero, suc, ◌+◌, ◌-◌, ◌^◌, ◌<◌, ◌≤◌, max, Bool, true, false, cond, not, ◌&&◌, ◌||◌, T, List, [], ◌∷◌, ◌++◌, length, map, filter, Option, None, Some, IsTrue, IsSome, is_some, true≢false, nat_lt, lt-ltb, arith}
+use Rattle.std.specs.Option.{option_map, option_and_then}
+use Rattle.std.specs.Ordering.{nat_cmp, eq_by_cmp}
+use Rattle.std.specs.Cmp.{Equal-is, eq_by_cmp_equiv, nat_cmp_total}
+use Rattle.std.specs.List.{AllByRecursion, IsDistinct, sum_by}
+use Rattle.std.proofs.lemmas.List.Sums.{sum_by-cons, sum_by-append}
+use Rattle.std.specs.FinMap.{get, get-empty, entries, entries_sorted, get-entries, nat_cmp-IsAntisymmetric}
+use Rattle.std.specs.FinMap.Entries.{find}
+use Rattle.t3_holder.specs.declared.holder.Holder.{Holder}
+use Rattle.t3_holder.specs.declared.holder.Holder.TheVariants as holders
+use Rattle.t3_undo.specs.Cell.{cell_cmp, cell_cmp_total}
+use Rattle.t3_undo.specs.Content.{Present, Parts, shown, is_form}
+use Rattle.t3_undo.specs.Key.{key_cmp, key_cmp_total, key_cmp-IsAntisymmetric}
+use Rattle.t3_undo.specs.Objects.{set_at, with_part}
+use Rattle.t3_undo.specs.Slots as slots
+use Rattle.t3_undo.specs.declared.cell.Cell.{Cell}
+use Rattle.t3_undo.specs.declared.cell.Cell.TheVariants as cells
+use Rattle.t3_undo.specs.declared.content.Content.{Content}
+use Rattle.t3_undo.specs.declared.content.Content.TheVariants.{Absent, Held, Slot}
+use Rattle.t3_undo.specs.declared.key.Key.{Key}
+use Rattle.t3_undo.specs.declared.key.Key.TheVariants as keys
+use Rattle.t3_undo.proofs.Maps.{get-set_at, get-tied}
+use Rattle.t3_undo.proofs.SlotLists.{same-is}
+use Rattle.t3_tables.specs.Order.{with_value}
+use Rattle.t3_tables.specs.Table.{TableValue, new_table, parts_of, place_cmp, ordered, pair_of, entries_of, is_cell, numbered, filled, with_default, AreBelow}
+use Rattle.t3_tables.specs.declared.pair.Pair.{Pair}
+use Rattle.t3_tables.proofs.OrderedEntries.{Place, place_cmp_total, place_cmp-IsAntisymmetric, same_key, value_at, at_tick, get-ordered, all-found}
+use Rattle.t3_tables.proofs.EntryOrder.{entries-last, entries-kept, entries-away, entries-apart}
+use Rattle.t3_tables.proofs.Defaults.{get-default, get-other}
+use Rattle.t3_tables.proofs.TableLists.{entries-filled}
+use Rattle.t3_store.specs.Value.{value_under, entry_at, set_entry, without_key, without_entry, with_table_cell, key_units, is_key, Value, Tads, Text, Items, Vector, Table, entries_in, holder_at, can_have_at}
+use Rattle.t3_store.specs.Inner.Shapes.{TableShape, value_of, default_of, value_or_nil, tick_behind, risen}
+use Rattle.t3_store.specs.Inner.Valid.{IsWholeTable}
+
+-- the tick of a content that has one, and the value
+at-tick-value : (t : ℕ) (tick : Option ℕ) (value v : Holder) → at_tick t tick value ≡ Some v → v ≡ value
+at-tick-value t None value v e = cc
+at-tick-value t (Some s) value v e = by (eq_by_cmp nat_cmp t s) e
+  where
+    by : (b : Bool) → cond b (Some value) None ≡ Some v → v ≡ value
+    by true e = cc
+    by false e = cc
+
+value-at-value : (t : ℕ) (present : Present) (v : Holder) → value_at t (Some present) ≡ Some v → v ≡ present.value
+value-at-value t present v e = at-tick-value t present.tick present.value v e
+
+-- each entry of a key has the value that stands there
+abbrev IsValueOf : Parts → Key → Place → Holder → Type 0
+IsValueOf parts key place value = same_key key place.1 ≡ true → option_map (λ (p : Present). p.value) (get parts (cells.Key key)) ≡ Some value
+
+values-of : (parts : Parts) (key : Key) → AllByRecursion (λ (e : Place × Holder). IsValueOf parts key e.0 e.1) (entries (ordered parts))
+values-of parts key =
+    all-found place_cmp_total (IsValueOf parts key) (entries (ordered parts)) (entries_sorted (ordered parts))
+    (λ q v found tied.
+    by (get parts (cells.Key key)) v q.0 (ap (value_at q.0) (sym (get-tied cell_cmp_total parts (cells.Key key) (cells.Key q.1) tied))
+    ∙ sym (get-ordered parts q.0 q.1) ∙ get-entries (ordered parts) q ∙ found))
+  where
+    by : (o : Option Present) (v : Holder) (t : ℕ) → value_at t o ≡ Some v → option_map (λ (p : Present). p.value) o ≡ Some v
+    by None v t e = cc
+    by (Some p) v t e = ap Some (sym (value-at-value t p v e))
+
+abbrev value_in : Option Present → Option Holder
+value_in o = option_map (λ (p : Present). p.value) o
+
+-- the value under a key, where an entry of it is found, and where there is none
+under-found : (parts : Parts) (key : Key) (t : ℕ) (v : Holder) (es : List (Place × Holder))
+    → AllByRecursion (λ (e : Place × Holder). IsValueOf parts key e.0 e.1) es → find place_cmp (t, key) es ≡ Some v
+    → value_under key (map pair_of es) ≡ value_in (get parts (cells.Key key))
+under-found parts key t v [] all found = cc
+under-found parts key t v (e ∷ es) all found = by (under-found parts key t v es all.1) (same_key key e.0.1) refl
+  where
+    apart : same_key key e.0.1 ≡ false → (b : Bool) → eq_by_cmp place_cmp (t, key) e.0 ≡ b → b ≡ false
+    apart other true is =
+        let place : (t, key) ≡ e.0 = place_cmp-IsAntisymmetric (t, key) e.0 ((Equal-is (place_cmp (t, key) e.0)).0 is) in
+        absurd (true≢false (sym ((eq_by_cmp_equiv key_cmp_total).refl key) ∙ ap (λ (p : Place). same_key key p.1) place ∙ other))
+    apart other false is = refl
+
+    by : (find place_cmp (t, key) es ≡ Some v → value_under key (map pair_of es) ≡ value_in (get parts (cells.Key key)))
+        → (b : Bool) → same_key key e.0.1 ≡ b → cond b (Some e.1) (value_under key (map pair_of es)) ≡ value_in (get parts (cells.Key key))
+    by rest true is = sym (all.0 is)
+    by rest false is =
+        rest (ap (λ b. cond b (Some e.1) (find place_cmp (t, key) es)) (sym (apart is (eq_by_cmp place_cmp (t, key) e.0) refl)) ∙ found)
+
+under-none : (parts : Parts) (key : Key) (es : List (Place × Holder)) → AllByRecursion (λ (e : Place × Holder). IsValueOf parts key e.0 e.1) es
+    → get parts (cells.Key key) ≡ None → value_under key (map pair_of es) ≡ None
+under-none parts key [] all none = refl
+under-none parts key (e ∷ es) all none = by (under-none parts key es all.1 none) (same_key key e.0.1) refl
+  where
+    by : value_under key (map pair_of es) ≡ None → (b : Bool) → same_key key e.0.1 ≡ b → cond b (Some e.1) (value_under key (map pair_of es)) ≡ None
+    by rest true is = let some : ◌≡◌ {A = Option Holder} None (Some e.1) = ap value_in (sym none) ∙ all.0 is in cc
+    by rest false is = rest
+
+-- what the entries have under a key
+pub under-key : (parts : Parts) (key : Key) → ((present : Present) → get parts (cells.Key key) ≡ Some present → IsTrue (is_form (cells.Key key) (Some present)))
+    → value_under key (entries_of parts) ≡ value_in (get parts (cells.Key key))
+unfolding entries_of
+under-key parts key formed = by (get parts (cells.Key key)) refl
+  where
+    timed : (p : Present) → get parts (cells.Key key) ≡ Some p → (tick : Option ℕ) → p.tick ≡ tick
+        → value_under key (map pair_of (entries (ordered parts))) ≡ value_in (get parts (cells.Key key))
+    timed p e None is =
+        let P : Option ℕ → Type 0 = λ o. IsTrue (is_form (cells.Key key) (Some (record { tick = o; value = p.value }))) in
+        absurd (true≢false (sym (subst P is (formed p e))))
+    timed p e (Some t) is =
+        under-found parts key t p.value (entries (ordered parts)) (values-of parts key)
+        (sym (get-entries (ordered parts) (t, key)) ∙ get-ordered parts t key ∙ ap (value_at t) e ∙ ap (λ o. at_tick t o p.value) is
+        ∙ ap (λ b. cond b (Some p.value) None) ((eq_by_cmp_equiv nat_cmp_total).refl t))
+
+    by : (o : Option Present) → get parts (cells.Key key) ≡ o → value_under key (map pair_of (entries (ordered parts)))
+        ≡ value_in (get parts (cells.Key key))
+    by None e = under-none parts key (entries (ordered parts)) (values-of parts key) e ∙ ap value_in (sym e)
+    by (Some p) e = timed p e p.tick refl
+
+and-first : (a b : Bool) → (a && b) ≡ true → a ≡ true
+and-first true b e = refl
+and-first false b e = e
+
+and-second : (a b : Bool) → (a && b) ≡ true → b ≡ true
+and-second true b e = e
+and-second false b e = absurd (true≢false (sym e))
+
+-- each present cell is of its form
+formed-cell : (parts : Parts) (cell : Cell) → IsWholeTable parts → (present : Present) → get parts cell ≡ Some present → IsTrue (is_form cell (Some present))
+formed-cell parts cell whole present e = and-second (is_cell cell) (is_form cell (Some present)) (whole.only cell present e)
+
+none-but : (parts : Parts) (cell : Cell) → IsWholeTable parts → is_cell cell ≡ false → (o : Option Present) → get parts cell ≡ o → value_in o ≡ None
+none-but parts cell whole other None e = refl
+none-but parts cell whole other (Some p) e =
+    absurd (true≢false (sym (and-first (is_cell cell) (is_form cell (Some p)) (whole.only cell p e)) ∙ other))
+
+-- what stands in a cell of a table
+pub held-table : (parts : Parts) (cell : Cell) → IsWholeTable parts → value_in (get parts cell) ≡ entry_at cell (entries_of parts) (default_of parts)
+held-table parts (cells.Key key) whole = sym (under-key parts key (formed-cell parts (cells.Key key) whole))
+held-table parts cells.Default whole = by (get parts cells.Default) whole.default
+  where
+    by : (o : Option Present) → IsSome o → value_in o ≡ Some (value_or_nil o)
+    by None some = absurd (true≢false (sym some))
+    by (Some p) some = refl
+held-table parts (cells.Prop n) whole = none-but parts (cells.Prop n) whole refl (get parts (cells.Prop n)) refl
+held-table parts (cells.Elem n) whole = none-but parts (cells.Elem n) whole refl (get parts (cells.Elem n)) refl
+
+-- a key leaves the default, and the other way round
+default-key : (parts : Parts) (key : Key) (o : Option Present) → default_of (set_at parts (cells.Key key) o) ≡ default_of parts
+default-key parts key o = ap value_or_nil (get-set_at cell_cmp_total parts (cells.Key key) o cells.Default)
+
+default-set : (parts : Parts) (value : Holder) → default_of (set_at parts cells.Default (shown (Held value))) ≡ value
+default-set parts value = ap value_or_nil (get-set_at cell_cmp_total parts cells.Default (shown (Held value)) cells.Default)
+
+-- a cell set to a content of its form leaves a whole table
+whole-set : (parts : Parts) (cell : Cell) (o : Option Present) → IsWholeTable parts → is_cell cell ≡ true → IsTrue (is_form cell o)
+    → IsWholeTable (set_at parts cell o)
+whole-set parts cell o whole can form = record {
+  only = λ q present e. by q present (eq_by_cmp cell_cmp q cell) refl (sym (get-set_at cell_cmp_total parts cell o q) ∙ e);
+  default = ap is_some (get-set_at cell_cmp_total parts cell o cells.Default) ∙ kept (eq_by_cmp cell_cmp cells.Default cell) refl;
+}
+  where
+    by : (q : Cell) (present : Present) (b : Bool) → eq_by_cmp cell_cmp q cell ≡ b → cond b o (get parts q) ≡ Some present
+        → IsTrue (is_cell q && is_form q (Some present))
+    by q present true t e =
+        let P : Cell → Type 0 = λ d. IsTrue (is_cell d && is_form d (Some present)) in
+        let Q : Option Present → Type 0 = λ p. IsTrue (is_form cell p) in
+        subst P (sym (same-is q cell t))
+        (ap (λ b. b && is_form cell (Some present)) can ∙ subst Q e form)
+    by q present false t e = whole.only q present e
+
+    kept : (b : Bool) → eq_by_cmp cell_cmp cells.Default cell ≡ b → is_some (cond b o (get parts cells.Default)) ≡ true
+    kept true t =
+        let P : Cell → Type 0 = λ d. IsTrue (is_form d o) in
+        held o (subst P (sym (same-is cells.Default cell t)) form)
+      where
+        held : (o : Option Present) → IsTrue (is_form cells.Default o) → is_some o ≡ true
+        held None f = absurd (true≢false (sym f))
+        held (Some p) f = refl
+    kept false t = whole.default
+
+-- what a table is once a cell is set to a content
+pub record IsTableSet (parts : Parts) (cell : Cell) (value : Holder) (next : ℕ) (content : Content) : Type 0 where
+  pub form : IsTrue (is_form cell (shown content))
+  pub set : value_of (TableShape, set_at parts cell (shown content)) ≡ with_table_cell cell value (entries_of parts) (default_of parts)
+  pub whole : IsWholeTable (set_at parts cell (shown content))
+  pub tick : tick_behind (shown content) ≤ risen next (get parts cell)
+
+-- a key that is absent gets the next tick
+pub set-new : (parts : Parts) (cell : Cell) (value : Holder) (next : ℕ) → IsWholeTable parts → AreBelow next parts → next < 2 ^ 64 - 1
+    → is_cell cell ≡ true → get parts cell ≡ None → IsTableSet parts cell value next (Slot next value)
+set-new parts (cells.Key key) value next whole below room can none = record {
+  form = form;
+  set =
+      (λ i. Table (entries-last parts key next value none below i) (default-key parts key (shown (Slot next value)) i))
+      ∙ ap (λ o. Table (cond (is_some o) (map (with_value key value) (entries_of parts)) (entries_of parts ++ record { key = key; value = value } ∷ []))
+      (default_of parts)) (sym (under-key parts key (formed-cell parts (cells.Key key) whole) ∙ ap value_in none));
+  whole = whole-set parts (cells.Key key) (shown (Slot next value)) whole refl form;
+  tick = let e : risen next (get parts (cells.Key key)) ≡ next + 1 = ap (risen next) none in omega arith;
+}
+  where
+    form : nat_lt next (2 ^ 64 - 1) ≡ true
+    form = lt-ltb next (2 ^ 64 - 1) room
+set-new parts cells.Default value next whole below room can none = absurd (true≢false (sym whole.default ∙ ap is_some none))
+set-new parts (cells.Prop n) value next whole below room can none = absurd (true≢false (sym can))
+set-new parts (cells.Elem n) value next whole below room can none = absurd (true≢false (sym can))
+
+-- a present one keeps its own
+pub set-kept : (parts : Parts) (cell : Cell) (value old : Holder) (tick next : ℕ) → IsWholeTable parts → AreBelow next parts
+    → is_cell cell ≡ true → get parts cell ≡ shown (Slot tick old) → IsTableSet parts cell value next (Slot tick value)
+set-kept parts (cells.Key key) value old tick next whole below can there = record {
+  form = formed-cell parts (cells.Key key) whole (record { tick = Some tick; value = old }) there;
+  set =
+      (λ i. Table (entries-kept parts key tick old value there i) (default-key parts key (shown (Slot tick value)) i))
+      ∙ ap (λ o. Table (cond (is_some o) (map (with_value key value) (entries_of parts)) (entries_of parts ++ record { key = key; value = value } ∷ []))
+      (default_of parts)) (sym (under-key parts key (formed-cell parts (cells.Key key) whole) ∙ ap value_in there));
+  whole = whole-set parts (cells.Key key) (shown (Slot tick value)) whole refl
+      (formed-cell parts (cells.Key key) whole (record { tick = Some tick; value = old }) there);
+  tick =
+      let h = below (cells.Key key) (record { tick = Some tick; value = old }) tick there refl in
+      let e : risen next (get parts (cells.Key key)) ≡ next = ap (risen next) there in
+      omega arith;
+}
+set-kept parts cells.Default value old tick next whole below can there =
+    absurd (true≢false (sym (formed-cell parts cells.Default whole (record { tick = Some tick; value = old }) there)))
+set-kept parts (cells.Prop n) value old tick next whole below can there = absurd (true≢false (sym can))
+set-kept parts (cells.Elem n) value old tick next whole below can there = absurd (true≢false (sym can))
+
+-- and the default has none
+pub set-default : (parts : Parts) (cell : Cell) (value old : Holder) (next : ℕ) → IsWholeTable parts
+    → is_cell cell ≡ true → get parts cell ≡ shown (Held old) → IsTableSet parts cell value next (Held value)
+set-default parts (cells.Key key) value old next whole can there =
+    absurd (true≢false (sym (formed-cell parts (cells.Key key) whole (record { tick = None; value = old }) there)))
+set-default parts cells.Default value old next whole can there = record {
+  form = refl;
+  set = λ i. Table (entries-apart parts value i) (default-set parts value i);
+  whole = whole-set parts cells.Default (shown (Held value)) whole refl refl;
+  tick = let e : risen next (get parts cells.Default) ≡ next = ap (risen next) there in omega arith;
+}
+set-default parts (cells.Prop n) value old next whole can there = absurd (true≢false (sym can))
+set-default parts (cells.Elem n) value old next whole can there = absurd (true≢false (sym can))
+
+-- a key taken away
+pub table-without : (parts : Parts) (cell : Cell) → is_key cell ≡ true
+    → value_of (TableShape, set_at parts cell None) ≡ Table (without_entry cell (entries_of parts)) (default_of parts)
+table-without parts (cells.Key key) can = λ i. Table (entries-away parts key i) (default-key parts key None i)
+table-without parts cells.Default can = absurd (true≢false (sym can))
+table-without parts (cells.Prop n) can = absurd (true≢false (sym can))
+table-without parts (cells.Elem n) can = absurd (true≢false (sym can))
+
+pub whole-without : (parts : Parts) (cell : Cell) → IsWholeTable parts → is_key cell ≡ true → IsWholeTable (set_at parts cell None)
+whole-without parts (cells.Key key) whole can = whole-set parts (cells.Key key) None whole refl refl
+whole-without parts cells.Default whole can = absurd (true≢false (sym can))
+whole-without parts (cells.Prop n) whole can = absurd (true≢false (sym can))
+whole-without parts (cells.Elem n) whole can = absurd (true≢false (sym can))
+
+-- how many units entries count
+abbrev Units : List Pair → ℕ
+Units pairs = sum_by (λ pair. key_units pair.key) pairs
+
+same-units : (key : Key) (value : Holder) (pairs : List Pair) → Units (map (with_value key value) pairs) ≡ Units pairs
+same-units key value [] = refl
+same-units key value (pair ∷ pairs) =
+    let one : key_units (with_value key value pair).key ≡ key_units pair.key = by (same_key key pair.key) in
+    let rest = same-units key value pairs in
+    let new = sum_by-cons (λ (pair : Pair). key_units pair.key) (with_value key value pair) (map (with_value key value) pairs) in
+    let old = sum_by-cons (λ (pair : Pair). key_units pair.key) pair pairs in
+    omega (arith, one, rest, new, old)
+  where
+    by : (b : Bool) → key_units (cond b (record { key = pair.key; value = value }) pair).key ≡ key_units pair.key
+    by true = refl
+    by false = refl
+
+one-more : (key : Key) (value : Holder) (pairs : List Pair) → Units (pairs ++ record { key = key; value = value } ∷ []) ≡ Units pairs + key_units key
+one-more key value pairs =
+    let all = sum_by-append (λ (pair : Pair). key_units pair.key) pairs (record { key = key; value = value } ∷ []) in
+    let own = sum_by-cons (λ (pair : Pair). key_units pair.key) (record { key = key; value = value }) [] in
+    let none : Units [] ≡ 0 = refl in
+    omega (arith, all, own, none)
+
+pub units-entry : (key : Key) (value : Holder) (pairs : List Pair)
+    → Units (set_entry key value pairs) ≡ cond (is_some (value_under key pairs)) (Units pairs) (Units pairs + key_units key)
+units-entry key value pairs = by (is_some (value_under key pairs))
+  where
+    by : (b : Bool) → Units (cond b (map (with_value key value) pairs) (pairs ++ record { key = key; value = value } ∷ []))
+        ≡ cond b (Units pairs) (Units pairs + key_units key)
+    by true = same-units key value pairs
+    by false = one-more key value pairs
+
+unfoldable pub HasDistinctKeys : List Pair → Type 0
+HasDistinctKeys pairs = IsDistinct same_key (map (λ pair. pair.key) pairs)
+
+-- where the key isn't among the others, all stay
+others-all : (key : Key) (pairs : List Pair) → AllByRecursion (λ other. same_key key other ≡ false) (map (λ pair. pair.key) pairs)
+    → without_key key pairs ≡ pairs
+others-all key [] all = refl
+others-all key (pair ∷ pairs) all =
+    ap (λ b. cond (not b) (pair ∷ without_key key pairs) (without_key key pairs)) all.0 ∙ ap (λ xs. pair ∷ xs) (others-all key pairs all.1)
+
+key-is : (key other : Key) → same_key key other ≡ true → key ≡ other
+key-is key other e = key_cmp-IsAntisymmetric key other ((Equal-is (key_cmp key other)).0 e)
+
+pub units-without : (key : Key) (pairs : List Pair) → HasDistinctKeys pairs → IsSome (value_under key pairs)
+    → Units (without_key key pairs) + key_units key ≡ Units pairs
+unfolding HasDistinctKeys IsDistinct
+units-without key [] apart some = absurd (true≢false (sym some))
+units-without key (pair ∷ pairs) apart some = by (units-without key pairs apart.1) (same_key key pair.key) refl some
+  where
+    by : (IsSome (value_under key pairs) → Units (without_key key pairs) + key_units key ≡ Units pairs) → (b : Bool)
+        → same_key key pair.key ≡ b → IsSome (cond b (Some pair.value) (value_under key pairs))
+        → Units (cond (not b) (pair ∷ without_key key pairs) (without_key key pairs)) + key_units key ≡ Units (pair ∷ pairs)
+    by rest true is some =
+        let same = key-is key pair.key is in
+        let P : Key → Type 0 = λ k. AllByRecursion (λ other. same_key k other ≡ false) (map (λ (p : Pair). p.key) pairs) in
+        let others : Units (without_key key pairs) ≡ Units pairs = ap Units (others-all key pairs (subst P (sym same) apart.0)) in
+        let own : key_units key ≡ key_units pair.key = ap key_units same in
+        let all = sum_by-cons (λ (pair : Pair). key_units pair.key) pair pairs in
+        omega (arith, others, own, all)
+    by rest false is some =
+        let less = rest some in
+        let new = sum_by-cons (λ (pair : Pair). key_units pair.key) pair (without_key key pairs) in
+        let old = sum_by-cons (λ (pair : Pair). key_units pair.key) pair pairs in
+        omega (arith, less, new, old)
+
+-- a table that has just these entries
+form-numbered : (tick : ℕ) (pairs : List Pair) (cell : Cell) (present : Present) → tick + length pairs < 2 ^ 64 - 1
+    → get (slots.parts_of (numbered tick pairs)) cell ≡ Some present → IsTrue (is_cell cell && is_form cell (Some present))
+unfolding slots.parts_of
+form-numbered tick [] cell present few e = absurd (true≢false (ap is_some (sym e ∙ get-empty cell_cmp cell)))
+form-numbered tick (pair ∷ pairs) cell present few e =
+    by (eq_by_cmp cell_cmp cell (cells.Key pair.key)) refl
+    (sym (get-set_at cell_cmp_total (slots.parts_of (numbered (suc tick) pairs)) (cells.Key pair.key) (shown (Slot tick pair.value)) cell) ∙ e)
+    (form-numbered (suc tick) pairs cell present (omega arith))
+  where
+    by : (b : Bool) → eq_by_cmp cell_cmp cell (cells.Key pair.key) ≡ b
+        → cond b (shown (Slot tick pair.value)) (get (slots.parts_of (numbered (suc tick) pairs)) cell) ≡ Some present
+        → (get (slots.parts_of (numbered (suc tick) pairs)) cell ≡ Some present → IsTrue (is_cell cell && is_form cell (Some present)))
+        → IsTrue (is_cell cell && is_form cell (Some present))
+    by true t e rest =
+        let P : Cell → Type 0 = λ d. IsTrue (is_cell d && is_form d (Some present)) in
+        let Q : Option Present → Type 0 = λ p. IsTrue (is_form (cells.Key pair.key) p) in
+        subst P (sym (same-is cell (cells.Key pair.key) t))
+        (subst Q e (lt-ltb tick (2 ^ 64 - 1) (omega arith)))
+    by false t e rest = rest e
+
+pub whole-filled : (default : Holder) (pairs : List Pair) → 1 + length pairs < 2 ^ 64 - 1 → IsWholeTable (filled default pairs)
+whole-filled default pairs few = record {
+  only = λ cell present e. by cell present (eq_by_cmp cell_cmp cell cells.Default) refl e;
+  default = ap is_some (get-default (slots.parts_of (numbered 1 pairs)) default);
+}
+  where
+    by : (cell : Cell) (present : Present) (b : Bool) → eq_by_cmp cell_cmp cell cells.Default ≡ b → get (filled default pairs) cell ≡ Some present
+        → IsTrue (is_cell cell && is_form cell (Some present))
+    by cell present true t e =
+        let P : Cell → Type 0 = λ d. get (filled default pairs) d ≡ Some present in
+        let Q : Cell → Type 0 = λ d. IsTrue (is_cell d && is_form d (Some present)) in
+        let R : Option Present → Type 0 = λ p. IsTrue (is_form cells.Default p) in
+        let same = same-is cell cells.Default t in
+        subst Q (sym same) (subst R (sym (get-default (slots.parts_of (numbered 1 pairs)) default) ∙ subst P same e) refl)
+    by cell present false t e =
+        form-numbered 1 pairs cell present few (sym (get-other (slots.parts_of (numbered 1 pairs)) default cell t) ∙ e)
+
+-- the default of a table
+pub default-of : (parts : Parts) (default : Holder) → default_of (with_default parts default) ≡ default
+default-of parts default = ap value_or_nil (get-default parts default)
+
+-- a new table
+new-parts : parts_of new_table ≡ filled holders.Nil []
+unfolding slots.parts_of
+new-parts = refl
+
+pub value-new : value_of (TableShape, parts_of new_table) ≡ Table [] holders.Nil
+unfolding IsDistinct
+value-new = λ i. Table ((ap entries_of new-parts ∙ entries-filled holders.Nil [] tt) i)
+    ((ap default_of new-parts ∙ default-of (slots.parts_of (numbered 1 [])) holders.Nil) i)
+
+pub whole-new : IsWholeTable (parts_of new_table)
+whole-new = subst IsWholeTable (sym new-parts) (whole-filled holders.Nil [] (omega arith))
+
+-- each entry counts
+pub least-units : (key : Key) → 1 ≤ key_units key
+least-units keys.Nil = omega arith
+least-units keys.True = omega arith
+least-units (keys.Int n) = omega arith
+least-units (keys.Enum n) = omega arith
+least-units (keys.Prop n) = omega arith
+least-units (keys.Func n) = omega arith
+least-units (keys.Obj n) = omega arith
+least-units (keys.Text bytes) = omega arith
+
+pub fewer-entries : (pairs : List Pair) → length pairs ≤ Units pairs
+fewer-entries [] = omega arith
+fewer-entries (pair ∷ pairs) =
+    let rest = fewer-entries pairs in
+    let all = sum_by-cons (λ (pair : Pair). key_units pair.key) pair pairs in
+    let own = least-units pair.key in
+    omega (arith, rest, all, own)
+
+-- a table has its default, and can have each key
+pub table-default : (o : Option Value) → IsSome (option_and_then entries_in o) → IsSome (holder_at o cells.Default)
+table-default None some = absurd (true≢false (sym some))
+table-default (Some (Tads supers class props)) some = absurd (true≢false (sym some))
+table-default (Some (Text bytes)) some = absurd (true≢false (sym some))
+table-default (Some (Items items)) some = absurd (true≢false (sym some))
+table-default (Some (Vector items)) some = absurd (true≢false (sym some))
+table-default (Some (Table pairs default)) some = refl
+
+pub table-key : (o : Option Value) (key : Key) → IsSome (option_and_then entries_in o) → IsTrue (can_have_at o (cells.Key key))
+table-key None key some = absurd (true≢false (sym some))
+table-key (Some (Tads supers class props)) key some = absurd (true≢false (sym some))
+table-key (Some (Text bytes)) key some = absurd (true≢false (sym some))
+table-key (Some (Items items)) key some = absurd (true≢false (sym some))
+table-key (Some (Vector items)) key some = absurd (true≢false (sym some))
+table-key (Some (Table pairs default)) key some = refl
+
+-- a default is never absent
+pub default-some : (o : Option Present) → IsTrue (is_form cells.Default o) → IsSome o
+default-some None form = absurd (true≢false (sym form))
+default-some (Some p) form = refl
+
+-- a copy has the same value, is whole, and has a tick for each entry
+pub record IsTableCopy (copy : TableValue) (value : Value) : Type 0 where
+  pub same : value_of (TableShape, parts_of copy) ≡ value
+  pub whole : IsWholeTable (parts_of copy)
+  pub tick : copy.next_tick ≤ Units (entries_of (parts_of copy)) + 1
+
+pub table-copy : (table copy : TableValue) → parts_of copy ≡ filled table.default (entries_of (parts_of table))
+    → entries_of (parts_of copy) ≡ entries_of (parts_of table) → copy.next_tick ≡ 1 + length (entries_of (parts_of table))
+    → copy.next_tick ≤ 2 ^ 63 → IsTableCopy copy (value_of (TableShape, parts_of table))
+table-copy table copy parts pairs next few = record {
+  same = λ i. Table (pairs i) ((ap default_of parts ∙ default-of (slots.parts_of (numbered 1 (entries_of (parts_of table)))) table.default
+      ∙ sym (default-of table.entries table.default)) i);
+  whole = subst IsWholeTable (sym parts) (whole-filled table.default (entries_of (parts_of table)) (omega (arith, next, few)));
+  tick =
+      let all = fewer-entries (entries_of (parts_of copy)) in
+      let same = ap length pairs in
+      omega (arith, all, same, next);
+}

@@ -1,0 +1,22 @@
+use Rattle.std.proofs.Common.{◌∙◌, ap, sym, subst}
+use Rattle.t3_lists.specs.Vector.{items_of}
+use Rattle.t3_lists.proofs.Items.{items-filled}
+use Rattle.t3_tables.specs.Table as tables
+use Rattle.t3_tables.specs.Table.{TableValue}
+use Rattle.t3_store.specs.Value.{Vector, new_value}
+use Rattle.t3_store.specs.Inner.Shapes.{TableShape, value_of}
+use Rattle.t3_store.specs.Inner.Valid.{IsWholeTable}
+use Rattle.t3_store.proofs.TableValues.{value-new, whole-new}
+use Rattle.t3_store.proofs.new_object.NewObject.make.Goals as goal
+
+pub returns-in_ok-make_vector-in-Vector-clause-value : goal.returns-in_ok-make_vector-in-Vector-clause-value
+returns-in_ok-make_vector-in-Vector-clause-value c =
+    ap Vector (ap items_of c.in_ok-make_vector-in-Vector.ensures ∙ items-filled _) ∙ ap new_value (sym c.in-Vector.is)
+
+pub returns-in-Table-clause-value : goal.returns-in-Table-clause-value
+returns-in-Table-clause-value c =
+    ap (λ (t : TableValue). value_of (TableShape, tables.parts_of t)) c.new.ensures ∙ value-new ∙ ap new_value (sym c.in-Table.is)
+
+pub returns-in-Table-clause-valid : goal.returns-in-Table-clause-valid
+returns-in-Table-clause-valid c =
+    subst (λ (t : TableValue). IsWholeTable (tables.parts_of t)) (sym c.new.ensures) whole-new

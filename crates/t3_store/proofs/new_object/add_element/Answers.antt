@@ -1,0 +1,27 @@
+use Rattle.std.proofs.Common.{◌≡◌, ◌∙◌, ◌+◌, ℕ, suc, ap, sym, subst, length, Some, None, arith}
+use Rattle.std.specs.FinSet as set
+use Rattle.t3_undo.specs.Content.{Parts}
+use Rattle.t3_undo.specs.Objects.{set_at}
+use Rattle.t3_undo.specs.declared.cell.Cell.TheVariants as cells
+use Rattle.t3_lists.specs.Vector.{places_of, filled, HasPlaceBelow}
+use Rattle.t3_lists.proofs.Items.{filled-push, place-below}
+use Rattle.t3_store.proofs.Places.{contains-own}
+use Rattle.t3_store.proofs.new_object.add_element.Goals as goal
+
+pub make_place-requires : goal.make_place-requires
+make_place-requires c =
+    let P : ℕ → Type 0 = λ n. HasPlaceBelow (places_of c.args.vector.now) (cells.Elem n) in
+    let next : suc c.args.count ≡ c.args.count + 1 = omega arith in
+    subst P next
+    (place-below c.args.vector.now c.requires.count.items c.args.count c.requires.count.are (omega (arith, c.requires.count.count)))
+
+pub put-absent-requires-clause-place : goal.put-absent-requires-clause-place
+put-absent-requires-clause-place c =
+    ap (λ p. set.contains p (cells.Elem (c.args.count + 1))) c.in_ok-make_place.ensures.ok ∙ contains-own _ (cells.Elem (c.args.count + 1))
+
+pub returns : goal.returns
+returns c items are count =
+    let number : c.args.count + 1 ≡ 1 + length items = omega (arith, count) in
+    c.put-absent.ensures.parts
+    ∙ (λ i. set_at ((c.make_place.ensures.parts ∙ are) i) (cells.Elem (number i)) (Some (record { tick = None; value = c.args.value })))
+    ∙ sym (filled-push items c.args.value)

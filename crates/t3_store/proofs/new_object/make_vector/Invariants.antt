@@ -1,0 +1,6 @@
+use Rattle.std.proofs.Common.{◌≡◌, take}
+use Rattle.t3_lists.specs.Vector.{parts_of, filled}
+use Rattle.t3_store.proofs.new_object.make_vector.Given as goal
+
+abbrev pub invariant-loop-index : goal.invariant-loop-index
+invariant-loop-index l = parts_of l.vector ≡ filled (take l.index l.items)
