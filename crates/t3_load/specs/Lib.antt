@@ -1,0 +1,5 @@
+pub mod Names
+pub mod Kinds
+pub mod Sets
+pub mod Symbols
+pub mod Inner

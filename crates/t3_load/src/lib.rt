@@ -1,0 +1,24 @@
+//! What a program is made of: the tables that an image's blocks name, and its static objects.
+//!
+//! An image may have several blocks of metaclasses, of function sets and of symbols. Those of a kind are taken as
+//! one list, in the order of the image:
+//!
+//! ```text
+//! let kinds = Kinds::of(alloc, &image)?;      // "tads-object/030005" is `MetaKind::Tads`
+//! let sets = Sets::of(alloc, &image)?;        // Err(NameRefusal::Unknown(1)): the second name means no set
+//! let symbols = SymbolTable::of(alloc, &image)?;
+//! symbols.raw(b"mainWindow");                 // the first symbol of that name
+//! ```
+#![tactic(auto)]
+
+mod kinds;
+mod listing;
+mod names;
+mod refusal;
+mod sets;
+mod symbols;
+
+pub use kinds::{KindEntry, Kinds, MetaKind, PropNumbers};
+pub use refusal::NameRefusal;
+pub use sets::{SetKind, Sets};
+pub use symbols::SymbolTable;
