@@ -15,10 +15,13 @@ mod kinds;
 mod listing;
 mod names;
 mod refusal;
+mod rows;
 mod sets;
+mod statics;
 mod symbols;
 
 pub use kinds::{KindEntry, Kinds, MetaKind, PropNumbers};
 pub use refusal::NameRefusal;
 pub use sets::{SetKind, Sets};
+pub use statics::static_object;
 pub use symbols::SymbolTable;
