@@ -1,0 +1,15 @@
+mod Chain
+mod Drafting
+mod EachLine
+mod FieldSteps
+mod Fits
+mod Goods
+mod Kept
+mod ListedLines
+mod Payloads
+mod Reached
+mod Refusing
+mod Sizing
+mod Sourcing
+mod Steps
+mod Valid

@@ -1,0 +1,20 @@
+//! What holds of each source.
+ghost use Rattle.std.specs.Prelude.{◌≡◌, ℕ, ◌⊎◌, List};
+ghost use Rattle.t3_image_read.specs.ImageText.{ImageValue};
+ghost use Rattle.t3_image_read.specs.Validity.{IsValid};
+ghost use Rattle.t3_asm.specs.Source.{Satisfies, IsBadLine};
+ghost use Rattle.t3_asm.specs.declared.refusal.AsmWhy.{AsmWhy as AnyWhy};
+
+/// A text says exactly one image, or has exactly one bad line with one reason, and never both. The
+/// image is valid.
+pub fn one_source()
+    ensures some { (text : List ℕ) → ((image : ImageValue) × Satisfies text image)
+        ⊎ ((line : ℕ) × (why : AnyWhy) × IsBadLine text line why) }
+    ensures not_both { (text : List ℕ) (image : ImageValue) (line : ℕ) (why : AnyWhy)
+        → Satisfies text image → ¬ IsBadLine text line why }
+    ensures one_image { (text : List ℕ) (a b : ImageValue) → Satisfies text a → Satisfies text b
+        → a ≡ b }
+    ensures one_line { (text : List ℕ) (m n : ℕ) (v w : AnyWhy) → IsBadLine text m v
+        → IsBadLine text n w → (m ≡ n) × (v ≡ w) }
+    ensures valid { (text : List ℕ) (image : ImageValue) → Satisfies text image → IsValid image }
+{}
