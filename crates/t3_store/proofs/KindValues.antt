@@ -22,7 +22,8 @@ use Rattle.t3_store.specs.declared.object.Object.TheVariants as objects
 use Rattle.t3_store.specs.Inner.Valid.{IsWholeVector, IsValid}
 use Rattle.t3_store.proofs.TadsValues.{found-prop, props-set, props_of-with, props_of-without, len-with, len-without, present-prop}
 use Rattle.t3_store.proofs.VectorValues.{held-filled, filled-with, filled-without, length-with, length-without, few-with, present-element}
-use Rattle.t3_store.proofs.TableValues.{HasDistinctKeys, held-table, table-without, whole-without, units-entry, units-without}
+use Rattle.t3_store.proofs.TableValues.{held-table, table-without, whole-without}
+use Rattle.t3_store.proofs.TableUnits.{HasDistinctKeys, units-entry, units-without}
 
 abbrev value_in : Option Present → Option Holder
 value_in o = option_map (λ (p : Present). p.value) o

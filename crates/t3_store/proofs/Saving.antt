@@ -28,7 +28,10 @@ use Rattle.t3_store.proofs.MapValues.{get-values, values-insert, units_in-new}
 use Rattle.t3_store.proofs.Marks.{marks-saved, marks-take, marks-made}
 use Rattle.t3_undo.proofs.Maps.{get-adjust}
 use Rattle.t3_store.proofs.Keeping.{some-set, front-take, front-cons, front-drop}
-use Rattle.t3_store.proofs.WholeKept.{HasSupers, whole-undone, whole-created, whole-made, whole-saved, whole-started, supers-values, supers-both}
+use Rattle.t3_store.proofs.WholeMade.{HasSupers, whole-created, whole-made}
+use Rattle.t3_store.proofs.WholeUndone.{whole-undone, whole-saved}
+use Rattle.t3_store.proofs.WholeStarted.{whole-started}
+use Rattle.t3_store.proofs.WholeWritten.{supers-values, supers-both}
 use Rattle.t3_store.proofs.KindsKept.{kinds-saved, kinds-undone, kinds-created, kinds-made, kinds-started}
 
 -- what can be put back, where places of older objects are kept
