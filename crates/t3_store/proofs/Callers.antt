@@ -1,5 +1,5 @@
 -- What a caller knows of an object, by its kind and its length, meets the conditions of the calls. Other crates may use these.
-use Rattle.std.proofs.Common.{◌≡◌, ◌∙◌, ap, sym, refl, ℕ, zero, suc, ◌+◌, ◌<◌, ◌≤◌, ◌==◌, Bool, true, false, ◌&&◌, ◌||◌, length, Option, None, Some, IsTrue, IsSome, is_some, true≢false, nat_lt, lt-ltb, le-leb, ltb-true, ltb-false, eqb-true, arith}
+use Rattle.std.proofs.Common.{◌≡◌, ◌∙◌, ap, refl, ℕ, zero, suc, ◌+◌, ◌<◌, ◌≤◌, ◌==◌, Bool, true, false, ◌&&◌, ◌||◌, length, Option, None, Some, IsTrue, IsSome, nat_lt, lt-ltb, ltb-false, arith}
 use Rattle.std.proofs.lemmas.Bool.{eqb-false}
 use Rattle.std.specs.Option.{option_map, option_and_then}
 use Rattle.t3_holder.specs.declared.holder.Holder.{Holder}

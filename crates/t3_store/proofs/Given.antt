@@ -1,5 +1,5 @@
 -- That the objects of a store have numbers that were given.
-use Rattle.std.proofs.Common.{◌≡◌, ◌∙◌, ap, sym, subst, ℕ, zero, suc, ◌<◌, ◌≤◌, ◌^◌, ◌⊎◌, inl, inr, Bool, true, false, nat_lt, nat_le, Option, None, Some, IsSome, is_some, true≢false, ltb-true, ltb-false, List, refl, arith}
+use Rattle.std.proofs.Common.{◌≡◌, ◌∙◌, ap, sym, ℕ, zero, suc, ◌<◌, ◌≤◌, ◌^◌, ◌⊎◌, inl, inr, Bool, true, false, nat_lt, None, is_some, true≢false, ltb-true, ltb-false, List, refl, arith}
 use Rattle.std.specs.FinMap.{get}
 use Rattle.t3_undo.specs.Objects.{Objects, Segment}
 use Rattle.t3_store.specs.Value.{Objects as Values}

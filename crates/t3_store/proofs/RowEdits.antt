@@ -1,19 +1,13 @@
 -- A row of objects with one more, and cut off at a number.
-use Rattle.std.proofs.Common.{◌≡◌, ◌∙◌, ap, sym, subst, refl, ℕ, zero, suc, ◌+◌, ◌<◌, ◌≤◌, Bool, true, false, cond, eqb-true, List, [], ◌∷◌, ◌++◌, length, map, take, drop, get_or, set, slice_get, Option, None, Some, is_some, true≢false, nat_lt, ltb-true, ltb-false, arith}
-use Rattle.std.proofs.lemmas.Bool.{eqb-false}
-use Rattle.std.specs.Ordering.{nat_cmp, eq_by_cmp}
+use Rattle.std.proofs.Common.{◌≡◌, ◌∙◌, ap, sym, subst, refl, ℕ, zero, suc, ◌<◌, ◌≤◌, Bool, true, false, cond, List, [], ◌∷◌, ◌++◌, length, take, drop, Option, None, Some, true≢false, nat_lt, ltb-true, ltb-false, arith}
 use Rattle.std.specs.Option.{option_map}
-use Rattle.std.specs.Cmp.{nat_cmp_total, eq_by_cmp_equiv, Equal-is}
+use Rattle.std.specs.Cmp.{nat_cmp_total}
 use Rattle.std.specs.List.{AllByRecursion, AllWithin}
-use Rattle.std.specs.FinMap.{FinMap, empty, get, get-empty, same_map, get-insert, get-retain_keys, retain_keys, insert, len, len-empty, len-insert, nat_cmp-IsAntisymmetric}
-use Rattle.t3_undo.specs.Objects.{set_at, adjust, adjusted}
-use Rattle.t3_undo.proofs.Maps.{get-set_at, get-adjust}
-use Rattle.t3_store.specs.Inner.Entries.{IsRising, index_of, object_at, by_number, is_numbered, things_of, IsFirstFrom}
-use Rattle.t3_store.specs.Inner.Shapes.{thing_of}
-use Rattle.std.proofs.lemmas.List.{map-append, take_more}
+use Rattle.std.specs.FinMap.{same_map, get-insert, get-retain_keys, retain_keys, insert, nat_cmp-IsAntisymmetric}
+use Rattle.t3_store.specs.Inner.Entries.{IsRising, object_at, by_number}
 use Rattle.t3_store.specs.declared.object.Object.{Object}
 use Rattle.t3_store.specs.declared.entries.Entry.{Entry}
-use Rattle.t3_store.proofs.Rows.{exchanged, all-later, same, same-is, same-itself, differs, index_of-at, index_of-none, missed-object, rising-before, get-by_number, read-found, StandsAt, stands-at, stands-nowhere}
+use Rattle.t3_store.proofs.Rows.{exchanged, all-later, same, same-is, same-itself, differs, get-by_number}
 
 -- an object more
 all-append : (n : ℕ) (es fs : List Entry) → AllByRecursion (λ l. n < l.number) es → AllByRecursion (λ l. n < l.number) fs

@@ -1,36 +1,32 @@
 -- How many units a table's entries count, and tables that have just these entries.
-use Rattle.std.proofs.Common.{◌≡◌, ◌∙◌, ap, sym, subst, refl, ℕ, zero, suc, ◌+◌, ◌-◌, ◌^◌, ◌<◌, ◌≤◌, max, Bool, true, false, cond, not, ◌&&◌, ◌||◌, T, List, [], ◌∷◌, ◌++◌, length, map, filter, Option, None, Some, IsTrue, IsSome, is_some, true≢false, nat_lt, lt-ltb, arith}
-use Rattle.std.specs.Option.{option_map, option_and_then}
-use Rattle.std.specs.Ordering.{nat_cmp, eq_by_cmp}
-use Rattle.std.specs.Cmp.{Equal-is, eq_by_cmp_equiv, nat_cmp_total}
+use Rattle.std.proofs.Common.{◌≡◌, ◌∙◌, ap, sym, subst, refl, ℕ, suc, ◌+◌, ◌-◌, ◌^◌, ◌<◌, ◌≤◌, Bool, true, false, cond, not, ◌&&◌, List, [], ◌∷◌, ◌++◌, length, map, Option, None, Some, IsTrue, IsSome, is_some, true≢false, lt-ltb, arith}
+use Rattle.std.specs.Option.{option_and_then}
+use Rattle.std.specs.Ordering.{eq_by_cmp}
+use Rattle.std.specs.Cmp.{Equal-is}
 use Rattle.std.specs.List.{AllByRecursion, IsDistinct, sum_by}
 use Rattle.std.proofs.lemmas.List.Sums.{sum_by-cons, sum_by-append}
-use Rattle.std.specs.FinMap.{get, get-empty, entries, entries_sorted, get-entries, nat_cmp-IsAntisymmetric}
-use Rattle.std.specs.FinMap.Entries.{find}
+use Rattle.std.specs.FinMap.{get, get-empty}
 use Rattle.t3_holder.specs.declared.holder.Holder.{Holder}
 use Rattle.t3_holder.specs.declared.holder.Holder.TheVariants as holders
 use Rattle.t3_undo.specs.Cell.{cell_cmp, cell_cmp_total}
 use Rattle.t3_undo.specs.Content.{Present, Parts, shown, is_form}
-use Rattle.t3_undo.specs.Key.{key_cmp, key_cmp_total, key_cmp-IsAntisymmetric}
-use Rattle.t3_undo.specs.Objects.{set_at, with_part}
+use Rattle.t3_undo.specs.Key.{key_cmp, key_cmp-IsAntisymmetric}
 use Rattle.t3_undo.specs.Slots as slots
 use Rattle.t3_undo.specs.declared.cell.Cell.{Cell}
 use Rattle.t3_undo.specs.declared.cell.Cell.TheVariants as cells
-use Rattle.t3_undo.specs.declared.content.Content.{Content}
-use Rattle.t3_undo.specs.declared.content.Content.TheVariants.{Absent, Held, Slot}
+use Rattle.t3_undo.specs.declared.content.Content.TheVariants.{Slot}
 use Rattle.t3_undo.specs.declared.key.Key.{Key}
 use Rattle.t3_undo.specs.declared.key.Key.TheVariants as keys
-use Rattle.t3_undo.proofs.Maps.{get-set_at, get-tied}
+use Rattle.t3_undo.proofs.Maps.{get-set_at}
 use Rattle.t3_undo.proofs.SlotLists.{same-is}
 use Rattle.t3_tables.specs.Order.{with_value}
-use Rattle.t3_tables.specs.Table.{TableValue, new_table, parts_of, place_cmp, ordered, pair_of, entries_of, is_cell, numbered, filled, with_default, AreBelow}
+use Rattle.t3_tables.specs.Table.{TableValue, new_table, parts_of, entries_of, is_cell, numbered, filled, with_default}
 use Rattle.t3_tables.specs.declared.pair.Pair.{Pair}
-use Rattle.t3_tables.proofs.OrderedEntries.{Place, place_cmp_total, place_cmp-IsAntisymmetric, same_key, value_at, at_tick, get-ordered, all-found}
-use Rattle.t3_tables.proofs.EntryOrder.{entries-last, entries-kept, entries-away, entries-apart}
+use Rattle.t3_tables.proofs.OrderedEntries.{same_key}
 use Rattle.t3_tables.proofs.Defaults.{get-default, get-other}
 use Rattle.t3_tables.proofs.TableLists.{entries-filled}
-use Rattle.t3_store.specs.Value.{value_under, entry_at, set_entry, without_key, without_entry, with_table_cell, key_units, is_key, Value, Tads, Text, Items, Vector, Table, entries_in, holder_at, can_have_at}
-use Rattle.t3_store.specs.Inner.Shapes.{TableShape, value_of, default_of, value_or_nil, tick_behind, risen}
+use Rattle.t3_store.specs.Value.{value_under, set_entry, without_key, key_units, Value, Tads, Text, Items, Vector, Table, entries_in, holder_at, can_have_at}
+use Rattle.t3_store.specs.Inner.Shapes.{TableShape, value_of, default_of, value_or_nil}
 use Rattle.t3_store.specs.Inner.Valid.{IsWholeTable}
 use Rattle.t3_store.proofs.TableValues.{}
 

@@ -1,29 +1,20 @@
 -- Superclasses stay whole: a savepoint and an undo.
-use Rattle.std.proofs.Common.{◌≡◌, ◌∙◌, ap, sym, subst, refl, ℕ, zero, suc, ◌+◌, ◌-◌, ◌<◌, ◌≤◌, ◌^◌, Bool, true, false, cond, nat_lt, if◌then◌else◌, get_or, List, [], ◌∷◌, length, take, drop, Option, None, Some, is_some, true≢false, ltb-true, ltb-false, lt-ltb, arith}
-use Rattle.std.specs.Prelude.{Contains, option_and_then}
+use Rattle.std.proofs.Common.{◌≡◌, ◌∙◌, ap, sym, refl, ℕ, zero, suc, ◌<◌, Bool, true, false, cond, nat_lt, List, [], ◌∷◌, take, drop, Option, None, Some, is_some, ltb-true, lt-ltb}
 use Rattle.std.specs.List.{AllByRecursion}
-use Rattle.std.specs.Option.{option_map}
-use Rattle.std.specs.Ordering.{nat_cmp, eq_by_cmp}
-use Rattle.std.specs.Cmp.{nat_cmp_total}
-use Rattle.std.specs.FinMap.{FinMap, get, insert, get-insert}
-use Rattle.t3_undo.specs.Content.{Present, Parts}
+use Rattle.std.specs.FinMap.{get}
+use Rattle.t3_undo.specs.Content.{Parts}
 use Rattle.t3_undo.specs.Objects as journaled
 use Rattle.t3_undo.specs.Objects.{Objects, OldPart, Segment, with_part, before, put_back}
-use Rattle.t3_undo.specs.Journal.{room, is_due, add, note_in, newest_next}
+use Rattle.t3_undo.specs.Journal.{newest_next}
 use Rattle.t3_undo.specs.UndoLaw as law
-use Rattle.t3_undo.specs.declared.cell.Cell.{Cell}
-use Rattle.t3_undo.proofs.Maps.{get-adjust}
 use Rattle.t3_undo.proofs.PuttingBack.{get-before}
-use Rattle.t3_tadsobj.specs.Order.{SupersAt, IsWalk, IsAcyclicFrom}
-use Rattle.t3_store.specs.Value.{supers_of}
-use Rattle.t3_store.specs.Store.{StoreValue, either}
-use Rattle.t3_store.specs.Whole.{AreThere, IsAcyclic, IsWhole, HasSupersIn, supers_of_live}
-use Rattle.t3_store.specs.Inner.Shapes.{Shape, TadsShape, TextShape, ItemsShape, VectorShape, TableShape, values, value_of}
-use Rattle.t3_store.specs.Inner.Store.{AreNumbered, IsSound}
-use Rattle.t3_undo.specs.Content.{Places}
-use Rattle.t3_store.specs.Inner.Whole.{supers_by, supers_from, supers_of_both, IsGiven, AreGiven, AreOlderSupers, AreWhole}
-use Rattle.t3_store.proofs.Rows.{same, same-is, same-itself, differs}
-use Rattle.t3_store.proofs.MapValues.{get-values}
+use Rattle.t3_tadsobj.specs.Order.{SupersAt, IsWalk}
+use Rattle.t3_store.specs.Store.{either}
+use Rattle.t3_store.specs.Whole.{AreThere, IsAcyclic}
+use Rattle.t3_store.specs.Inner.Shapes.{Shape}
+use Rattle.t3_store.specs.Inner.Store.{AreNumbered}
+use Rattle.t3_store.specs.Inner.Whole.{supers_by, supers_from, supers_of_both, AreOlderSupers, AreWhole}
+use Rattle.t3_store.proofs.Rows.{same}
 use Rattle.t3_store.proofs.WholeWritten.{supers-set}
 use Rattle.t3_store.proofs.WholeMade.{live-persistent, some-supers}
 

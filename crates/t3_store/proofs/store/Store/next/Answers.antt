@@ -1,5 +1,4 @@
 use Rattle.std.proofs.Common.{ap, subst}
-use Rattle.t3_store.specs.Store.{StoreValue}
 use Rattle.t3_store.specs.Whole.{HasGivenNumbers}
 use Rattle.t3_store.proofs.Given.{given-numbers}
 use Rattle.t3_store.proofs.store.Store.next.Goals as goal
