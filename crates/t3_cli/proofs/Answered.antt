@@ -13,7 +13,6 @@ use Rattle.t3_cli.specs.Command.{CommandValue, Check, Show, Run, Rewrite, Listin
 use Rattle.t3_cli.specs.Lines.{usage_line}
 use Rattle.t3_cli.specs.Outcome.{Outcome, showing, IsResult, IsImageOutcome, input_of, status_of}
 use Rattle.t3_cli.specs.Top.{CutsShort, IsInput, IsWhole, IsCut, IsShown, ShowsSome, HasExactCause}
-use Rattle.t3_cli.specs.Inner.Parsing.{file_of}
 use Rattle.t3_cli.specs.Inner.Reading.{ReadsInput}
 use Rattle.t3_cli.specs.Inner.Following.{Answers, Follows, FollowsSome, IsReadOutcome}
 use Rattle.t3_cli.proofs.Results.{read_result}

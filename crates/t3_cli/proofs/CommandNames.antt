@@ -1,5 +1,5 @@
 -- A command's names are file names, and which words are no command.
-use Rattle.std.proofs.Common.{◌≡◌, ◌≢◌, ℕ, ◌<◌, Bool, true, false, cond, List, [], ◌∷◌, length, map, Option, Some, None, refl, subst, arith}
+use Rattle.std.proofs.Common.{◌≡◌, ℕ, ◌<◌, Bool, true, false, cond, List, [], ◌∷◌, length, map, Option, Some, None, refl, subst, arith}
 use Rattle.std.specs.Prelude.{codes}
 use Rattle.std.specs.Option.{option_map, option_and_then}
 use Rattle.std.specs.Str.{bytes_eq}
@@ -73,13 +73,11 @@ rewrite_fits (name ∷ second ∷ options) command is =
 
 two_fit : (words : List (List ℕ)) (names : List ℕ × List ℕ) → two_names words ≡ Some names → IsFileName names.0 × IsFileName names.1
 two_fit [] names is = absurd cc
-two_fit (name ∷ []) names is = absurd cc
-two_fit (name ∷ second ∷ []) names is =
-    let first = of_then (λ first. option_map (λ out. (first, out)) (file_name second)) (file_name name) names is in
-    let out = of_map (λ out. (first.value, out)) (file_name second) names first.makes in
-    subst (λ (pair : List ℕ × List ℕ). IsFileName pair.0 × IsFileName pair.1) out.makes
-    (file_fits name first.value first.there, file_fits second out.value out.there)
-two_fit (name ∷ second ∷ more ∷ words) names is = absurd cc
+two_fit (name ∷ words) names is =
+    let first = of_then (λ first. option_map (λ second. (first, second)) (only_name words)) (file_name name) names is in
+    let second = of_map (λ second. (first.value, second)) (only_name words) names first.makes in
+    subst (λ (pair : List ℕ × List ℕ). IsFileName pair.0 × IsFileName pair.1) second.makes
+    (file_fits name first.value first.there, only_fits words second.value second.there)
 
 list_fits : (words : List (List ℕ)) (command : CommandValue) → option_map (λ names. Listing names.0 names.1) (two_names words) ≡ Some command
     → HasFileNames command
@@ -119,9 +117,3 @@ pub one_name : {A : Type 0} (f : A → List ℕ) (words : List A) → length wor
 one_name f [] few = refl
 one_name f (name ∷ []) few = refl
 one_name f (name ∷ second ∷ words) few = absurd (omega arith)
-
-pub not_two : {A : Type 0} (f : A → List ℕ) (words : List A) → length words ≢ 2 → None ≡ two_names (map f words)
-not_two f [] other = refl
-not_two f (name ∷ []) other = refl
-not_two f (name ∷ second ∷ []) other = absurd (other refl)
-not_two f (name ∷ second ∷ more ∷ words) other = refl

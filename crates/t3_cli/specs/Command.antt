@@ -83,9 +83,8 @@ only_name _ = None
 
 -- two names, and nothing after them
 abbrev pub two_names : List (List ℕ) → Option (List ℕ × List ℕ)
-two_names (name ∷ second ∷ []) =
-    option_and_then (λ first. option_map (λ out. (first, out)) (file_name second)) (file_name name)
-two_names _ = None
+two_names [] = None
+two_names (name ∷ words) = option_and_then (λ first. option_map (λ second. (first, second)) (only_name words)) (file_name name)
 
 -- a name, and options
 abbrev pub run_of : List (List ℕ) → Option CommandValue

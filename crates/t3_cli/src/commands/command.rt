@@ -149,11 +149,11 @@ fn two_names<'w>(words: &'w [String]) -> Option<(&'w str, &'w str)>
     ensures { option_map (λ names. (names.0.now, names.1.now)) result
         ≡ two_names_of (map string_bytes words.now) }
 {
-    let [first, second] = words else {
+    let [first, words @ ..] = words else {
         return None;
     };
     let first = file_name(first.as_str())?;
-    let second = file_name(second.as_str())?;
+    let second = only_name(words)?;
     Some((first, second))
 }
 
