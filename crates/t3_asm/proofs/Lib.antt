@@ -5,6 +5,7 @@ mod FieldSteps
 mod Fits
 mod Goods
 mod Kept
+mod ListedFit
 mod ListedLines
 mod Payloads
 mod Reached
