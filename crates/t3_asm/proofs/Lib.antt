@@ -7,6 +7,9 @@ mod Goods
 mod Kept
 mod ListedFit
 mod ListedLines
+mod ListingForm
+mod ListingFormed
+mod ListingStands
 mod Payloads
 mod Reached
 mod Refusing

@@ -1,6 +1,5 @@
 -- Each line of a valid image's listing is one that reads back.
-use Rattle.std.proofs.Common.{◌≡◌, ℕ, zero, suc, ◌+◌, ◌-◌, ◌^◌, ◌<◌, ◌≤◌, Bool, true, false, ◌&&◌, leb, cond, eqb, List, [], ◌∷◌, ◌++◌, length, map, take, drop, Option, Some, None, refl, sym, ap, ◌∙◌, subst, lit<, eqb-true, arith}
-use Rattle.std.specs.Prelude.{codes}
+use Rattle.std.proofs.Common.{◌≡◌, ℕ, zero, suc, ◌^◌, ◌<◌, ◌≤◌, Bool, true, false, ◌&&◌, leb, cond, eqb, List, [], ◌∷◌, ◌++◌, length, map, take, drop, Some, None, refl, ap, ◌∙◌, lit<, arith}
 use Rattle.std.specs.List.{AllByRecursion, flat_map}
 use Rattle.std.proofs.lemmas.Bool.{le-leb}
 use Rattle.t3_holder.specs.NumberText.{AreBytes}
@@ -19,7 +18,7 @@ use Rattle.t3_asm_line.specs.declared.argument.Argument.TheVariants.{Number, Tex
 use Rattle.t3_asm_line.specs.declared.keyword.Keyword.TheVariants as of
 use Rattle.t3_asm_line.specs.declared.line.ParsedLine.{ParsedLine}
 use Rattle.t3_asm_line.specs.Line.{parsed_line}
-use Rattle.t3_asm_line.specs.Listing.{IsListed, IsListedLine}
+use Rattle.t3_asm_line.specs.Listing.{IsListedLine}
 use Rattle.t3_asm_line.specs.Values.{is_size}
 use Rattle.t3_asm.specs.HasBytes.{PropHasBytes, StaticHasBytes, SymbolHasBytes, MetaHasBytes, BlockHasBytes, PlacedHasBytes, HasBytes}
 use Rattle.t3_asm.specs.Listing.{piece_size, first_pieces, pieces, bytes_line, bytes_lines, head_line, end_line, entry_line, static_lines, prop_lines, meta_lines, name_lines, symbol_lines, lines_in, block_lines, listed_lines}

@@ -1,5 +1,4 @@
 -- What is bytes in an image: its header, and each name and each text of a block.
-use Rattle.std.specs.Prelude.{List}
 use Rattle.std.specs.List.{AllByRecursion}
 use Rattle.t3_holder.specs.NumberText.{AreBytes}
 use Rattle.t3_blocks.specs.declared.block.Block.{Block}

@@ -1,11 +1,13 @@
 //! What holds of each source.
-ghost use Rattle.std.specs.Prelude.{◌≡◌, ℕ, ◌⊎◌, List, Ok, Some, map};
+ghost use Rattle.std.specs.Prelude.{◌≡◌, ℕ, ◌⊎◌, List, [], Ok, Some, map};
 ghost use Rattle.t3_asm_line.specs.Line.{line_of};
 ghost use Rattle.t3_asm_line.specs.Lines.{lines_of};
 ghost use Rattle.t3_image_read.specs.ImageText.{ImageValue};
 ghost use Rattle.t3_image_read.specs.Validity.{IsValid};
+ghost use Rattle.t3_asm.specs.Forms.{formed};
 ghost use Rattle.t3_asm.specs.HasBytes.{HasBytes};
 ghost use Rattle.t3_asm.specs.Listing.{listed_lines, listing};
+ghost use Rattle.t3_asm.specs.Places.{items_behind};
 ghost use Rattle.t3_asm.specs.Source.{Satisfies, IsBadLine};
 ghost use Rattle.t3_asm.specs.declared.refusal.AsmWhy.{AsmWhy as AnyWhy};
 
@@ -33,4 +35,13 @@ pub fn listed_lines_read()
         ≡ map (λ line. Ok (Some line)) (listed_lines image) }
 {
     lines_read();
+}
+
+/// The listing of a valid image, whose names and texts are bytes, breaks no rule of form: it is read into
+/// the items of its lines.
+pub fn listing_formed()
+    ensures { (image : ImageValue) → IsValid image → HasBytes image
+        → formed (listing image) ≡ Ok (items_behind 1 [] (listed_lines image)) }
+{
+    listed_lines_read();
 }
