@@ -57,11 +57,11 @@ stage-newest stage a (b ∷ items) =
     ∙ stage-newest (stage_behind a.place.stage a.keyword a.arguments) b items
 
 -- the place behind lines that begin with the first
-stage_end : (before : List Item) → (place_behind (newest before)).stage ≡ stage_after stages.Image before
+pub stage_end : (before : List Item) → (place_behind (newest before)).stage ≡ stage_after stages.Image before
 stage_end [] = refl
 stage_end (item ∷ items) = stage-newest stages.Image item items
 
-stage-place_of : (place : Place) (pools : PoolSizes) (keyword : Keyword) (arguments : List Argument)
+pub stage-place_of : (place : Place) (pools : PoolSizes) (keyword : Keyword) (arguments : List Argument)
     → (place_of place pools keyword arguments).stage ≡ place.stage
 stage-place_of place pools of.Page arguments = refl
 stage-place_of place pools of.Method arguments = refl

@@ -5,7 +5,11 @@ mod FieldSteps
 mod Fits
 mod Goods
 mod Kept
+mod ListedFit
 mod ListedLines
+mod ListingForm
+mod ListingFormed
+mod ListingStands
 mod Payloads
 mod Reached
 mod Refusing

@@ -9,3 +9,4 @@ pub mod Blocks
 pub mod Source
 pub mod Inner
 pub mod Listing
+pub mod HasBytes

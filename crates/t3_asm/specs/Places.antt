@@ -1,5 +1,5 @@
 -- Where each line stands: in which stage, at which address, behind which method; and the labels and pools that lines say.
-use Rattle.std.specs.Prelude.{ℕ, ◌+◌, ◌-◌, ◌*◌, List, [], ◌∷◌, length, slice_get, Option, Some, None, unwrap_or}
+use Rattle.std.specs.Prelude.{ℕ, ◌+◌, ◌-◌, ◌*◌, List, [], ◌∷◌, ◌++◌, length, slice_get, Option, Some, None, unwrap_or}
 use Rattle.std.specs.Option.{option_map}
 use Rattle.std.specs.List.{flat_map}
 use Rattle.std.specs.FinMap.{FinMap, from_entries, get}
@@ -81,3 +81,9 @@ item_behind line before parsed = record {
   keyword = parsed.keyword;
   arguments = parsed.arguments;
 }
+
+-- the items of such lines in a row, the first of which has this number, behind others
+abbrev pub items_behind : ℕ → List Item → List ParsedLine → List Item
+items_behind number before [] = before
+items_behind number before (line ∷ lines) =
+    items_behind (number + 1) (before ++ item_behind number before line ∷ []) lines
