@@ -32,6 +32,8 @@ mod new_object;
 mod object;
 mod object_map;
 mod persistent;
+#[cfg(test)]
+mod random_tests;
 mod store;
 mod table_cells;
 #[cfg(test)]

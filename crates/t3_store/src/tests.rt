@@ -13,7 +13,7 @@ use t3_tadsobj::Props;
 use t3_undo::{Cell, Key, Numbers};
 
 /// What a tads-object without anything is made of.
-fn plain(alloc: Global) -> NewObject
+pub(crate) fn plain(alloc: Global) -> NewObject
     ensures supers { supers_of (new_value result) ≡ Some [] }
     ensures length { HasFittingLength (new_value result) }
 {
@@ -25,7 +25,7 @@ fn plain(alloc: Global) -> NewObject
 }
 
 /// A store without objects, with room for so many.
-fn empty_store(
+pub(crate) fn empty_store(
     alloc: Global,
     objects: u32,
     units: u32,
@@ -76,7 +76,7 @@ fn few_writes(store: &Store) -> Result<(), Fail>
 }
 
 /// `false` where the store is full.
-fn answer(written: Result<(), StoreRefusal>) -> Result<bool, Fail> {
+pub(crate) fn answer(written: Result<(), StoreRefusal>) -> Result<bool, Fail> {
     match written {
         Ok(()) => Ok(true),
         Err(StoreRefusal::Full) => Ok(false),
@@ -85,7 +85,12 @@ fn answer(written: Result<(), StoreRefusal>) -> Result<bool, Fail> {
 }
 
 /// Sets a property to a number, or takes it away. `false` where the store is full.
-fn set(store: &mut Store, number: u32, prop: u16, value: Option<i32>) -> Result<bool, Fail> {
+pub(crate) fn set(
+    store: &mut Store,
+    number: u32,
+    prop: u16,
+    value: Option<i32>,
+) -> Result<bool, Fail> {
     let Some(Kind::Tads) = store.kind(number) else {
         return Err(Fail::from("a tads-object"));
     };
@@ -94,7 +99,12 @@ fn set(store: &mut Store, number: u32, prop: u16, value: Option<i32>) -> Result<
 }
 
 /// Sets the entry under a key to a number, or takes it away. `false` where the store is full.
-fn set_key(store: &mut Store, number: u32, key: Key, value: Option<i32>) -> Result<bool, Fail> {
+pub(crate) fn set_key(
+    store: &mut Store,
+    number: u32,
+    key: Key,
+    value: Option<i32>,
+) -> Result<bool, Fail> {
     let Some(Kind::Table) = store.kind(number) else {
         return Err(Fail::from("a table"));
     };
@@ -103,7 +113,12 @@ fn set_key(store: &mut Store, number: u32, key: Key, value: Option<i32>) -> Resu
 }
 
 /// Sets an element to a number. `false` where the store is full.
-fn set_element(store: &mut Store, number: u32, element: u32, value: i32) -> Result<bool, Fail> {
+pub(crate) fn set_element(
+    store: &mut Store,
+    number: u32,
+    element: u32,
+    value: i32,
+) -> Result<bool, Fail> {
     let Some(length) = store.length(number) else {
         return Err(Fail::from("a vector"));
     };
@@ -115,7 +130,7 @@ fn set_element(store: &mut Store, number: u32, element: u32, value: i32) -> Resu
 }
 
 /// Takes the last element away.
-fn take_last(store: &mut Store, number: u32) -> Result<bool, Fail> {
+pub(crate) fn take_last(store: &mut Store, number: u32) -> Result<bool, Fail> {
     let Some(length) = store.length(number) else {
         return Err(Fail::from("a vector"));
     };
@@ -136,7 +151,7 @@ fn overwrite(store: &mut Store, number: u32, cell: Cell, value: i32) -> Result<(
     Ok(())
 }
 
-fn savepoint(store: &mut Store) -> Result<(), Fail> {
+pub(crate) fn savepoint(store: &mut Store) -> Result<(), Fail> {
     if store.marks() >= 1000 {
         return Err(Fail::from("few savepoints"));
     }
