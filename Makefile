@@ -32,6 +32,7 @@ test:
 	.ci/run
 
 bench: build/t3 build/t3_page
+	bench/asm
 	bench/check
 	bench/page
 	bench/pools

@@ -1,6 +1,6 @@
 #!/bin/sh
 # Makes the sample images: one with a block that is kept as bytes, one that is refused, a story that
-# says 42, one that computes the 40th Fibonacci number, and one with a block of every kind.
+# says 42, and one with a block of every kind. The stories in sources, *.t3s, are for `t3 asm`.
 set -eu
 cd "$(dirname "$0")"
 
@@ -42,30 +42,6 @@ end_bytes() {
     printf '\003\052\261\001\000\121'
     end_bytes
 } > answer.t3
-
-{
-    head_bytes
-    printf 'ENTP\020\000\000\000\001\000'
-    printf '\000\000\000\000\012\000\012\000\000\000\000\000\000\000\000\000'
-    printf 'CPDF\012\000\000\000\001\000\001\000\001\000\000\000\100\000\000\000'
-    printf 'FNSD\021\000\000\000\001\000\001\000\016tads-io/030007'
-    # The page: a method header with three locals. Local 0 is one number of the sequence, local 1 the next
-    # one, and local 2 counts the turns that are left.
-    printf 'CPPG\060\000\000\000\001\000\001\000\000\000\000\000\000'
-    printf '\000\000\003\000\002\000\000\000\000\000'
-    printf '\326\000'             # zerolcl1 0
-    printf '\332\001'             # onelcl1 1
-    printf '\003\050\340\002'     # pushint8 40, setlcl1 2
-    # Each turn pushes the next number, adds local 0 to it, and what was pushed becomes local 0.
-    printf '\200\001'             # loop: getlcl1 1
-    printf '\200\000\324\001\000' # getlcl1 0, addtolcl 1
-    printf '\340\000'             # setlcl1 0
-    printf '\321\002\000'         # declcl 2
-    printf '\200\002\222\361\377' # getlcl1 2, jt loop
-    printf '\200\000\261\001\000' # getlcl1 0, builtin_a 1 0
-    printf '\121'                 # retnil
-    end_bytes
-} > fibonacci.t3
 
 {
     head_bytes

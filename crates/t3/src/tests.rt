@@ -1,4 +1,5 @@
 //! The program over the devices in memory.
+mod assemble;
 mod builder;
 mod check;
 mod devices;

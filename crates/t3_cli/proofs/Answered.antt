@@ -5,16 +5,15 @@ use Rattle.t3_io.specs.Session.{Session}
 use Rattle.t3_cli.specs.declared.images.read.ReadImage.{ReadImage}
 use Rattle.t3_cli.specs.declared.images.read.ReadImage.TheVariants as read
 use Rattle.t3_cli.specs.declared.status.Status.{Status}
-use Rattle.t3_cli.specs.declared.status.Status.TheVariants.{Done, Usage, Absent, ImageRefused, LoadRefused}
+use Rattle.t3_cli.specs.declared.status.Status.TheVariants.{Done, Usage, Absent, ImageRefused, LoadRefused, SourceRefused}
 use Rattle.t3_interp.specs.declared.event.End.{End}
 use Rattle.t3_interp.specs.declared.event.End.TheVariants as ends
 use Rattle.t3_cli.specs.Cause.{Cause}
-use Rattle.t3_cli.specs.Command.{CommandValue, Check, Show, Run, Rewrite}
+use Rattle.t3_cli.specs.Command.{CommandValue, Check, Show, Run, Rewrite, Listing, Asm}
 use Rattle.t3_cli.specs.Lines.{usage_line}
 use Rattle.t3_cli.specs.Outcome.{Outcome, showing, IsResult, IsImageOutcome, input_of, status_of}
 use Rattle.t3_cli.specs.Top.{CutsShort, IsInput, IsWhole, IsCut, IsShown, ShowsSome, HasExactCause}
-use Rattle.t3_cli.specs.Inner.Parsing.{file_of}
-use Rattle.t3_cli.specs.Inner.Reading.{ReadsImage}
+use Rattle.t3_cli.specs.Inner.Reading.{ReadsInput}
 use Rattle.t3_cli.specs.Inner.Following.{Answers, Follows, FollowsSome, IsReadOutcome}
 use Rattle.t3_cli.proofs.Results.{read_result}
 use Rattle.t3_cli.proofs.Causes.{exact_cause, result_not_cut}
@@ -62,7 +61,7 @@ answers_by command files left before after answer outcome result (inr breaks) =
 
 -- what was done with what was read of the command's file
 pub read_answers : (command : CommandValue) (all left : Option Files) (before after : Option Session) (answer : Status) (found : ReadImage)
-    → ReadsImage all (file_of (input_of command)) (Ok found) → FollowsSome (IsReadOutcome command found) all left before after answer
+    → ReadsInput all (input_of command) (Ok found) → FollowsSome (IsReadOutcome command found) all left before after answer
     → IfSome all (λ files. Answers (Some command) files before answer left after)
 read_answers command None left before after answer found reads follows = tt
 read_answers command (Some files) left before after answer found reads (outcome, gives, follows) =
@@ -104,6 +103,10 @@ image_not_usage (Check name) image outcome is = other_status outcome Done _ is (
 image_not_usage (Show name) image outcome is = other_status outcome Done _ is (λ e. absurd cc)
 image_not_usage (Rewrite name out mask) image outcome is =
     λ same. let clash : Done ≡ Usage = sym (ap (λ (o : Outcome). o.status) is) ∙ same in absurd cc
+image_not_usage (Listing name out) image outcome is =
+    λ same. let clash : Done ≡ Usage = sym (ap (λ (o : Outcome). o.status) is) ∙ same in absurd cc
+image_not_usage (Asm name out) image outcome is =
+    λ same. let clash : Done ≡ Usage = sym (ap (λ (o : Outcome). o.status) is) ∙ same in absurd cc
 image_not_usage (Run name options) image outcome (inl none) = other_status outcome LoadRefused _ none.1 (λ e. absurd cc)
 image_not_usage (Run name options) image outcome (inr (ran, runs, is)) =
     other_status outcome (status_of ran.end) _ is (end_not_usage ran.end)
@@ -112,6 +115,7 @@ read_not_usage : (command : CommandValue) (found : ReadImage) (outcome : Outcome
     → outcome.status ≢ Usage
 read_not_usage command read.Absent outcome is = other_status outcome Absent _ is (λ e. absurd cc)
 read_not_usage command (read.Refused place why) outcome is = other_status outcome ImageRefused _ is (λ e. absurd cc)
+read_not_usage command (read.BadLine line why) outcome is = other_status outcome SourceRefused _ is (λ e. absurd cc)
 read_not_usage command (read.Image image) outcome is = image_not_usage command image outcome is
 
 pub follows_not_usage : (command : CommandValue) (found : ReadImage) (all left : Option Files) (before after : Option Session) (answer : Status)

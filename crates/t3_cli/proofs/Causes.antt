@@ -1,17 +1,18 @@
 -- Each status has exactly its cause.
-use Rattle.std.proofs.Common.{◌≡◌, ◌≢◌, ℕ, List, Option, Some, None, refl, sym, ap, subst, ◌∙◌, ◌⊎◌, inl, inr}
+use Rattle.std.proofs.Common.{◌≡◌, ◌≢◌, ℕ, List, Option, Some, None, Result, Ok, Err, refl, sym, ap, subst, ◌∙◌, ◌⊎◌, inl, inr}
 use Rattle.std.specs.FinMap.{get}
 use Rattle.t3_io.specs.Files.{Files}
 use Rattle.t3_io.specs.Session.{Session}
 use Rattle.t3_image_read.specs.ImageText.{ImageValue}
+use Rattle.t3_asm.specs.declared.refusal.AsmRefusal.{AsmRefusal}
 use Rattle.t3_cli.specs.declared.status.Status.{Status}
-use Rattle.t3_cli.specs.declared.status.Status.TheVariants.{Done, Usage, Absent, ImageRefused, LoadRefused, Unhandled, BadCode, StepLimit, DepotFault, ConsoleFault, NoMemory}
+use Rattle.t3_cli.specs.declared.status.Status.TheVariants.{Done, Usage, Absent, ImageRefused, LoadRefused, Unhandled, BadCode, StepLimit, SourceRefused, DepotFault, ConsoleFault, NoMemory}
 use Rattle.t3_interp.specs.declared.event.End.{End}
 use Rattle.t3_interp.specs.declared.event.End.TheVariants as ends
-use Rattle.t3_cli.specs.Command.{CommandValue, Check, Show, Run, Rewrite, RunOptions}
-use Rattle.t3_cli.specs.Lines.{absent_line, refused_line, unloaded_line}
-use Rattle.t3_cli.specs.Outcome.{Outcome, showing, IsResult, IsInputOutcome, IsFileOutcome, IsImageOutcome, IsRunOutcome, InputFile, ImageFile, input_of, BeginsWith, read_bytes, shown_of, status_of}
-use Rattle.t3_cli.specs.Cause.{Cause, WordsCause, CommandCause, IsAbsent, IsRefusedImage, IsUnloadable, EndsBy, RunsFile}
+use Rattle.t3_cli.specs.Command.{CommandValue, Check, Show, Run, Rewrite, Listing, Asm, RunOptions}
+use Rattle.t3_cli.specs.Lines.{absent_line, refused_line, bad_line, unloaded_line}
+use Rattle.t3_cli.specs.Outcome.{Outcome, showing, IsResult, IsInputOutcome, IsFileOutcome, IsImageOutcome, IsRunOutcome, IsTextOutcome, IsSourceOutcome, assembled, InputFile, ImageFile, SourceFile, input_of, BeginsWith, read_bytes, shown_of, status_of}
+use Rattle.t3_cli.specs.Cause.{Cause, WordsCause, CommandCause, IsAbsent, IsRefusedImage, IsRefusedSource, IsUnloadable, EndsBy, RunsFile}
 use Rattle.t3_cli.specs.Top.{CutsShort, HasExactCause}
 use Rattle.t3_cli.specs.Inner.Following.{Answers}
 use Rattle.t3_cli.proofs.Results.{one_outcome}
@@ -50,6 +51,8 @@ image_cause : (command : CommandValue) (name file : List ℕ) (image : ImageValu
 image_cause (Check own) name file image files input outcome reads there begins is = inl (ap (λ (o : Outcome). o.status) is)
 image_cause (Show own) name file image files input outcome reads there begins is = inl (ap (λ (o : Outcome). o.status) is)
 image_cause (Rewrite own out mask) name file image files input outcome reads there begins is = inl (ap (λ (o : Outcome). o.status) is)
+image_cause (Listing own out) name file image files input outcome reads there begins is = inl (ap (λ (o : Outcome). o.status) is)
+image_cause (Asm own out) name file image files input outcome reads there begins is = inl (ap (λ (o : Outcome). o.status) is)
 image_cause (Run own options) name file image files input outcome reads there begins is =
     let same : own ≡ name = cc in
     run_cause own file image options files input outcome (ap (get files) same ∙ there) begins is
@@ -68,11 +71,42 @@ file_cause command name (Some file) files input outcome reads there (inl refusal
 file_cause command name (Some file) files input outcome reads there (inr (image, begins, is)) =
     image_cause command name file image files input outcome reads there begins is
 
+-- a source's image is written by one command alone
+written_cause : (command : CommandValue) (name : List ℕ) (image : ImageValue) (files : Files) (input : List ℕ) (outcome : Outcome)
+    → input_of command ≡ SourceFile name → IsImageOutcome command image outcome → HasCause outcome.status command files input
+written_cause (Asm own out) name image files input outcome reads is = inl (ap (λ (o : Outcome). o.status) is)
+written_cause (Check own) name image files input outcome reads is = absurd cc
+written_cause (Show own) name image files input outcome reads is = absurd cc
+written_cause (Rewrite own out mask) name image files input outcome reads is = absurd cc
+written_cause (Listing own out) name image files input outcome reads is = absurd cc
+written_cause (Run own options) name image files input outcome reads is = absurd cc
+
+source_cause : (command : CommandValue) (name file : List ℕ) (found : Result ImageValue AsmRefusal) (files : Files) (input : List ℕ) (outcome : Outcome)
+    → input_of command ≡ SourceFile name → get files name ≡ Some file → assembled (read_bytes file) ≡ found
+    → IsSourceOutcome command found outcome → HasCause outcome.status command files input
+source_cause command name file (Ok image) files input outcome reads there says is = written_cause command name image files input outcome reads is
+source_cause command name file (Err refused) files input outcome reads there says is =
+    let P : InputFile → Type 0 = λ i. IsRefusedSource i files in
+    let Q : Status → Type 0 = λ s. HasCause s command files input in
+    subst Q (sym (ap (λ (o : Outcome). o.status) is)) (inr (subst P (sym reads) (file, refused, there, says)))
+
+text_cause : (command : CommandValue) (name : List ℕ) (file : Option (List ℕ)) (files : Files) (input : List ℕ) (outcome : Outcome)
+    → input_of command ≡ SourceFile name
+    → get files name ≡ file → IsTextOutcome command name file outcome → HasCause outcome.status command files input
+text_cause command name None files input outcome reads there is =
+    let P : InputFile → Type 0 = λ i. IsAbsent i files in
+    let Q : Status → Type 0 = λ s. HasCause s command files input in
+    subst Q (sym (ap (λ (o : Outcome). o.status) is)) (inr (subst P (sym reads) there))
+text_cause command name (Some file) files input outcome reads there is =
+    source_cause command name file (assembled (read_bytes file)) files input outcome reads there refl is
+
 input_cause : (command : CommandValue) (from : InputFile) (files : Files) (input : List ℕ) (outcome : Outcome) → input_of command ≡ from
     → IsInputOutcome command from files outcome
     → HasCause outcome.status command files input
 input_cause command (ImageFile name) files input outcome reads is =
     file_cause command name (get files name) files input outcome reads refl is
+input_cause command (SourceFile name) files input outcome reads is =
+    text_cause command name (get files name) files input outcome reads refl is
 
 result_cause : (command : Option CommandValue) (files : Files) (input : List ℕ) (outcome : Outcome) → IsResult command files input outcome
     → (outcome.status ≡ Done) ⊎ WordsCause outcome.status command files input
@@ -93,6 +127,7 @@ cause_not_cut LoadRefused command files input cause = λ cut. cut
 cause_not_cut Unhandled command files input cause = λ cut. cut
 cause_not_cut BadCode command files input cause = λ cut. cut
 cause_not_cut StepLimit command files input cause = λ cut. cut
+cause_not_cut SourceRefused command files input cause = λ cut. cut
 
 words_not_cut : (status : Status) (command : Option CommandValue) (files : Files) (input : List ℕ) → WordsCause status command files input
     → ¬ CutsShort status
@@ -125,13 +160,26 @@ absent_status : (command : CommandValue) (from : InputFile) (files : Files) → 
 absent_status command (ImageFile name) files absent =
     let P : Option (List ℕ) → Type 0 = λ o. IsFileOutcome command name o (showing Absent (absent_line name)) in
     (showing Absent (absent_line name), subst P (sym absent) refl, refl)
+absent_status command (SourceFile name) files absent =
+    let P : Option (List ℕ) → Type 0 = λ o. IsTextOutcome command name o (showing Absent (absent_line name)) in
+    (showing Absent (absent_line name), subst P (sym absent) refl, refl)
 
 refused_status : (command : CommandValue) (from : InputFile) (files : Files) → IsRefusedImage from files
     → ReadsOutcome command from files ImageRefused
+refused_status command (SourceFile name) files refused = absurd refused
 refused_status command (ImageFile name) files (file, there, (place, why, refused)) =
     let outcome = showing ImageRefused (refused_line why place) in
     let P : Option (List ℕ) → Type 0 = λ o. IsFileOutcome command name o outcome in
     (outcome, subst P (sym there) (inl (record { place = place; why = why; refused = refused; is = refl })), refl)
+
+bad_status : (command : CommandValue) (from : InputFile) (files : Files) → IsRefusedSource from files
+    → ReadsOutcome command from files SourceRefused
+bad_status command (ImageFile name) files refused = absurd refused
+bad_status command (SourceFile name) files (file, refused, there, says) =
+    let outcome = showing SourceRefused (bad_line refused.line refused.why) in
+    let P : Option (List ℕ) → Type 0 = λ o. IsTextOutcome command name o outcome in
+    let Q : Result ImageValue AsmRefusal → Type 0 = λ r. IsSourceOutcome command r outcome in
+    (outcome, subst P (sym there) (subst Q (sym says) refl), refl)
 
 -- a command that runs an image has the outcome of that
 runs_status : (command : CommandValue) (files : Files) (input : List ℕ) (image : ImageValue) (options : RunOptions) (outcome : Outcome)
@@ -169,6 +217,8 @@ command_status Usage command files input cause = absurd cause
 command_status Absent command files input cause = of_input Absent command files input (absent_status command (input_of command) files cause)
 command_status ImageRefused command files input cause =
     of_input ImageRefused command files input (refused_status command (input_of command) files cause)
+command_status SourceRefused command files input cause =
+    of_input SourceRefused command files input (bad_status command (input_of command) files cause)
 command_status LoadRefused command files input cause = unloaded_status command files input cause
 command_status Unhandled command files input cause = ends_status Unhandled command files input cause
 command_status BadCode command files input cause = ends_status BadCode command files input cause
@@ -235,6 +285,7 @@ cause_of LoadRefused = other_cause LoadRefused (λ e. absurd cc)
 cause_of Unhandled = other_cause Unhandled (λ e. absurd cc)
 cause_of BadCode = other_cause BadCode (λ e. absurd cc)
 cause_of StepLimit = other_cause StepLimit (λ e. absurd cc)
+cause_of SourceRefused = other_cause SourceRefused (λ e. absurd cc)
 cause_of DepotFault = other_cause DepotFault (λ e. absurd cc)
 cause_of ConsoleFault = other_cause ConsoleFault (λ e. absurd cc)
 cause_of NoMemory = other_cause NoMemory (λ e. absurd cc)

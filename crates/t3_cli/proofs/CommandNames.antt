@@ -4,7 +4,7 @@ use Rattle.std.specs.Prelude.{codes}
 use Rattle.std.specs.Option.{option_map, option_and_then}
 use Rattle.std.specs.Str.{bytes_eq}
 use Rattle.t3_holder.specs.FileName.{is_file_name, IsFileName}
-use Rattle.t3_cli.specs.Command.{CommandValue, Check, Show, Run, Rewrite, run_options, mask_of, file_name, only_name, run_of, rewrite_of, command_of}
+use Rattle.t3_cli.specs.Command.{CommandValue, Check, Show, Run, Rewrite, Listing, Asm, run_options, mask_of, file_name, only_name, two_names, run_of, rewrite_of, command_of}
 use Rattle.t3_cli.specs.Outcome.{input_of}
 use Rattle.t3_cli.specs.Command.{HasFileNames}
 use Rattle.t3_cli.specs.Inner.Parsing.{file_of}
@@ -16,6 +16,8 @@ input_fits (Check name) names = names
 input_fits (Show name) names = names
 input_fits (Run name options) names = names
 input_fits (Rewrite name out mask) names = names.0
+input_fits (Listing name out) names = names.0
+input_fits (Asm name out) names = names.0
 
 -- what is made of a value is made of one that there is
 record IsMadeOf {A : Type 0} (good : A → Type 0) (o : Option A) : Type 0 where
@@ -69,20 +71,45 @@ rewrite_fits (name ∷ second ∷ options) command is =
     let made = of_map (Rewrite image.value out.value) (mask_of options) command out.makes in
     subst HasFileNames made.makes (file_fits name image.value image.there, file_fits second out.value out.there)
 
-by_verb : (check show run rewrite : Bool) (words : List (List ℕ)) (command : CommandValue)
-    → cond check (option_map Check (only_name words))
-    (cond show (option_map Show (only_name words)) (cond run (run_of words) (cond rewrite (rewrite_of words) None))) ≡ Some command
+two_fit : (words : List (List ℕ)) (names : List ℕ × List ℕ) → two_names words ≡ Some names → IsFileName names.0 × IsFileName names.1
+two_fit [] names is = absurd cc
+two_fit (name ∷ words) names is =
+    let first = of_then (λ first. option_map (λ second. (first, second)) (only_name words)) (file_name name) names is in
+    let second = of_map (λ second. (first.value, second)) (only_name words) names first.makes in
+    subst (λ (pair : List ℕ × List ℕ). IsFileName pair.0 × IsFileName pair.1) second.makes
+    (file_fits name first.value first.there, only_fits words second.value second.there)
+
+list_fits : (words : List (List ℕ)) (command : CommandValue) → option_map (λ names. Listing names.0 names.1) (two_names words) ≡ Some command
     → HasFileNames command
-by_verb true show run rewrite words command is = check_fits words command is
-by_verb false true run rewrite words command is = show_fits words command is
-by_verb false false true rewrite words command is = run_fits words command is
-by_verb false false false true words command is = rewrite_fits words command is
-by_verb false false false false words command is = absurd cc
+list_fits words command is =
+    let made = of_map (λ (names : List ℕ × List ℕ). Listing names.0 names.1) (two_names words) command is in
+    subst HasFileNames made.makes (two_fit words made.value made.there)
+
+asm_fits : (words : List (List ℕ)) (command : CommandValue) → option_map (λ names. Asm names.0 names.1) (two_names words) ≡ Some command
+    → HasFileNames command
+asm_fits words command is =
+    let made = of_map (λ (names : List ℕ × List ℕ). Asm names.0 names.1) (two_names words) command is in
+    subst HasFileNames made.makes (two_fit words made.value made.there)
+
+by_verb : (check show run rewrite lists asm : Bool) (words : List (List ℕ)) (command : CommandValue)
+    → cond check (option_map Check (only_name words))
+    (cond show (option_map Show (only_name words)) (cond run (run_of words) (cond rewrite (rewrite_of words)
+    (cond lists (option_map (λ names. Listing names.0 names.1) (two_names words))
+    (cond asm (option_map (λ names. Asm names.0 names.1) (two_names words)) None))))) ≡ Some command
+    → HasFileNames command
+by_verb true show run rewrite lists asm words command is = check_fits words command is
+by_verb false true run rewrite lists asm words command is = show_fits words command is
+by_verb false false true rewrite lists asm words command is = run_fits words command is
+by_verb false false false true lists asm words command is = rewrite_fits words command is
+by_verb false false false false true asm words command is = list_fits words command is
+by_verb false false false false false true words command is = asm_fits words command is
+by_verb false false false false false false words command is = absurd cc
 
 pub names_fit : (words : List (List ℕ)) (command : CommandValue) → command_of words ≡ Some command → HasFileNames command
 names_fit [] command is = absurd cc
 names_fit (verb ∷ words) command is =
-    by_verb (bytes_eq verb (codes "check")) (bytes_eq verb (codes "show")) (bytes_eq verb (codes "run")) (bytes_eq verb (codes "rewrite")) words command is
+    by_verb (bytes_eq verb (codes "check")) (bytes_eq verb (codes "show")) (bytes_eq verb (codes "run")) (bytes_eq verb (codes "rewrite"))
+    (bytes_eq verb (codes "list")) (bytes_eq verb (codes "asm")) words command is
 
 -- ---- words that are no command
 

@@ -1,6 +1,8 @@
 -- What the pieces of a file give, one after the other.
 use Rattle.std.proofs.Common.{◌≡◌, ◌≢◌, ℕ, ◌+◌, ◌≤◌, List, [], ◌++◌, length, take, drop, Option, Some, None, Result, Ok, Err, refl, sym, ap, subst, ◌∙◌, arith}
 use Rattle.std.specs.FinMap.{get}
+use Rattle.std.specs.Global.{Vec}
+use Rattle.std.specs.Option.{option_map}
 use Rattle.std.proofs.lemmas.List.{take-append-drop, take-take, take_all, length-append, length-take-le}
 use Rattle.t3_io.specs.Files.{Files}
 use Rattle.t3_io.specs.Cause.{MovesFaults}
@@ -21,7 +23,7 @@ use Rattle.t3_image_read.proofs.Lists.{take_add}
 use Rattle.t3_cli.specs.declared.images.read.ReadImage.{ReadImage}
 use Rattle.t3_cli.specs.declared.images.read.ReadImage.TheVariants as read
 use Rattle.t3_cli.specs.Outcome.{read_bytes, read_limit}
-use Rattle.t3_cli.specs.Inner.Reading.{ReadsBytes, ReadsImage, IsPiece, PieceOf, GivesPiece, Concludes, TakesPrefix, TakesSoFar, HasRead, IsFed}
+use Rattle.t3_cli.specs.Inner.Reading.{ReadsBytes, ReadsImage, IsPiece, PieceOf, GivesPiece, Concludes, TakesPrefix, TakesSoFar, HasRead, IsFed, Assembles, IsAssembled, ReadsText, ReadsSource, ReadsFile}
 
 -- ---- one file
 
@@ -159,32 +161,35 @@ concludes_at files name (Failed NoMemory) at answer has ended concludes =
     wanting None = tt
     wanting (Some files) = tt
 
-pub reads_ended : (files : Option Files) (name buffer : List ℕ) (reader : Reading) (at want : ℕ) (answer : Result ReadImage DeviceRefusal)
-    → HasRead files name reader at → GivesPiece files name at want buffer (Ok (got.Count 0)) → at ≤ read_limit
-    → Concludes reader answer → ReadsImage files name answer
-reads_ended files name buffer reader at want answer has piece near concludes =
-    concludes_at files name reader at answer has (ended files piece) concludes
+-- a read that gave nothing was at the end
+ends_nothing : (files : Option Files) (name buffer : List ℕ) (at want : ℕ) → GivesPiece files name at want buffer (Ok (got.Count 0))
+    → at ≤ read_limit → IsEnd files name at
+ends_nothing None name buffer at want piece near = tt
+ends_nothing (Some files) name buffer at want piece near = ended_of (get files name) piece
   where
     ended_of : (o : Option (List ℕ)) → PieceOf o at want buffer (got.Count 0) → IsEndOf o at
     ended_of None piece = absurd piece
     ended_of (Some file) piece = whole_file file at near (piece.ended refl)
 
-    ended : (files : Option Files) → GivesPiece files name at want buffer (Ok (got.Count 0)) → IsEnd files name at
-    ended None piece = tt
-    ended (Some files) piece = ended_of (get files name) piece
-
-pub reads_limit : (files : Option Files) (name : List ℕ) (reader : Reading) (at : ℕ) (answer : Result ReadImage DeviceRefusal)
-    → HasRead files name reader at → at ≡ read_limit
-    → Concludes reader answer → ReadsImage files name answer
-reads_limit files name reader at answer has limit concludes = concludes_at files name reader at answer has (ended files) concludes
+-- and no more is read behind the limit
+ends_limit : (files : Option Files) (name : List ℕ) (at : ℕ) → at ≡ read_limit → IsEnd files name at
+ends_limit None name at limit = tt
+ends_limit (Some files) name at limit = ended_of (get files name)
   where
     ended_of : (o : Option (List ℕ)) → IsEndOf o at
     ended_of None = λ none. absurd (omega (arith, limit, none))
     ended_of (Some file) = ap (λ n. take n file) limit
 
-    ended : (files : Option Files) → IsEnd files name at
-    ended None = tt
-    ended (Some files) = ended_of (get files name)
+pub reads_ended : (files : Option Files) (name buffer : List ℕ) (reader : Reading) (at want : ℕ) (answer : Result ReadImage DeviceRefusal)
+    → HasRead files name reader at → GivesPiece files name at want buffer (Ok (got.Count 0)) → at ≤ read_limit
+    → Concludes reader answer → ReadsImage files name answer
+reads_ended files name buffer reader at want answer has piece near concludes =
+    concludes_at files name reader at answer has (ends_nothing files name buffer at want piece near) concludes
+
+pub reads_limit : (files : Option Files) (name : List ℕ) (reader : Reading) (at : ℕ) (answer : Result ReadImage DeviceRefusal)
+    → HasRead files name reader at → at ≡ read_limit
+    → Concludes reader answer → ReadsImage files name answer
+reads_limit files name reader at answer has limit concludes = concludes_at files name reader at answer has (ends_limit files name at limit) concludes
 
 absent_of : (o : Option (List ℕ)) (buffer : List ℕ) (at want : ℕ) → PieceOf o at want buffer got.Absent → ReadsBytes o read.Absent
 absent_of None buffer at want piece = tt
@@ -217,3 +222,83 @@ pub refused_device : (files : Option Files) (name : List ℕ) (refusal : DeviceR
     → answer ≡ Err refusal → ReadsImage files name answer
 refused_device None name refusal answer is = tt
 refused_device (Some files) name refusal answer is = subst (λ a. ReadsImage (Some files) name a) (sym is) tt
+
+-- ---- a file whose bytes are kept
+
+-- so much of it was taken
+pub record HasTaken (files : Option Files) (name text : List ℕ) (at : ℕ) : Type 0 where
+  pub so_far : TakesSoFar files name text at
+
+pub takes_none : (files : Option Files) (name text : List ℕ) → text ≡ [] → HasTaken files name text 0
+takes_none files name text is = record { so_far = subst (λ t. TakesSoFar files name t 0) (sym is) (nothing files) }
+  where
+    prefix_none : (o : Option (List ℕ)) → TakesPrefix o [] 0
+    prefix_none None = refl
+    prefix_none (Some file) = refl
+
+    nothing : (files : Option Files) → TakesSoFar files name [] 0
+    nothing None = tt
+    nothing (Some files) = prefix_none (get files name)
+
+pub takes_more : (files : Option Files) (name text more buffer : List ℕ) (at want count : ℕ) → HasTaken files name text at
+    → GivesPiece files name at want buffer (Ok (got.Count count)) → more ≡ text ++ take count buffer → HasTaken files name more (at + count)
+takes_more files name text more buffer at want count has piece is =
+    record { so_far = subst (λ t. TakesSoFar files name t (at + count)) (sym is) (so_far_more files name text buffer at want count has.so_far piece) }
+
+file_text : (files : Option Files) (name : List ℕ) (text : Vec ℕ) (at : ℕ) → TakesSoFar files name text.items at → IsEnd files name at
+    → ReadsFile files name (Ok (Some text))
+file_text None name text at so_far ended = tt
+file_text (Some files) name text at so_far ended = whole (get files name) so_far ended
+  where
+    whole : (o : Option (List ℕ)) → TakesPrefix o text.items at → IsEndOf o at → Some text.items ≡ option_map read_bytes o
+    whole None so_far ended = absurd (ended so_far)
+    whole (Some file) so_far ended = ap Some (so_far ∙ ended)
+
+pub file_ended : (files : Option Files) (name buffer : List ℕ) (text : Vec ℕ) (at want : ℕ) → HasTaken files name text.items at
+    → GivesPiece files name at want buffer (Ok (got.Count 0)) → at ≤ read_limit → ReadsFile files name (Ok (Some text))
+file_ended files name buffer text at want has piece near =
+    file_text files name text at has.so_far (ends_nothing files name buffer at want piece near)
+
+pub file_limit : (files : Option Files) (name : List ℕ) (text : Vec ℕ) (at : ℕ) → HasTaken files name text.items at → at ≡ read_limit
+    → ReadsFile files name (Ok (Some text))
+file_limit files name text at has limit = file_text files name text at has.so_far (ends_limit files name at limit)
+
+pub file_absent : (files : Option Files) (name buffer : List ℕ) (at want : ℕ) → GivesPiece files name at want buffer (Ok got.Absent)
+    → ReadsFile files name (Ok None)
+file_absent None name buffer at want piece = tt
+file_absent (Some files) name buffer at want piece = none (get files name) piece
+  where
+    none : (o : Option (List ℕ)) → PieceOf o at want buffer got.Absent → None ≡ option_map read_bytes o
+    none None piece = refl
+    none (Some file) piece = absurd piece
+
+pub file_refused : (files : Option Files) (name : List ℕ) (refusal : DeviceRefusal) (answer : Result (Option (Vec ℕ)) DeviceRefusal)
+    → answer ≡ Err refusal → ReadsFile files name answer
+file_refused None name refusal answer is = tt
+file_refused (Some files) name refusal answer is = subst (λ a. ReadsFile (Some files) name a) (sym is) tt
+
+-- ---- a source's file
+
+-- what its bytes say
+pub source_says : (files : Option Files) (name : List ℕ) (text : Vec ℕ) (answer : Result ReadImage DeviceRefusal)
+    → ReadsFile files name (Ok (Some text)) → IsAssembled text.items answer → ReadsSource files name answer
+source_says None name text answer reads says = tt
+source_says (Some files) name text (Err refusal) reads says = tt
+source_says (Some files) name text (Ok found) reads says = of_file (get files name) reads
+  where
+    of_file : (o : Option (List ℕ)) → Some text.items ≡ option_map read_bytes o → ReadsText o found
+    of_file None is = absurd cc
+    of_file (Some file) is = let same : text.items ≡ read_bytes file = cc in subst (λ t. Assembles t found) same says
+
+pub source_absent : (files : Option Files) (name : List ℕ) → ReadsFile files name (Ok None) → ReadsSource files name (Ok read.Absent)
+source_absent None name reads = tt
+source_absent (Some files) name reads = none (get files name) reads
+  where
+    none : (o : Option (List ℕ)) → None ≡ option_map read_bytes o → ReadsText o read.Absent
+    none None is = tt
+    none (Some file) is = absurd cc
+
+pub source_refused : (files : Option Files) (name : List ℕ) (refusal : DeviceRefusal) (answer : Result ReadImage DeviceRefusal)
+    → answer ≡ Err refusal → ReadsSource files name answer
+source_refused None name refusal answer is = tt
+source_refused (Some files) name refusal answer is = subst (λ a. ReadsSource (Some files) name a) (sym is) tt

@@ -1,27 +1,29 @@
 -- The words give exactly one outcome.
-use Rattle.std.proofs.Common.{◌≡◌, ℕ, List, Option, Some, None, Ok, refl, sym, ap, subst, ◌∙◌, inl, inr}
+use Rattle.std.proofs.Common.{◌≡◌, ℕ, List, Option, Some, None, Result, Ok, Err, refl, sym, ap, subst, ◌∙◌, inl, inr}
 use Rattle.std.specs.FinMap.{get}
 use Rattle.t3_io.specs.Files.{Files}
 use Rattle.t3_holder.specs.NumberText.{AreBytes}
 use Rattle.t3_blocks.proofs.Lists.{AreBytes-take}
-use Rattle.t3_image_read.specs.ImageText.{ImageValue}
+use Rattle.t3_image_read.specs.ImageText.{ImageValue, text}
 use Rattle.t3_image_read.specs.Refusal.{Refused}
 use Rattle.t3_image_read.specs.declared.refusal.ReadWhy.{ReadWhy}
 use Rattle.t3_image_read.specs.declared.image.PlacedBlock.{PlacedBlock}
 use Rattle.t3_image_read.proofs.Existence.{image_or_refused}
 use Rattle.t3_image_read.proofs.Uniqueness.{one_image, one_refusal, not_both}
+use Rattle.t3_asm.specs.declared.refusal.AsmRefusal.{AsmRefusal}
+use Rattle.t3_asm.specs.Listing.{listing}
 use Rattle.t3_cli.specs.declared.images.read.ReadImage.{ReadImage}
 use Rattle.t3_cli.specs.declared.images.read.ReadImage.TheVariants as read
 use Rattle.t3_cli.specs.declared.status.Status.{Status}
-use Rattle.t3_cli.specs.declared.status.Status.TheVariants.{Done, Usage, Absent, ImageRefused, LoadRefused}
-use Rattle.t3_cli.specs.Command.{CommandValue, Check, Show, Run, Rewrite, RunOptions}
-use Rattle.t3_cli.specs.Lines.{usage_line, absent_line, refused_line, unloaded_line}
+use Rattle.t3_cli.specs.declared.status.Status.TheVariants.{Done, Usage, Absent, ImageRefused, LoadRefused, SourceRefused}
+use Rattle.t3_cli.specs.Command.{CommandValue, Check, Show, Run, Rewrite, Listing, Asm, RunOptions}
+use Rattle.t3_cli.specs.Lines.{usage_line, absent_line, refused_line, bad_line, unloaded_line}
 use Rattle.t3_cli.specs.BlockLines.{check_text, show_text}
 use Rattle.t3_interp.specs.Machine.{ProgramValue, initial}
 use Rattle.t3_interp.specs.Run.{Ran, Runs}
-use Rattle.t3_cli.specs.Outcome.{Outcome, showing, putting, IsResult, IsInputOutcome, IsFileOutcome, IsImageOutcome, IsRunOutcome, BeginsWith, InputFile, ImageFile, input_of, written_text, HoldBytes, read_bytes, read_limit, shown_of, status_of}
+use Rattle.t3_cli.specs.Outcome.{Outcome, showing, putting, IsResult, IsInputOutcome, IsFileOutcome, IsImageOutcome, IsRunOutcome, IsSourceOutcome, IsTextOutcome, assembled, BeginsWith, InputFile, ImageFile, SourceFile, input_of, written_text, HoldBytes, read_bytes, read_limit, shown_of, status_of}
 use Rattle.t3_cli.specs.Inner.Parsing.{file_of}
-use Rattle.t3_cli.specs.Inner.Reading.{ReadsBytes, ReadsImage}
+use Rattle.t3_cli.specs.Inner.Reading.{ReadsBytes, ReadsText, Assembles, ReadsInput}
 use Rattle.t3_cli.specs.Inner.Following.{IsReadOutcome}
 use Rattle.t3_interp.proofs.Runs.{one_run, some_run}
 use Rattle.t3_interp.proofs.Programs.{one_program, some_program}
@@ -44,6 +46,8 @@ one_image_outcome : (command : CommandValue) (image : ImageValue) (a b : Outcome
 one_image_outcome (Check name) image a b x y = x ∙ sym y
 one_image_outcome (Show name) image a b x y = x ∙ sym y
 one_image_outcome (Rewrite name out mask) image a b x y = x ∙ sym y
+one_image_outcome (Listing name out) image a b x y = x ∙ sym y
+one_image_outcome (Asm name out) image a b x y = x ∙ sym y
 one_image_outcome (Run name options) image a b x y = one_run_outcome image.blocks options a b x y
 
 -- bytes that begin with an image aren't refused
@@ -69,9 +73,20 @@ one_file_outcome command name (Some file) a b (inr (image, begins, x)) (inr (oth
     let P : ImageValue → Type 0 = λ i. IsImageOutcome command i b in
     one_image_outcome command image a b x (subst P (begins_with_one (read_bytes file) other image also begins) y)
 
+one_source_outcome : (command : CommandValue) (found : Result ImageValue AsmRefusal) (a b : Outcome) → IsSourceOutcome command found a
+    → IsSourceOutcome command found b → a ≡ b
+one_source_outcome command (Ok image) a b x y = one_image_outcome command image a b x y
+one_source_outcome command (Err refused) a b x y = x ∙ sym y
+
+one_text_outcome : (command : CommandValue) (name : List ℕ) (file : Option (List ℕ)) (a b : Outcome) → IsTextOutcome command name file a
+    → IsTextOutcome command name file b → a ≡ b
+one_text_outcome command name None a b x y = x ∙ sym y
+one_text_outcome command name (Some file) a b x y = one_source_outcome command (assembled (read_bytes file)) a b x y
+
 one_input_outcome : (command : CommandValue) (input : InputFile) (files : Files) (a b : Outcome) → IsInputOutcome command input files a
     → IsInputOutcome command input files b → a ≡ b
 one_input_outcome command (ImageFile name) files a b x y = one_file_outcome command name (get files name) a b x y
+one_input_outcome command (SourceFile name) files a b x y = one_text_outcome command name (get files name) a b x y
 
 pub one_outcome : (command : Option CommandValue) (files : Files) (input : List ℕ) (a b : Outcome) → IsResult command files input a
     → IsResult command files input b → a ≡ b
@@ -94,6 +109,8 @@ some_image_outcome : (command : CommandValue) (image : ImageValue) → (outcome 
 some_image_outcome (Check name) image = (showing Done (check_text image), refl)
 some_image_outcome (Show name) image = (showing Done (show_text image), refl)
 some_image_outcome (Rewrite name out mask) image = (putting out (written_text mask image), refl)
+some_image_outcome (Listing name out) image = (putting out (listing image), refl)
+some_image_outcome (Asm name out) image = (putting out (text image), refl)
 some_image_outcome (Run name options) image =
     let some = some_run_outcome image.blocks options in
     (showing some.0 some.1, some.2)
@@ -109,9 +126,18 @@ some_file_outcome command name (Some file) bytes =
       | inr (place, why, refused) ↦ (showing ImageRefused (refused_line why place), inl (record { place = place; why = why; refused = refused; is = refl }))
     ]
 
+some_source_outcome : (command : CommandValue) (found : Result ImageValue AsmRefusal) → (outcome : Outcome) × IsSourceOutcome command found outcome
+some_source_outcome command (Ok image) = some_image_outcome command image
+some_source_outcome command (Err refused) = (showing SourceRefused (bad_line refused.line refused.why), refl)
+
+some_text_outcome : (command : CommandValue) (name : List ℕ) (file : Option (List ℕ)) → (outcome : Outcome) × IsTextOutcome command name file outcome
+some_text_outcome command name None = (showing Absent (absent_line name), refl)
+some_text_outcome command name (Some file) = some_source_outcome command (assembled (read_bytes file))
+
 some_input_outcome : (command : CommandValue) (input : InputFile) (files : Files) → HoldBytes files
     → (outcome : Outcome) × IsInputOutcome command input files outcome
 some_input_outcome command (ImageFile name) files bytes = some_file_outcome command name (get files name) (bytes name)
+some_input_outcome command (SourceFile name) files bytes = some_text_outcome command name (get files name)
 
 pub some_outcome : (command : Option CommandValue) (files : Files) (input : List ℕ) → HoldBytes files
     → (outcome : Outcome) × IsResult command files input outcome
@@ -125,19 +151,42 @@ file_outcome : (command : CommandValue) (name : List ℕ) (file : Option (List �
     → IsReadOutcome command found outcome → IsFileOutcome command name file outcome
 file_outcome command name None read.Absent outcome named reads is = is ∙ ap (λ n. showing Absent (absent_line n)) named
 file_outcome command name None (read.Refused place why) outcome named reads is = absurd reads
+file_outcome command name None (read.BadLine line why) outcome named reads is = absurd reads
 file_outcome command name None (read.Image image) outcome named reads is = absurd reads
 file_outcome command name (Some file) read.Absent outcome named reads is = absurd reads
+file_outcome command name (Some file) (read.BadLine line why) outcome named reads is = absurd reads
 file_outcome command name (Some file) (read.Refused place why) outcome named reads is =
     inl (record { place = place; why = why; refused = reads; is = is })
 file_outcome command name (Some file) (read.Image image) outcome named reads is = inr (image, reads, is)
 
+-- what was read of a source's file
+assembled_outcome : (command : CommandValue) (bytes : List ℕ) (found : ReadImage) (outcome : Outcome) → Assembles bytes found
+    → IsReadOutcome command found outcome → IsSourceOutcome command (assembled bytes) outcome
+assembled_outcome command bytes read.Absent outcome says is = absurd says
+assembled_outcome command bytes (read.Refused place why) outcome says is = absurd says
+assembled_outcome command bytes (read.BadLine line why) outcome says is =
+    subst (λ (r : Result ImageValue AsmRefusal). IsSourceOutcome command r outcome) (sym says) is
+assembled_outcome command bytes (read.Image image) outcome says is =
+    subst (λ (r : Result ImageValue AsmRefusal). IsSourceOutcome command r outcome) (sym says) is
+
+text_outcome : (command : CommandValue) (name : List ℕ) (file : Option (List ℕ)) (found : ReadImage) (outcome : Outcome)
+    → file_of (input_of command) ≡ name → ReadsText file found
+    → IsReadOutcome command found outcome → IsTextOutcome command name file outcome
+text_outcome command name None read.Absent outcome named reads is = is ∙ ap (λ n. showing Absent (absent_line n)) named
+text_outcome command name None (read.Refused place why) outcome named reads is = absurd reads
+text_outcome command name None (read.BadLine line why) outcome named reads is = absurd reads
+text_outcome command name None (read.Image image) outcome named reads is = absurd reads
+text_outcome command name (Some file) found outcome named reads is = assembled_outcome command (read_bytes file) found outcome reads is
+
 input_outcome : (command : CommandValue) (input : InputFile) (files : Files) (found : ReadImage) (outcome : Outcome)
-    → input_of command ≡ input → ReadsBytes (get files (file_of input)) found
+    → input_of command ≡ input → ReadsInput (Some files) input (Ok found)
     → IsReadOutcome command found outcome → IsInputOutcome command input files outcome
 input_outcome command (ImageFile name) files found outcome is reads gives =
     file_outcome command name (get files name) found outcome (ap file_of is) reads gives
+input_outcome command (SourceFile name) files found outcome is reads gives =
+    text_outcome command name (get files name) found outcome (ap file_of is) reads gives
 
 pub read_result : (command : CommandValue) (files : Files) (input : List ℕ) (found : ReadImage) (outcome : Outcome)
-    → ReadsImage (Some files) (file_of (input_of command)) (Ok found)
+    → ReadsInput (Some files) (input_of command) (Ok found)
     → IsReadOutcome command found outcome → IsResult (Some command) files input outcome
 read_result command files input found outcome reads gives = input_outcome command (input_of command) files found outcome refl reads gives

@@ -1,23 +1,32 @@
 -- The cause of each answer: a table with a line a status.
-use Rattle.std.specs.Prelude.{◌≡◌, ℕ, List, Option, Some, None}
+use Rattle.std.specs.Prelude.{◌≡◌, ℕ, List, Option, Some, None, Err}
 use Rattle.std.specs.FinMap.{get}
 use Rattle.t3_io.specs.Files.{Files}
 use Rattle.t3_image_read.specs.ImageText.{ImageValue}
 use Rattle.t3_image_read.specs.Refusal.{IsRefused}
+use Rattle.t3_asm.specs.declared.refusal.AsmRefusal.{AsmRefusal}
 use Rattle.t3_cli.specs.declared.status.Status.{Status}
-use Rattle.t3_cli.specs.declared.status.Status.TheVariants.{Done, Usage, Absent, ImageRefused, LoadRefused, Unhandled, BadCode, StepLimit, DepotFault, ConsoleFault, NoMemory}
+use Rattle.t3_cli.specs.declared.status.Status.TheVariants.{Done, Usage, Absent, ImageRefused, LoadRefused, Unhandled, BadCode, StepLimit, SourceRefused, DepotFault, ConsoleFault, NoMemory}
 use Rattle.t3_cli.specs.Command.{CommandValue, Run, RunOptions}
 use Rattle.t3_interp.specs.Loading.{IsUnloaded}
 use Rattle.t3_interp.specs.Run.{Ran}
-use Rattle.t3_cli.specs.Outcome.{InputFile, ImageFile, input_of, BeginsWith, RunsImage, read_bytes, status_of}
+use Rattle.t3_cli.specs.Outcome.{InputFile, ImageFile, SourceFile, input_of, assembled, BeginsWith, RunsImage, read_bytes, status_of}
 
 -- the file isn't there
 abbrev pub IsAbsent : InputFile → Files → Type 0
 IsAbsent (ImageFile name) files = get files name ≡ None
+IsAbsent (SourceFile name) files = get files name ≡ None
 
 -- the file is to be an image, and its bytes are refused
 abbrev pub IsRefusedImage : InputFile → Files → Type 0
+IsRefusedImage (SourceFile name) files = ⊥
 IsRefusedImage (ImageFile name) files = (file : List ℕ) × (get files name ≡ Some file) × IsRefused (read_bytes file)
+
+-- the file is to be a source, and a line of it is bad, or it is too long
+abbrev pub IsRefusedSource : InputFile → Files → Type 0
+IsRefusedSource (ImageFile name) files = ⊥
+IsRefusedSource (SourceFile name) files =
+    (file : List ℕ) × (refused : AsmRefusal) × (get files name ≡ Some file) × (assembled (read_bytes file) ≡ Err refused)
 
 -- the command runs an image, with which the bytes of its file begin
 pub record RunsFile (command : CommandValue) (files : Files) (image : ImageValue) (options : RunOptions) : Type 0 where
@@ -46,6 +55,7 @@ CommandCause LoadRefused command files input = IsUnloadable command files
 CommandCause Unhandled command files input = EndsBy Unhandled command files
 CommandCause BadCode command files input = EndsBy BadCode command files
 CommandCause StepLimit command files input = EndsBy StepLimit command files
+CommandCause SourceRefused command files input = IsRefusedSource (input_of command) files
 CommandCause DepotFault command files input = ⊥
 CommandCause ConsoleFault command files input = ⊥
 CommandCause NoMemory command files input = ⊥

@@ -21,6 +21,8 @@ pub data CommandValue : Type 0 where
   Run : (image : List ℕ) (options : RunOptions) → CommandValue
   -- the pages stay under their masks where none is given
   Rewrite : (image out : List ℕ) (mask : Option ℕ) → CommandValue
+  Listing : (image out : List ℕ) → CommandValue
+  Asm : (source out : List ℕ) → CommandValue
 
 -- ---- how the parsed commands stand for these
 
@@ -32,6 +34,8 @@ command_value (words.Check image) = Check image.now
 command_value (words.Show image) = Show image.now
 command_value (words.Run image options) = Run image.now (options_value options)
 command_value (words.Rewrite image out mask) = Rewrite image.now out.now mask
+command_value (words.List image out) = Listing image.now out.now
+command_value (words.Asm source out) = Asm source.now out.now
 
 -- each file that a command names has a name that a file may have
 abbrev pub HasFileNames : CommandValue → Type 0
@@ -39,6 +43,8 @@ HasFileNames (Check name) = IsFileName name
 HasFileNames (Show name) = IsFileName name
 HasFileNames (Run name options) = IsFileName name
 HasFileNames (Rewrite name out mask) = IsFileName name × IsFileName out
+HasFileNames (Listing name out) = IsFileName name × IsFileName out
+HasFileNames (Asm name out) = IsFileName name × IsFileName out
 
 -- ---- which words they are
 
@@ -75,6 +81,11 @@ abbrev pub only_name : List (List ℕ) → Option (List ℕ)
 only_name (name ∷ []) = file_name name
 only_name _ = None
 
+-- two names, and nothing after them
+abbrev pub two_names : List (List ℕ) → Option (List ℕ × List ℕ)
+two_names [] = None
+two_names (name ∷ words) = option_and_then (λ first. option_map (λ second. (first, second)) (only_name words)) (file_name name)
+
 -- a name, and options
 abbrev pub run_of : List (List ℕ) → Option CommandValue
 run_of [] = None
@@ -92,7 +103,9 @@ verb_command verb words =
     if bytes_eq verb (codes "check") then option_map Check (only_name words)
     else (if bytes_eq verb (codes "show") then option_map Show (only_name words)
     else (if bytes_eq verb (codes "run") then run_of words
-    else (if bytes_eq verb (codes "rewrite") then rewrite_of words else None)))
+    else (if bytes_eq verb (codes "rewrite") then rewrite_of words
+    else (if bytes_eq verb (codes "list") then option_map (λ names. Listing names.0 names.1) (two_names words)
+    else (if bytes_eq verb (codes "asm") then option_map (λ names. Asm names.0 names.1) (two_names words) else None)))))
 
 -- the command that the words are, if they are one: a verb, names in order, and options
 abbrev pub command_of : List (List ℕ) → Option CommandValue

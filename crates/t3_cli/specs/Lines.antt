@@ -2,6 +2,8 @@
 use Rattle.std.specs.Prelude.{ℕ, Bool, true, false, List, [], ◌∷◌, ◌++◌, codes, Option, Some, None}
 use Rattle.std.specs.Fmt.{decimal}
 use Rattle.t3_image_read.specs.declared.refusal.ReadWhy.{ReadWhy}
+use Rattle.t3_asm.specs.declared.refusal.AsmWhy.{AsmWhy}
+use Rattle.t3_asm.specs.declared.refusal.AsmWhy.TheVariants as rules
 use Rattle.t3_interp.specs.declared.event.End.{End}
 use Rattle.t3_interp.specs.declared.event.End.TheVariants.{Returned, Unhandled, BadCode}
 use Rattle.t3_ops.specs.Faults.{fault_number}
@@ -51,6 +53,22 @@ ok_line blocks bytes = codes "ok blocks=" ++ (decimal blocks ++ (codes " bytes="
 -- how many bytes a file has that was put
 abbrev pub put_line : ℕ → List ℕ
 put_line bytes = codes "ok bytes=" ++ (decimal bytes ++ newline)
+
+-- the name of a rule of sources
+abbrev pub source_why_name : AsmWhy → List ℕ
+source_why_name rules.Word = codes "Word"
+source_why_name rules.Number = codes "Number"
+source_why_name rules.Range = codes "Range"
+source_why_name rules.LabelTwice = codes "LabelTwice"
+source_why_name rules.Order = codes "Order"
+source_why_name rules.LabelMissing = codes "LabelMissing"
+source_why_name rules.Jump = codes "Jump"
+source_why_name rules.TooLong = codes "TooLong"
+source_why_name rules.NoMemory = codes "NoMemory"
+
+-- the line of a source that breaks a rule, from 1, or 0 where the source is too long
+abbrev pub bad_line : ℕ → AsmWhy → List ℕ
+bad_line line why = codes "refused line " ++ (decimal line ++ (codes " " ++ (source_why_name why ++ newline)))
 
 -- an image that can't be run yet
 abbrev pub unloaded_line : List ℕ

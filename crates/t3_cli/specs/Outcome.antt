@@ -1,5 +1,5 @@
 -- What a command gives where nothing fails: a status, and what it does to the outside.
-use Rattle.std.specs.Prelude.{◌≡◌, ℕ, ◌⊎◌, List, [], ◌∷◌, ◌++◌, length, take, Option, Some, None}
+use Rattle.std.specs.Prelude.{◌≡◌, ℕ, ◌⊎◌, List, [], ◌∷◌, ◌++◌, length, take, nat_lt, if◌then◌else◌, Option, Some, None, Result, Ok, Err}
 use Rattle.std.specs.FinMap.{get}
 use Rattle.t3_holder.specs.NumberText.{AreBytes}
 use Rattle.t3_io.specs.Files.{Files}
@@ -9,13 +9,18 @@ use Rattle.t3_image_read.specs.ImageText.{ImageValue, text}
 use Rattle.t3_image_read.specs.Validity.{IsValid}
 use Rattle.t3_image_read.specs.Refusal.{Refused}
 use Rattle.t3_image_write.specs.Masks.{remask_of}
+use Rattle.t3_asm.specs.declared.refusal.AsmRefusal.{AsmRefusal}
+use Rattle.t3_asm.specs.declared.refusal.AsmWhy.TheVariants as rules
+use Rattle.t3_asm.specs.Refusals.{refusal}
+use Rattle.t3_asm.specs.Source.{source}
+use Rattle.t3_asm.specs.Listing.{listing}
 use Rattle.t3_cli.specs.declared.status.Status.{Status}
-use Rattle.t3_cli.specs.declared.status.Status.TheVariants.{Done, Usage, Absent, ImageRefused, LoadRefused, Unhandled, BadCode, StepLimit}
+use Rattle.t3_cli.specs.declared.status.Status.TheVariants.{Done, Usage, Absent, ImageRefused, LoadRefused, Unhandled, BadCode, StepLimit, SourceRefused}
 use Rattle.t3_interp.specs.declared.event.End.{End}
 use Rattle.t3_interp.specs.declared.event.End.TheVariants as ends
 use Rattle.t3_cli.specs.Act.{Act, Shows, Puts}
-use Rattle.t3_cli.specs.Command.{CommandValue, Check, Show, Run, Rewrite, RunOptions}
-use Rattle.t3_cli.specs.Lines.{usage_line, absent_line, refused_line, put_line, unloaded_line, closing_text, is_nonempty}
+use Rattle.t3_cli.specs.Command.{CommandValue, Check, Show, Run, Rewrite, Listing, Asm, RunOptions}
+use Rattle.t3_cli.specs.Lines.{usage_line, absent_line, refused_line, put_line, bad_line, unloaded_line, closing_text, is_nonempty}
 use Rattle.t3_cli.specs.BlockLines.{check_text, show_text}
 use Rattle.t3_interp.specs.Machine.{ProgramValue, initial}
 use Rattle.t3_interp.specs.Loading.{LoadsAs, IsUnloaded}
@@ -78,12 +83,14 @@ IsRunOutcome blocks options outcome =
     (IsUnloaded blocks × (outcome ≡ showing LoadRefused unloaded_line))
     ⊎ ((ran : Ran) × RunsImage blocks options ran × (outcome ≡ showing (status_of ran.end) (shown_of ran)))
 
--- what a command gives of the image that it reads
+-- what a command gives of the image that it reads, or that its source says
 abbrev pub IsImageOutcome : CommandValue → ImageValue → Outcome → Type 0
 IsImageOutcome (Check name) image outcome = outcome ≡ showing Done (check_text image)
 IsImageOutcome (Show name) image outcome = outcome ≡ showing Done (show_text image)
 IsImageOutcome (Rewrite name out mask) image outcome = outcome ≡ putting out (written_text mask image)
 IsImageOutcome (Run name options) image outcome = IsRunOutcome image.blocks options outcome
+IsImageOutcome (Listing name out) image outcome = outcome ≡ putting out (listing image)
+IsImageOutcome (Asm name out) image outcome = outcome ≡ putting out (text image)
 
 -- the bytes are refused, at the place and by the rule that are shown
 pub record IsRefusalOutcome (bytes : List ℕ) (outcome : Outcome) : Type 0 where
@@ -98,18 +105,39 @@ IsFileOutcome command name None outcome = outcome ≡ showing Absent (absent_lin
 IsFileOutcome command name (Some file) outcome =
     IsRefusalOutcome (read_bytes file) outcome ⊎ ((image : ImageValue) × BeginsWith (read_bytes file) image × IsImageOutcome command image outcome)
 
+-- how many bytes a source has at most
+abbrev pub source_limit : ℕ
+source_limit = 268435456
+
+-- the image that bytes say as a source, or its bad line
+abbrev pub assembled : List ℕ → Result ImageValue AsmRefusal
+assembled bytes = if nat_lt source_limit (length bytes) then Err (refusal 0 rules.TooLong) else source bytes
+
+abbrev pub IsSourceOutcome : CommandValue → Result ImageValue AsmRefusal → Outcome → Type 0
+IsSourceOutcome command (Ok image) outcome = IsImageOutcome command image outcome
+IsSourceOutcome command (Err refused) outcome = outcome ≡ showing SourceRefused (bad_line refused.line refused.why)
+
+-- of a source's file that is there: it says an image, or has a bad line
+abbrev pub IsTextOutcome : CommandValue → List ℕ → Option (List ℕ) → Outcome → Type 0
+IsTextOutcome command name None outcome = outcome ≡ showing Absent (absent_line name)
+IsTextOutcome command name (Some file) outcome = IsSourceOutcome command (assembled (read_bytes file)) outcome
+
 -- the file that a command reads, and what it is read as
 pub data InputFile : Type 0 where
   ImageFile : (name : List ℕ) → InputFile
+  SourceFile : (name : List ℕ) → InputFile
 
 abbrev pub input_of : CommandValue → InputFile
 input_of (Check name) = ImageFile name
 input_of (Show name) = ImageFile name
 input_of (Run name options) = ImageFile name
 input_of (Rewrite name out mask) = ImageFile name
+input_of (Listing name out) = ImageFile name
+input_of (Asm name out) = SourceFile name
 
 abbrev pub IsInputOutcome : CommandValue → InputFile → Files → Outcome → Type 0
 IsInputOutcome command (ImageFile name) files outcome = IsFileOutcome command name (get files name) outcome
+IsInputOutcome command (SourceFile name) files outcome = IsTextOutcome command name (get files name) outcome
 
 -- what the words give with these files and this input, of which no command takes any yet
 abbrev pub IsResult : Option CommandValue → Files → List ℕ → Outcome → Type 0

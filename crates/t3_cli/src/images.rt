@@ -3,3 +3,4 @@
 pub(crate) mod image_lines;
 pub(crate) mod read;
 pub(crate) mod rewrite;
+pub(crate) mod source;

@@ -1,8 +1,9 @@
 //! The lines that are shown.
 ghost use Rattle.std.specs.Prelude.{◌≡◌, ◌++◌, Some, IfOk, string_bytes};
-ghost use Rattle.t3_cli.specs.Lines.{absent_line, refused_line, ok_line, put_line, why_name as name_of, items_of, closing_text, end_line, unhandled_line, bad_code_line, newline_if as newline_by, cause_name as name_of_cause};
+ghost use Rattle.t3_cli.specs.Lines.{absent_line, refused_line, ok_line, put_line, why_name as name_of, items_of, closing_text, end_line, unhandled_line, bad_code_line, newline_if as newline_by, bad_line as bad_line_of, source_why_name as name_of_rule, cause_name as name_of_cause};
 
 use std::alloc::{AllocError, Global};
+use t3_asm::AsmWhy;
 use t3_image_read::ReadWhy;
 use t3_interp::{CodeWhy, End};
 
@@ -65,6 +66,30 @@ fn why_name(why: ReadWhy) -> &'static str
         ReadWhy::Malformed { .. } => "Malformed",
         ReadWhy::EofSize => "EofSize",
         ReadWhy::Truncated => "Truncated",
+    }
+}
+
+/// The line of a source that breaks a rule.
+pub(crate) fn bad_line(alloc: Global, line: u32, why: AsmWhy) -> Result<String, AllocError>
+    ensures { IfOk result (λ text. string_bytes text ≡ bad_line_of line why) }
+{
+    let name = source_why_name(why);
+    format!(in alloc; "refused line {line} {name}\n")
+}
+
+fn source_why_name(why: AsmWhy) -> &'static str
+    ensures { result.now ≡ name_of_rule why }
+{
+    match why {
+        AsmWhy::Word => "Word",
+        AsmWhy::Number => "Number",
+        AsmWhy::Range => "Range",
+        AsmWhy::LabelTwice => "LabelTwice",
+        AsmWhy::Order => "Order",
+        AsmWhy::LabelMissing => "LabelMissing",
+        AsmWhy::Jump => "Jump",
+        AsmWhy::TooLong => "TooLong",
+        AsmWhy::NoMemory => "NoMemory",
     }
 }
 

@@ -22,6 +22,8 @@ pub enum Status {
     BadCode = 6,
     /// The run had no step left.
     StepLimit = 8,
+    /// The source breaks a rule.
+    SourceRefused = 10,
     /// The files failed.
     DepotFault = 11,
     /// The console failed.

@@ -3,7 +3,9 @@
 //! ```text
 //! let program = load(alloc, &image)?;
 //! let mut machine = Machine::start(alloc)?;
-//! while let Event::Went = machine.step(alloc, &program)? {}
+//! while machine.wants() == Want::Go {
+//!     if let Event::Said(text) = machine.step(alloc, &program)? { .. }
+//! }
 //! ```
 //!
 //! What a step is, and which program an image is run as, is defined in `specs/`, apart from the code. So

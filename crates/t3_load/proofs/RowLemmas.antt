@@ -1,5 +1,5 @@
 -- Rows of items, and bytes that begin with them.
-use Rattle.std.proofs.Common.{◌≡◌, ℕ, suc, ◌+◌, ◌<◌, ◌≤◌, List, [], ◌∷◌, ◌++◌, length, refl, sym, ap, ◌∙◌, subst, arith}
+use Rattle.std.proofs.Common.{◌≡◌, ℕ, ◌<◌, List, [], ◌∷◌, ◌++◌, length, refl, sym, ◌∙◌, subst, arith}
 use Rattle.t3_blocks.proofs.Lists.{split_same}
 use Rattle.t3_load.specs.Layout.{BeginsRow}
 use Rattle.t3_load.specs.Inner.Rows.{BeginsItem}

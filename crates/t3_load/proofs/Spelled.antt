@@ -1,5 +1,5 @@
 -- What the bytes of an item say, and that they say nothing else.
-use Rattle.std.proofs.Common.{◌≡◌, ℕ, ◌+◌, ◌^◌, ◌<◌, ◌≤◌, List, [], ◌∷◌, ◌++◌, Option, Some, None, length, take, drop, refl, sym, ap, ◌∙◌, subst, arith}
+use Rattle.std.proofs.Common.{◌≡◌, ℕ, ◌^◌, ◌<◌, List, Option, Some, None, take, drop, sym, ◌∙◌, subst, arith}
 use Rattle.std.specs.Option.{MatchOption, IfSome}
 use Rattle.t3_holder.specs.NumberText.{little_endian}
 use Rattle.t3_holder.specs.HolderText.{raw_text, IsRaw, Means}

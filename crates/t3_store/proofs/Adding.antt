@@ -1,16 +1,14 @@
 -- Objects of an image: what stays true of them.
-use Rattle.std.proofs.Common.{◌≡◌, ◌∙◌, ap, sym, subst, refl, ℕ, ◌+◌, ◌<◌, ◌≤◌, ◌^◌, Bool, true, false, cond, ◌&&◌, Option, None, Some, IsTrue, IsSome, is_some, is_none, true≢false, nat_lt, ltb-false, arith}
+use Rattle.std.proofs.Common.{◌≡◌, ◌∙◌, ap, sym, subst, refl, ℕ, ◌+◌, ◌<◌, ◌≤◌, ◌^◌, Bool, true, false, ◌&&◌, Option, None, Some, IsTrue, IsSome, true≢false, arith}
 use Rattle.std.specs.FinMap.{get, insert, len}
-use Rattle.t3_holder.specs.declared.holder.Holder.{Holder}
 use Rattle.t3_undo.specs.Content.{Parts, Places, Present}
-use Rattle.t3_undo.specs.Objects.{adjust}
 use Rattle.t3_undo.specs.declared.cell.Cell.{Cell}
 use Rattle.t3_undo.proofs.Maps.{get-adjust}
 use Rattle.std.specs.Cmp.{nat_cmp_total}
-use Rattle.t3_store.specs.Value.{Value, units_in, units_of, cell_units, is_past, holder_at, can_have_at, with_cell}
+use Rattle.t3_store.specs.Value.{Value, units_in, units_of, cell_units, is_past}
 use Rattle.t3_store.specs.Inner.Shapes.{Shape, Stored, values, value_of, risen, AreWithin}
 use Rattle.t3_store.specs.Inner.Store.{IsPersistent, IsWritten}
-use Rattle.t3_store.proofs.MapValues.{len-adjust, units_in-with, units_in-new, values-insert}
+use Rattle.t3_store.proofs.MapValues.{len-adjust, units_in-new, values-insert}
 use Rattle.t3_store.proofs.Ticks.{risen-most, within-more, within-insert}
 use Rattle.t3_store.proofs.Keeping.{none-set}
 use Rattle.t3_store.proofs.Creating.{not-full, len-new, none-inserted, value-none}

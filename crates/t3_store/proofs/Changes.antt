@@ -18,7 +18,7 @@ use Rattle.t3_store.specs.Inner.Whole.{supers_from, supers_of_both, AreWhole}
 use Rattle.t3_store.proofs.KindsKept.{kinds-persistent, kinds-transient, kinds-more}
 use Rattle.t3_store.proofs.Ticks.{within-more}
 use Rattle.t3_store.proofs.Creating.{not-full}
-use Rattle.t3_store.proofs.WholeKept.{whole-persistent, whole-transient}
+use Rattle.t3_store.proofs.WholeWritten.{whole-persistent, whole-transient}
 use Rattle.t3_store.proofs.Keeping.{front-of, front-changed, sound-keep, sound-noted, numbered-persistent, numbered-transient}
 
 -- a change of a persistent object, and of a transient one

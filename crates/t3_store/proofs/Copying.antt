@@ -3,17 +3,17 @@ use Rattle.std.proofs.Common.{◌≡◌, ◌∙◌, ap, sym, subst, refl, ℕ, z
 use Rattle.std.specs.List.{AllByRecursion}
 use Rattle.std.specs.Option.{option_map}
 use Rattle.std.specs.Ordering.{nat_cmp}
-use Rattle.std.specs.FinMap.{FinMap, get, insert}
+use Rattle.std.specs.FinMap.{FinMap, get}
 use Rattle.std.proofs.lemmas.List.{map-append, take_more}
 use Rattle.t3_undo.specs.Content.{Parts}
 use Rattle.t3_undo.specs.Objects.{set_at}
 use Rattle.t3_store.specs.Value.{Value, Text, units_of, units_in}
 use Rattle.t3_store.specs.Inner.Shapes.{Shape, thing_of, tick_of, value_of, values, AreWithin}
 use Rattle.t3_store.specs.Inner.Valid.{IsValid, AreValid}
-use Rattle.t3_store.specs.Inner.Entries.{IsRising, by_number, object_at, things_of, ticks_in, keyed, AreAllValid, HasTickForUnits, HaveTicksForUnits}
+use Rattle.t3_store.specs.Inner.Entries.{IsRising, by_number, object_at, things_of, ticks_in, keyed, AreAllValid, HaveTicksForUnits}
 use Rattle.t3_store.specs.declared.object.Object.{Object}
 use Rattle.t3_store.specs.declared.entries.Entry.{Entry}
-use Rattle.t3_store.proofs.Rows.{same, same-is, same-itself, differs, get-by_number, missed-object}
+use Rattle.t3_store.proofs.Rows.{same, same-is, same-itself, get-by_number, missed-object}
 use Rattle.t3_store.proofs.MapValues.{amount, get-values, units_in-insert, values-by_number}
 
 -- numbers with values say what a row is

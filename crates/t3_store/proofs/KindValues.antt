@@ -1,5 +1,5 @@
 -- What a change of an object's parts does to its value, for each kind.
-use Rattle.std.proofs.Common.{◌≡◌, ◌∙◌, ap, sym, subst, refl, ℕ, ◌+◌, ◌<◌, ◌≤◌, length, Bool, true, false, cond, not, List, Option, None, Some, IsTrue, IsSome, is_some, true≢false, arith}
+use Rattle.std.proofs.Common.{◌≡◌, ◌∙◌, ap, sym, refl, ℕ, ◌+◌, length, true, cond, not, List, Option, None, Some, IsTrue, IsSome, is_some, true≢false, arith}
 use Rattle.std.specs.Option.{option_map}
 use Rattle.std.specs.FinMap.{get, empty, get-empty}
 use Rattle.std.specs.FinSet as set
@@ -12,7 +12,7 @@ use Rattle.t3_undo.specs.declared.cell.Cell.TheVariants as cells
 use Rattle.t3_tadsobj.specs.Object.{is_prop}
 use Rattle.t3_lists.specs.Vector.{items_of, filled, is_element}
 use Rattle.t3_lists.proofs.Items.{items-filled}
-use Rattle.t3_tables.specs.Table.{above, is_cell}
+use Rattle.t3_tables.specs.Table.{above}
 use Rattle.t3_tables.specs.declared.table.Table as tables
 use Rattle.t3_tables.proofs.TableLists.{distinct-entries_of}
 use Rattle.t3_store.specs.Value.{Value, Tads, Text, Items, Vector, Table, units_of, cell_units, holder_in, with_cell, without_cell, can_have, can_lose, element_at, with_element, without_element, is_element_for, is_last}
@@ -22,7 +22,8 @@ use Rattle.t3_store.specs.declared.object.Object.TheVariants as objects
 use Rattle.t3_store.specs.Inner.Valid.{IsWholeVector, IsValid}
 use Rattle.t3_store.proofs.TadsValues.{found-prop, props-set, props_of-with, props_of-without, len-with, len-without, present-prop}
 use Rattle.t3_store.proofs.VectorValues.{held-filled, filled-with, filled-without, length-with, length-without, few-with, present-element}
-use Rattle.t3_store.proofs.TableValues.{HasDistinctKeys, held-table, table-without, whole-without, units-entry, units-without}
+use Rattle.t3_store.proofs.TableValues.{held-table, table-without, whole-without}
+use Rattle.t3_store.proofs.TableUnits.{HasDistinctKeys, units-entry, units-without}
 
 abbrev value_in : Option Present → Option Holder
 value_in o = option_map (λ (p : Present). p.value) o

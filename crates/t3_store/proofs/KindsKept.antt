@@ -1,10 +1,10 @@
 -- What the kinds rest on stays true of a store, whatever happens.
-use Rattle.std.proofs.Common.{◌≡◌, ◌∙◌, ap, sym, subst, refl, ℕ, ◌+◌, ◌-◌, ◌≤◌, List, [], ◌∷◌, take, drop, Option, None, Some, arith}
+use Rattle.std.proofs.Common.{◌≡◌, sym, subst, ℕ, ◌+◌, ◌≤◌, List, [], ◌∷◌, take, drop, Option, None, arith}
 use Rattle.std.specs.FinMap.{get, insert}
-use Rattle.t3_undo.specs.Content.{Present, Parts, Places}
+use Rattle.t3_undo.specs.Content.{Present, Parts}
 use Rattle.t3_undo.specs.Objects.{Objects, OldPart, Segment, part_at}
 use Rattle.t3_undo.specs.Objects as journaled
-use Rattle.t3_undo.specs.Journal.{note_in, newest_next}
+use Rattle.t3_undo.specs.Journal.{note_in}
 use Rattle.t3_undo.specs.UndoLaw as law
 use Rattle.t3_undo.specs.declared.cell.Cell.{Cell}
 use Rattle.t3_store.specs.Value.{Value}

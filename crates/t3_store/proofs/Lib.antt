@@ -1,8 +1,11 @@
 pub mod TadsValues
 pub mod VectorValues
 pub mod TableValues
+pub mod TableUnits
 pub mod KindValues
 pub mod Rows
+pub mod RowEdits
+pub mod FirstFrom
 pub mod MapValues
 pub mod Outcomes
 pub mod Counting
@@ -16,7 +19,12 @@ pub mod Saving
 pub mod Creating
 pub mod Starting
 pub mod Adding
-pub mod WholeKept
+pub mod WholeWritten
+pub mod WholeUndone
+pub mod WholeMade
+pub mod WholeStarted
 pub mod Copying
 pub mod Ticks
 pub mod Validity
+pub mod Callers
+pub mod Given

@@ -1,16 +1,14 @@
 -- Objects in a row by rising number: where one stands, and what changes of the row do.
-use Rattle.std.proofs.Common.{◌≡◌, ◌∙◌, ap, sym, subst, refl, ℕ, zero, suc, ◌+◌, ◌<◌, ◌≤◌, Bool, true, false, cond, eqb-true, List, [], ◌∷◌, ◌++◌, length, map, take, drop, get_or, set, slice_get, Option, None, Some, is_some, true≢false, nat_lt, ltb-true, ltb-false, arith}
+use Rattle.std.proofs.Common.{◌≡◌, ◌∙◌, ap, sym, subst, refl, ℕ, zero, suc, ◌+◌, ◌<◌, ◌≤◌, Bool, true, false, cond, eqb-true, List, [], ◌∷◌, length, get_or, set, slice_get, Option, None, Some, is_some, true≢false, arith}
 use Rattle.std.proofs.lemmas.Bool.{eqb-false}
 use Rattle.std.specs.Ordering.{nat_cmp, eq_by_cmp}
 use Rattle.std.specs.Option.{option_map}
 use Rattle.std.specs.Cmp.{nat_cmp_total, eq_by_cmp_equiv, Equal-is}
 use Rattle.std.specs.List.{AllByRecursion, AllWithin}
-use Rattle.std.specs.FinMap.{FinMap, empty, get, get-empty, same_map, get-insert, get-retain_keys, retain_keys, insert, len, len-empty, len-insert, nat_cmp-IsAntisymmetric}
+use Rattle.std.specs.FinMap.{FinMap, empty, get, get-empty, same_map, len, len-empty, len-insert, nat_cmp-IsAntisymmetric}
 use Rattle.t3_undo.specs.Objects.{set_at, adjust, adjusted}
 use Rattle.t3_undo.proofs.Maps.{get-set_at, get-adjust}
-use Rattle.t3_store.specs.Inner.Entries.{IsRising, index_of, object_at, by_number, is_numbered, things_of, IsFirstFrom}
-use Rattle.t3_store.specs.Inner.Shapes.{thing_of}
-use Rattle.std.proofs.lemmas.List.{map-append, take_more}
+use Rattle.t3_store.specs.Inner.Entries.{IsRising, index_of, object_at, by_number, is_numbered}
 use Rattle.t3_store.specs.declared.object.Object.{Object}
 use Rattle.t3_store.specs.declared.entries.Entry.{Entry}
 
@@ -57,7 +55,7 @@ missed-object n [] all = refl
 missed-object n (x ∷ es) all =
     ap (λ b. cond b (Some x.object) (object_at n es)) (differs n x.number (λ is. omega (arith, all.0))) ∙ missed-object n es all.1
 
-all-later : (n k : ℕ) (es : List Entry) → n < k → AllByRecursion (λ l. k < l.number) es → AllByRecursion (λ l. n < l.number) es
+pub all-later : (n k : ℕ) (es : List Entry) → n < k → AllByRecursion (λ l. k < l.number) es → AllByRecursion (λ l. n < l.number) es
 all-later n k [] h all = all
 all-later n k (x ∷ es) h all = (omega (arith, all.0), all-later n k es h all.1)
 
@@ -148,11 +146,11 @@ stands-nowhere n (x ∷ es) e = by (stands-nowhere n es) (same n x.number) refl 
     by rest false t None is e = rest is
     by rest false t (Some j) is e = cc
 
-shadow : {X : Type 0} (b : Bool) (x y z : X) → cond b x (cond b y z) ≡ cond b x z
+pub shadow : {X : Type 0} (b : Bool) (x y z : X) → cond b x (cond b y z) ≡ cond b x z
 shadow true x y z = refl
 shadow false x y z = refl
 
-exchanged : {X : Type 0} (a b : Bool) (x y z : X) → (a ≡ true → b ≡ true → ⊥) → cond a x (cond b y z) ≡ cond b y (cond a x z)
+pub exchanged : {X : Type 0} (a b : Bool) (x y z : X) → (a ≡ true → b ≡ true → ⊥) → cond a x (cond b y z) ≡ cond b y (cond a x z)
 exchanged true true x y z apart = absurd (apart refl refl)
 exchanged true false x y z apart = refl
 exchanged false b x y z apart = refl
@@ -246,133 +244,6 @@ pub adjust-none : {X : Type 0} (m : FinMap nat_cmp X) (n : ℕ) (g : X → X) �
 unfolding adjust
 adjust-none m n g e = ap (adjusted m n g) e
 
--- an object more
-all-append : (n : ℕ) (es fs : List Entry) → AllByRecursion (λ l. n < l.number) es → AllByRecursion (λ l. n < l.number) fs
-    → AllByRecursion (λ l. n < l.number) (es ++ fs)
-all-append n [] fs all more = more
-all-append n (x ∷ es) fs all more = (all.0, all-append n es fs all.1 more)
-
-all-take : (n : ℕ) (i : ℕ) (es : List Entry) → AllByRecursion (λ l. n < l.number) es → AllByRecursion (λ l. n < l.number) (take i es)
-all-take n zero es all = tt
-all-take n (suc i) [] all = all
-all-take n (suc i) (x ∷ es) all = (all.0, all-take n i es all.1)
-
-all-drop : (n : ℕ) (i : ℕ) (es : List Entry) → AllByRecursion (λ l. n < l.number) es → AllByRecursion (λ l. n < l.number) (drop i es)
-all-drop n zero es all = all
-all-drop n (suc i) [] all = all
-all-drop n (suc i) (x ∷ es) all = all-drop n i es all.1
-
-abbrev with_entry : ℕ → Entry → List Entry → List Entry
-with_entry i new es = take i es ++ new ∷ drop i es
-
-pub object_at-add : (es : List Entry) (i : ℕ) (new : Entry) (q : ℕ) → object_at new.number es ≡ None
-    → object_at q (with_entry i new es) ≡ cond (same q new.number) (Some new.object) (object_at q es)
-object_at-add es zero new q none = refl
-object_at-add [] (suc i) new q none = refl
-object_at-add (x ∷ es) (suc i) new q none = by (object_at-add es i new q) (same new.number x.number) refl none
-  where
-    by : (object_at new.number es ≡ None → object_at q (with_entry i new es) ≡ cond (same q new.number) (Some new.object) (object_at q es))
-        → (b : Bool) → same new.number x.number ≡ b → cond b (Some x.object) (object_at new.number es) ≡ None
-        → object_at q (with_entry (suc i) new (x ∷ es))
-        ≡ cond (same q new.number) (Some new.object) (cond (same q x.number) (Some x.object) (object_at q es))
-    by rest true t none = cc
-    by rest false t none =
-        ap (cond (same q x.number) (Some x.object)) (rest none)
-        ∙ exchanged (same q x.number) (same q new.number) (Some x.object) (Some new.object) (object_at q es)
-        (λ here there. true≢false (sym here ∙ (λ k. same (same-is q new.number there k) x.number) ∙ t))
-
-pub by_number-add : {X : Type 0} (read : Object → X) (es : List Entry) (i : ℕ) (new : Entry) → object_at new.number es ≡ None
-    → by_number read (with_entry i new es) ≡ insert (by_number read es) new.number (read new.object)
-by_number-add {X} read es i new none =
-    same_map nat_cmp_total nat_cmp-IsAntisymmetric _ _ (λ q.
-    get-by_number read (with_entry i new es) q ∙ ap (option_map read) (object_at-add es i new q none) ∙ by (same q new.number) (object_at q es)
-    ∙ ap (cond (same q new.number) (Some (read new.object))) (sym (get-by_number read es q))
-    ∙ sym (get-insert nat_cmp_total (by_number read es) new.number (read new.object) q))
-  where
-    by : (b : Bool) (o : Option Object) → ◌≡◌ {A = Option X} (option_map read (cond b (Some new.object) o))
-        (cond b (Some (read new.object)) (option_map read o))
-    by true o = refl
-    by false o = refl
-
--- it goes where the smaller numbers end
-pub rising-add : (es : List Entry) (i : ℕ) (new : Entry) → IsRising es → object_at new.number es ≡ None
-    → AllWithin (λ e. e.number < new.number) es 0 i → AllWithin (λ e. new.number ≤ e.number) es i (length es) → IsRising (with_entry i new es)
-rising-add [] zero new rises none low high = (tt, tt)
-rising-add [] (suc i) new rises none low high = (tt, tt)
-rising-add (x ∷ es) zero new rises none low high =
-    let from : new.number ≤ x.number = high 0 x (omega arith) (omega arith) in
-    let apart : new.number ≡ x.number → ⊥ = λ is. there is none in
-    let more : new.number < x.number = omega arith in
-    ((more, all-later new.number x.number es more rises.0), rises)
-  where
-    there : new.number ≡ x.number → cond (same new.number x.number) (Some x.object) (object_at new.number es) ≡ None → ⊥
-    there is none =
-        let b : same new.number x.number ≡ true = subst (λ k. same new.number k ≡ true) is (same-itself new.number) in
-        let some : Some x.object ≡ None = sym (ap (λ b. cond b (Some x.object) (object_at new.number es)) b) ∙ none in
-        cc
-rising-add (x ∷ es) (suc i) new rises none low high =
-    let before : x.number < new.number = low 0 x (omega arith) (omega arith) in
-    let apart = differs new.number x.number (λ is. omega arith) in (
-      all-append x.number (take i es) (new ∷ drop i es) (all-take x.number i es rises.0) (before, all-drop x.number i es rises.0),
-      rising-add es i new rises.1 (sym (ap (λ b. cond b (Some x.object) (object_at new.number es)) apart) ∙ none)
-          (λ k d h l. low (suc k) d (omega arith) (omega arith)) (λ k d h l. high (suc k) d (omega arith) (omega arith)),
-    )
-
--- the objects below a number
-pub rising-take : (es : List Entry) (i : ℕ) → IsRising es → IsRising (take i es)
-rising-take es zero rises = tt
-rising-take [] (suc i) rises = rises
-rising-take (x ∷ es) (suc i) rises = (all-take x.number i es rises.0, rising-take es i rises.1)
-
-none-later : (q : ℕ) (n : ℕ) (es : List Entry) → q < n → AllByRecursion (λ l. n ≤ l.number) es → object_at q es ≡ None
-none-later q n [] h all = refl
-none-later q n (x ∷ es) h all =
-    ap (λ b. cond b (Some x.object) (object_at q es)) (differs q x.number (λ is. omega (arith, all.0))) ∙ none-later q n es h all.1
-
-from-all : (n : ℕ) (es : List Entry) → AllWithin (λ e. n ≤ e.number) es 0 (length es) → AllByRecursion (λ l. n ≤ l.number) es
-from-all n [] all = tt
-from-all n (x ∷ es) all = (all 0 x (omega arith) (omega arith), from-all n es (λ k d h l. all (suc k) d (omega arith) (omega arith)))
-
-pub object_at-cut : (es : List Entry) (i next : ℕ) (q : ℕ) → AllWithin (λ e. e.number < next) es 0 i
-    → AllWithin (λ e. next ≤ e.number) es i (length es) → object_at q (take i es) ≡ cond (nat_lt q next) (object_at q es) None
-object_at-cut es zero next q low high = by (nat_lt q next) refl
-  where
-    by : (b : Bool) → nat_lt q next ≡ b → ◌≡◌ {A = Option Object} None (cond b (object_at q es) None)
-    by true t = sym (none-later q next es (ltb-true q next t) (from-all next es high))
-    by false t = refl
-object_at-cut [] (suc i) next q low high = by (nat_lt q next)
-  where
-    by : (b : Bool) → ◌≡◌ {A = Option Object} None (cond b None None)
-    by true = refl
-    by false = refl
-object_at-cut (x ∷ es) (suc i) next q low high =
-    ap (cond (same q x.number) (Some x.object))
-    (object_at-cut es i next q (λ k d h l. low (suc k) d (omega arith) (omega arith)) (λ k d h l. high (suc k) d (omega arith) (omega arith)))
-    ∙ by (same q x.number) refl (nat_lt q next) refl
-  where
-    by : (b : Bool) → same q x.number ≡ b → (c : Bool) → nat_lt q next ≡ c
-        → cond b (Some x.object) (cond c (object_at q es) None) ≡ cond c (cond b (Some x.object) (object_at q es)) None
-    by true t true u = refl
-    by true t false u =
-        let is = same-is q x.number t in
-        let small : x.number < next = low 0 x (omega arith) (omega arith) in
-        let great : next ≤ q = ltb-false q next u in
-        absurd (omega arith)
-    by false t c u = refl
-
-pub by_number-cut : {X : Type 0} (read : Object → X) (es : List Entry) (i next : ℕ) → AllWithin (λ e. e.number < next) es 0 i
-    → AllWithin (λ e. next ≤ e.number) es i (length es) → by_number read (take i es) ≡ retain_keys (by_number read es) (λ number. nat_lt number next)
-by_number-cut {X} read es i next low high =
-    same_map nat_cmp_total nat_cmp-IsAntisymmetric _ _ (λ q.
-    get-by_number read (take i es) q ∙ ap (option_map read) (object_at-cut es i next q low high) ∙ by (nat_lt q next) (object_at q es)
-    ∙ ap (λ o. cond (nat_lt q next) o None) (sym (get-by_number read es q))
-    ∙ sym (get-retain_keys (by_number read es) (λ number. nat_lt number next) q
-    (λ x t. ap (λ n. nat_lt n next) (sym (nat_cmp-IsAntisymmetric q x t)))))
-  where
-    by : (b : Bool) (o : Option Object) → ◌≡◌ {A = Option X} (option_map read (cond b o None)) (cond b (option_map read o) None)
-    by true o = refl
-    by false o = refl
-
 -- how many objects there are
 pub len-by_number : {X : Type 0} (read : Object → X) (es : List Entry) → IsRising es → len (by_number read es) ≡ length es
 unfolding by_number set_at
@@ -443,75 +314,3 @@ get-changed read n es i old object a =
     get-by_number read (set es i (record { number = old.number; object = object })) n
     ∙ ap (option_map read) (object_at-set n es i (record { number = old.number; object = object }) n a.at (number-at n es i old a)
     ∙ ap (λ b. cond b (Some object) (object_at n es)) (same-itself n))
-
--- the least number from one on
-none-by : {X : Type 0} (read : Object → X) (es : List Entry) (q : ℕ) → object_at q es ≡ None → get (by_number read es) q ≡ None
-none-by read es q e = get-by_number read es q ∙ ap (option_map read) e
-
-all-from : (n : ℕ) (es : List Entry) → AllByRecursion (λ l. n < l.number) es → AllByRecursion (λ l. n ≤ l.number) es
-all-from n [] all = tt
-all-from n (x ∷ es) all = (omega (arith, all.0), all-from n es all.1)
-
-pub record IsFirstAt (es : List Entry) (least : ℕ) (first : ℕ) : Type 0 where
-  pub from : least ≤ first
-  pub there : is_some (object_at first es) ≡ true
-  pub none : (q : ℕ) → least ≤ q → q < first → object_at q es ≡ None
-
-past : (es : List Entry) (x : Entry) (q : ℕ) → x.number < q → object_at q (x ∷ es) ≡ object_at q es
-past es x q h = ap (λ b. cond b (Some x.object) (object_at q es)) (differs q x.number (λ is. omega arith))
-
-pub first-at : (es : List Entry) (i least : ℕ) (entry : Entry) → IsRising es → AllWithin (λ e. e.number < least) es 0 i
-    → AllWithin (λ e. least ≤ e.number) es i (length es) → slice_get es i ≡ Some entry → IsFirstAt es least entry.number
-first-at [] i least entry rises low high e = cc
-first-at (x ∷ es) zero least entry rises low high e =
-    let same : x ≡ entry = cc in
-    subst (λ (y : Entry). IsFirstAt (x ∷ es) least y.number) same (record {
-      from = high 0 x (omega arith) (omega arith);
-      there = ap (λ b. is_some (cond b (Some x.object) (object_at x.number es))) (same-itself x.number);
-      none = λ q h l. none-later q x.number (x ∷ es) l (omega arith, all-from x.number es rises.0);
-    })
-first-at (x ∷ es) (suc i) least entry rises low high e =
-    let rest = first-at es i least entry rises.1 (λ k d h l. low (suc k) d (omega arith) (omega arith))
-    (λ k d h l. high (suc k) d (omega arith) (omega arith)) e in
-    let small : x.number < least = low 0 x (omega arith) (omega arith) in
-    let far : least ≤ entry.number = rest.from in
-    record {
-      from = rest.from;
-      there = ap is_some (past es x entry.number (omega arith)) ∙ rest.there;
-      none = λ q h l. past es x q (omega arith) ∙ rest.none q h l;
-    }
-
-pub none-at : (es : List Entry) (i least q : ℕ) → IsRising es → AllWithin (λ e. e.number < least) es 0 i → slice_get es i ≡ None → least ≤ q
-    → object_at q es ≡ None
-none-at [] i least q rises low e h = refl
-none-at (x ∷ es) zero least q rises low e h = cc
-none-at (x ∷ es) (suc i) least q rises low e h =
-    let small : x.number < least = low 0 x (omega arith) (omega arith) in
-    past es x q (omega arith) ∙ none-at es i least q rises.1 (λ k d h l. low (suc k) d (omega arith) (omega arith)) e h
-
-some-by : {X : Type 0} (read : Object → X) (o : Option Object) → is_some o ≡ true → is_some (option_map read o) ≡ true
-some-by read None e = e
-some-by read (Some x) e = refl
-
-pub first-from : (es : List Entry) (i least : ℕ) (entry : Entry) → IsRising es → AllWithin (λ e. e.number < least) es 0 i
-    → AllWithin (λ e. least ≤ e.number) es i (length es) → slice_get es i ≡ Some entry → IsFirstFrom (things_of es) least (Some entry.number)
-first-from es i least entry rises low high e =
-    let first = first-at es i least entry rises low high e in (
-      first.from,
-      ap is_some (get-by_number thing_of es entry.number) ∙ some-by thing_of (object_at entry.number es) first.there,
-      λ q h l. none-by thing_of es q (first.none q h l),
-    )
-
-pub none-from : (es : List Entry) (i least : ℕ) → IsRising es → AllWithin (λ e. e.number < least) es 0 i → slice_get es i ≡ None
-    → IsFirstFrom (things_of es) least None
-none-from es i least rises low e = λ q h. none-by thing_of es q (none-at es i least q rises low e h)
-
-pub slice_get-at : (es : List Entry) (i : ℕ) (d : Entry) → i < length es → slice_get es i ≡ Some (get_or es i d)
-slice_get-at [] i d h = absurd (omega arith)
-slice_get-at (x ∷ es) zero d h = refl
-slice_get-at (x ∷ es) (suc i) d h = slice_get-at es i d (omega arith)
-
-pub slice_get-past : (es : List Entry) (i : ℕ) → length es ≤ i → slice_get es i ≡ None
-slice_get-past [] i h = refl
-slice_get-past (x ∷ es) zero h = absurd (omega arith)
-slice_get-past (x ∷ es) (suc i) h = slice_get-past es i (omega arith)

@@ -1,35 +1,25 @@
 -- A new store: what is true of it.
-use Rattle.std.proofs.Common.{◌≡◌, ◌∙◌, ap, sym, subst, refl, ℕ, zero, suc, ◌+◌, ◌-◌, ◌<◌, ◌≤◌, ◌^◌, Bool, true, false, cond, ◌||◌, nat_lt, List, [], ◌∷◌, ◌++◌, length, take, drop, reverse, Option, None, Some, is_some, true≢false, ltb-true, ltb-false, lt-ltb, arith}
+use Rattle.std.proofs.Common.{◌≡◌, ◌∙◌, ap, sym, subst, refl, ℕ, ◌+◌, ◌<◌, ◌≤◌, ◌^◌, true, List, [], length, reverse, Option, None, Some, is_some, arith}
 use Rattle.std.specs.List.{AllByRecursion}
 use Rattle.std.specs.Option.{option_map}
-use Rattle.std.specs.Ordering.{nat_cmp, eq_by_cmp}
-use Rattle.std.specs.Cmp.{nat_cmp_total}
-use Rattle.std.specs.FinMap.{FinMap, get, insert, len, len-insert, get-insert, get-retain_keys, nat_cmp-IsAntisymmetric}
-use Rattle.std.proofs.lemmas.List.{length-reverse}
-use Rattle.t3_undo.specs.Content.{Parts, Places, Present}
-use Rattle.t3_undo.specs.Objects.{Objects, OldPart, Segment, before, put_back, with_part}
-use Rattle.t3_undo.specs.Journal.{Held, newest_next}
-use Rattle.t3_undo.specs.UndoLaw as law
-use Rattle.t3_undo.specs.declared.cell.Cell.{Cell}
-use Rattle.t3_undo.specs.Objects as journaled
-use Rattle.t3_undo.proofs.PuttingBack.{get-before}
+use Rattle.std.specs.FinMap.{get, len}
+use Rattle.t3_undo.specs.Content.{Parts}
+use Rattle.t3_undo.specs.Objects.{Objects}
+use Rattle.t3_undo.specs.Journal.{Held}
 use Rattle.std.specs.Prelude.{option_and_then}
-use Rattle.t3_store.specs.Value.{Value, units_in, units_of, is_past, supers_of}
-use Rattle.t3_store.specs.Store.{either, Mark, AreLimits, AreBelow, started}
+use Rattle.t3_store.specs.Value.{units_in, supers_of}
+use Rattle.t3_store.specs.Store.{either, AreLimits, AreBelow, started}
 use Rattle.t3_store.specs.Value.{Objects as Values}
-use Rattle.t3_store.specs.Inner.Shapes.{Shape, Stored, values, value_of, has_place, has_place_in, places_below, AreWithin}
-use Rattle.t3_store.specs.Inner.Valid.{AreValid}
-use Rattle.t3_store.specs.Inner.Store.{marks_of, store_of, CanAllBePut, IsSound, AreNumbered, IsFront, saved_units, IsStore, IsPersistent, AreKindsKept, AreRecordsWithin}
+use Rattle.t3_store.specs.Inner.Shapes.{Shape, Stored, values, value_of, AreWithin}
+use Rattle.t3_store.specs.Inner.Store.{marks_of, store_of, IsSound, AreNumbered, IsFront, saved_units, IsStore, AreKindsKept}
 use Rattle.t3_store.specs.Whole.{IsWhole, supers_in, supers_among}
 use Rattle.t3_store.specs.Inner.Whole.{supers_from, supers_of_both, AreWhole}
 use Rattle.t3_store.specs.declared.limits.StoreLimits.{StoreLimits}
-use Rattle.t3_store.proofs.Rows.{differs, same, same-is}
-use Rattle.t3_store.proofs.MapValues.{get-values, values-insert, units_in-new}
-use Rattle.t3_store.proofs.Marks.{marks-saved, marks-take, marks-made}
-use Rattle.t3_undo.proofs.Maps.{get-adjust}
-use Rattle.t3_store.proofs.Keeping.{some-set, front-take, front-cons, front-drop}
-use Rattle.t3_store.proofs.WholeKept.{HasSupers, whole-undone, whole-created, whole-made, whole-saved, whole-started, supers-values, supers-both}
-use Rattle.t3_store.proofs.KindsKept.{kinds-saved, kinds-undone, kinds-created, kinds-made, kinds-started}
+use Rattle.t3_store.proofs.Rows.{same}
+use Rattle.t3_store.proofs.MapValues.{get-values}
+use Rattle.t3_store.proofs.WholeStarted.{whole-started}
+use Rattle.t3_store.proofs.WholeWritten.{supers-values, supers-both}
+use Rattle.t3_store.proofs.KindsKept.{kinds-started}
 
 -- a new store
 pub unvalued : (m : Objects Shape) (o : Values) (q : ℕ) → values m ≡ o → get o q ≡ None → get m q ≡ None

@@ -1,7 +1,7 @@
 -- Ticks within a bound, as objects come, go and change.
-use Rattle.std.proofs.Common.{◌≡◌, ◌∙◌, ap, sym, subst, refl, ℕ, zero, suc, ◌+◌, ◌-◌, ◌≤◌, nat_lt, length, take, drop, Bool, true, false, cond, List, [], ◌∷◌, Option, None, Some, is_some, true≢false, arith}
+use Rattle.std.proofs.Common.{◌≡◌, ◌∙◌, ap, sym, refl, ℕ, zero, suc, ◌+◌, ◌-◌, ◌≤◌, nat_lt, length, take, drop, Bool, true, false, cond, List, [], ◌∷◌, Option, None, Some, is_some, true≢false, arith}
 use Rattle.std.specs.Option.{option_map}
-use Rattle.std.specs.Ordering.{nat_cmp, eq_by_cmp}
+use Rattle.std.specs.Ordering.{nat_cmp}
 use Rattle.std.specs.Cmp.{nat_cmp_total, Equal-is}
 use Rattle.std.specs.List.{AllByRecursion}
 use Rattle.std.specs.FinMap.{FinMap, get, insert, empty, get-empty, get-insert, get-retain_keys, nat_cmp-IsAntisymmetric}

@@ -1,5 +1,5 @@
 -- What a change of a vector's parts does to its items, where no element is missing.
-use Rattle.std.proofs.Common.{◌≡◌, ◌∙◌, ap, sym, subst, refl, ℕ, zero, suc, ◌+◌, ◌-◌, ◌<◌, ◌≤◌, ◌==◌, Bool, true, false, cond, ◌&&◌, ◌||◌, List, [], ◌∷◌, ◌++◌, length, take, map, slice_get, set as slice_set, Option, None, Some, IsTrue, IsSome, is_some, true≢false, nat_lt, ltb-true, ltb-false, lt-ltb, eqb-true, length-set, length-append, arith}
+use Rattle.std.proofs.Common.{◌≡◌, ◌∙◌, ap, sym, refl, ℕ, zero, suc, ◌+◌, ◌-◌, ◌<◌, ◌≤◌, ◌==◌, Bool, true, false, cond, ◌&&◌, ◌||◌, List, [], ◌∷◌, ◌++◌, length, take, map, slice_get, set as slice_set, Option, None, Some, IsSome, is_some, true≢false, nat_lt, ltb-true, ltb-false, lt-ltb, eqb-true, length-set, length-append, arith}
 use Rattle.std.specs.Option.{option_map}
 use Rattle.std.specs.FinMap.{get}
 use Rattle.t3_holder.specs.declared.holder.Holder.{Holder}
@@ -12,7 +12,7 @@ use Rattle.t3_lists.specs.Inner.Elements.{content_found}
 use Rattle.t3_lists.proofs.ElementLists.{get-parts}
 use Rattle.t3_lists.proofs.Items.{items-filled, filled-push, filled-set, filled-pop, place-below}
 use Rattle.t3_store.specs.Inner.Valid.{IsWholeVector}
-use Rattle.t3_store.specs.Value.{element_of, element_at, set_item, with_element, but_last, without_element, is_element_within, is_element_for, is_last}
+use Rattle.t3_store.specs.Value.{element_at, set_item, with_element, but_last, without_element, is_element_within, is_element_for, is_last}
 
 abbrev Items : Type 0
 Items = List Holder

@@ -1,5 +1,5 @@
 -- The values of objects, by kind: what stands in their cells, how a cell is set, and how much they count.
-use Rattle.std.specs.Prelude.{◌≡◌, ◌<◌, ◌≤◌, ℕ, zero, suc, ◌+◌, ◌-◌, ◌/◌, ◌==◌, Bool, true, false, not, ◌&&◌, ◌||◌, if◌then◌else◌, List, [], ◌∷◌, ◌++◌, Option, None, Some, map, filter, take, length, slice_get, slice_set, sum_by, MatchOption, IsSome, is_some, option_and_then, nat_lt, refl}
+use Rattle.std.specs.Prelude.{◌≡◌, ◌<◌, ◌≤◌, ℕ, zero, suc, ◌+◌, ◌-◌, ◌==◌, Bool, true, false, not, ◌&&◌, ◌||◌, if◌then◌else◌, List, [], ◌∷◌, ◌++◌, Option, None, Some, map, filter, take, length, slice_get, slice_set, sum_by, MatchOption, IsSome, is_some, option_and_then, nat_lt, refl}
 use Rattle.std.specs.Int.{div_ceil}
 use Rattle.std.specs.Ordering.{nat_cmp, eq_by_cmp}
 use Rattle.std.specs.FinMap.{FinMap, empty, get, insert, remove, len, entries, from_entries, code as coded_map}

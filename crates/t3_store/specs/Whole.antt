@@ -1,5 +1,5 @@
 -- Superclasses among objects, and what it means that nothing of them is broken.
-use Rattle.std.specs.Prelude.{◌≡◌, ℕ, Bool, if◌then◌else◌, List, None, Some, IsSome, MatchOption, option_and_then}
+use Rattle.std.specs.Prelude.{◌≡◌, ◌<◌, ◌≤◌, ◌^◌, ◌⊎◌, ℕ, Bool, if◌then◌else◌, List, None, Some, IsSome, MatchOption, option_and_then}
 use Rattle.std.specs.List.{AllByRecursion}
 use Rattle.std.specs.FinMap.{get}
 use Rattle.t3_tadsobj.specs.Order.{SupersAt, IsAncestor}
@@ -42,3 +42,12 @@ IsAcyclic at = (number : ℕ) → ¬ IsAncestor at number number
 pub record IsWhole (at : SupersAt) : Type 0 where
   pub there : (number : ℕ) (supers : List ℕ) → at number ≡ Some supers → AreThere at supers
   pub acyclic : IsAcyclic at
+
+-- objects have numbers from 1 on that were given: persistent ones below the next number, transient ones below it too, or from
+-- 2^31 on and below the next transient number; and no number is in both halves
+pub record HasGivenNumbers (s : StoreValue) : Type 0 where
+  pub persistent : (number : ℕ) → IsSome (get s.persistent number) → (0 < number) × (number < s.next)
+  pub transient : (number : ℕ) → IsSome (get s.transient number) → (0 < number) × ((number < s.next) ⊎ ((2 ^ 31 ≤ number) × (number < s.next_transient)))
+  pub apart : AreApart s.persistent s.transient
+  pub next : (0 < s.next) × (s.next ≤ 2 ^ 31)
+  pub next_transient : (2 ^ 31 ≤ s.next_transient) × (s.next_transient ≤ 2 ^ 32)

@@ -1,6 +1,6 @@
 //! Objects by their numbers: those that an image brings, and the store in which a run keeps them.
 //!
-//! A [`Persistent`] holds the objects of an image. A [`Store`] holds those of a run, in two halves: the
+//! An object is a tads-object, a string, a list, a vector or a table. A [`Persistent`] holds the objects of an image. A [`Store`] holds those of a run, in two halves: the
 //! persistent ones, which a savepoint keeps, and the transient ones, which it doesn't:
 //!
 //! ```text
@@ -18,6 +18,9 @@
 //! has a limit for its objects and one for its units, which are what the objects count by their contents: a
 //! call that would go past one answers `Full`, and changes nothing.
 //!
+//! A vector has no gap: an element is set up to one behind the last, and only the last is taken away. A table's
+//! entries stand in the order in which they were added, also after an undo.
+//!
 //! Superclasses stay whole: those of a persistent object are persistent, and no walk over superclasses comes
 //! back, whatever is made, changed and undone. [`Store::kind`] says so where a search needs it.
 #![tactic(auto)]
@@ -29,6 +32,8 @@ mod new_object;
 mod object;
 mod object_map;
 mod persistent;
+#[cfg(test)]
+mod random_tests;
 mod store;
 mod table_cells;
 #[cfg(test)]

@@ -8,7 +8,8 @@ use thiserror::Error;
 #[derive(Clone, Copy, Debug, PartialEq, Eq)]
 pub struct StoreLimits {
     pub objects: u32,
-    /// What objects count by their contents: a property or a superclass is one.
+    /// What objects count by their contents: a property, a superclass or an element is one, and so are each
+    /// eight bytes of a string. An entry of a table is one besides the bytes of a text that is its key.
     pub units: u32,
     pub records: u32,
     pub savepoints: u32,

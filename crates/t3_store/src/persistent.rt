@@ -126,9 +126,10 @@ impl Persistent {
         self.objects.get(number, cell).value()
     }
 
-    /// What the object of a number is.
+    /// What the object of a number is. Numbers are from 1 on and below 2^31.
     pub fn kind(&self, number: u32) -> Option<Kind>
-        ensures { result ≡ option_map kind_of (get self.now number) }
+        ensures kind { result ≡ option_map kind_of (get self.now number) }
+        ensures number { IsSome (get self.now number) → (0 < number) × (number < 2 ^ 31) }
     {
         self.objects.kind(number)
     }

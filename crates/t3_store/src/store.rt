@@ -3,7 +3,7 @@ ghost use Rattle.std.specs.FinMap.{get, len, entries};
 ghost use Rattle.std.specs.List.Sorted.{IsStrictlyIncreasing};
 ghost use Rattle.t3_store.specs.Value.{Objects, holder_at, can_have_at, can_lose_at, can_be_written, new_value, text_of, items_in, length_of, entries_in, HasFittingLength, kind_of, supers_of, is_class_at, props_at, units_of, units_in};
 ghost use Rattle.t3_store.specs.Store.{AreLimits, AreBelow, value_at, objects_in, store_units, started, is_full_with, no_number, with_object, created_in, after_write, written, taken, set_cell, saved, undone, is_held, changed_cells};
-ghost use Rattle.t3_store.specs.Whole.{AreApart, IsWhole, HasSupersIn, supers_in, supers_among, supers_of_live, supers_for};
+ghost use Rattle.t3_store.specs.Whole.{AreApart, IsWhole, HasGivenNumbers, HasSupersIn, supers_in, supers_among, supers_of_live, supers_for};
 ghost use Rattle.t3_store.specs.Inner.Shapes.{thing_of, tick_of, value_of, values};
 ghost use Rattle.t3_store.specs.Inner.Valid.{IsValid};
 ghost use Rattle.t3_tadsobj.specs.Order.{IsAcyclicFrom};
@@ -424,9 +424,10 @@ impl Store {
         self.writes
     }
 
-    /// The number of the next persistent object.
+    /// The number of the next persistent object. Objects have numbers that were given, and no two have the same.
     pub fn next(&self) -> u32
-        ensures { result ≡ self.now.store.next }
+        ensures next { result ≡ self.now.store.next }
+        ensures numbers { HasGivenNumbers self.now.store }
     {
         self.next
     }

@@ -1,19 +1,21 @@
 //! The store as a whole, on small worked cases.
-ghost use Rattle.std.specs.Prelude.{◌≡◌, ◌<◌, ◌≤◌, ◌^◌, IfOk, OnOk};
+ghost use Rattle.std.specs.Prelude.{◌≡◌, ◌<◌, ◌≤◌, ◌^◌, length, IfOk, OnOk};
 ghost use Rattle.std.specs.Prelude.{Some, []};
 ghost use Rattle.t3_store.specs.Store.{started};
-ghost use Rattle.t3_store.specs.Value.{new_value, supers_of};
+ghost use Rattle.t3_store.specs.Value.{new_value, supers_of, HasFittingLength};
 
 use super::*;
 use std::alloc::Global;
 use std::test::Fail;
-use t3_holder::{Holder, NoMemory};
+use t3_holder::{Bytes, Holder, NoMemory};
+use t3_lists::Holders;
 use t3_tadsobj::Props;
-use t3_undo::{Cell, Numbers};
+use t3_undo::{Cell, Key, Numbers};
 
 /// What a tads-object without anything is made of.
-fn plain(alloc: Global) -> NewObject
-    ensures { supers_of (new_value result) ≡ Some [] }
+pub(crate) fn plain(alloc: Global) -> NewObject
+    ensures supers { supers_of (new_value result) ≡ Some [] }
+    ensures length { HasFittingLength (new_value result) }
 {
     NewObject::Tads {
         supers: Numbers(Vec::new(alloc)),
@@ -23,7 +25,7 @@ fn plain(alloc: Global) -> NewObject
 }
 
 /// A store without objects, with room for so many.
-fn empty_store(
+pub(crate) fn empty_store(
     alloc: Global,
     objects: u32,
     units: u32,
@@ -55,34 +57,101 @@ fn create(store: &mut Store, alloc: Global, transient: bool) -> Result<u32, Stor
     store.create(plain(alloc), transient)
 }
 
-/// Sets a property to a number, or takes it away. `false` where the store is full.
-fn set(store: &mut Store, number: u32, prop: u16, value: Option<i32>) -> Result<bool, Fail> {
-    let Some(Kind::Tads) = store.kind(number) else {
-        return Err(Fail::from("a tads-object"));
-    };
+/// A list of numbers.
+fn numbers(alloc: Global, values: &[i32]) -> Result<Holders, NoMemory>
+    ensures { IfOk result (λ items. length items ≡ length values.now) }
+{
+    let items = values.iter().map(|value| Holder::Int(*value));
+    Ok(Holders(items.collect(alloc)?))
+}
+
+/// Few writes were made so far.
+fn few_writes(store: &Store) -> Result<(), Fail>
+    ensures { OnOk result (store.now.writes < 1000) }
+{
     if store.writes() >= 1000 {
         return Err(Fail::from("few writes"));
     }
-    match store.write(number, Cell::Prop(prop), value.map(Holder::Int)) {
+    Ok(())
+}
+
+/// `false` where the store is full.
+pub(crate) fn answer(written: Result<(), StoreRefusal>) -> Result<bool, Fail> {
+    match written {
         Ok(()) => Ok(true),
         Err(StoreRefusal::Full) => Ok(false),
         Err(StoreRefusal::NoMemory) => Err(Fail::from("memory")),
     }
 }
 
-/// Sets a property that is there anew.
-fn overwrite(store: &mut Store, number: u32, prop: u16, value: i32) -> Result<(), Fail> {
-    let Some(_) = store.get(number, &Cell::Prop(prop)) else {
-        return Err(Fail::from("a property"));
+/// Sets a property to a number, or takes it away. `false` where the store is full.
+pub(crate) fn set(
+    store: &mut Store,
+    number: u32,
+    prop: u16,
+    value: Option<i32>,
+) -> Result<bool, Fail> {
+    let Some(Kind::Tads) = store.kind(number) else {
+        return Err(Fail::from("a tads-object"));
     };
-    if store.writes() >= 1000 {
-        return Err(Fail::from("few writes"));
+    few_writes(store)?;
+    answer(store.write(number, Cell::Prop(prop), value.map(Holder::Int)))
+}
+
+/// Sets the entry under a key to a number, or takes it away. `false` where the store is full.
+pub(crate) fn set_key(
+    store: &mut Store,
+    number: u32,
+    key: Key,
+    value: Option<i32>,
+) -> Result<bool, Fail> {
+    let Some(Kind::Table) = store.kind(number) else {
+        return Err(Fail::from("a table"));
+    };
+    few_writes(store)?;
+    answer(store.write(number, Cell::Key(key), value.map(Holder::Int)))
+}
+
+/// Sets an element to a number. `false` where the store is full.
+pub(crate) fn set_element(
+    store: &mut Store,
+    number: u32,
+    element: u32,
+    value: i32,
+) -> Result<bool, Fail> {
+    let Some(length) = store.length(number) else {
+        return Err(Fail::from("a vector"));
+    };
+    if element == 0 || element > 65_535 || element - 1 > length {
+        return Err(Fail::from("an element"));
     }
-    store.overwrite(number, Cell::Prop(prop), Holder::Int(value));
+    few_writes(store)?;
+    answer(store.write(number, Cell::Elem(element), Some(Holder::Int(value))))
+}
+
+/// Takes the last element away.
+pub(crate) fn take_last(store: &mut Store, number: u32) -> Result<bool, Fail> {
+    let Some(length) = store.length(number) else {
+        return Err(Fail::from("a vector"));
+    };
+    if length == 0 {
+        return Err(Fail::from("an element"));
+    }
+    few_writes(store)?;
+    answer(store.write(number, Cell::Elem(length), None))
+}
+
+/// Sets what stands in a cell anew.
+fn overwrite(store: &mut Store, number: u32, cell: Cell, value: i32) -> Result<(), Fail> {
+    let Some(_) = store.get(number, &cell) else {
+        return Err(Fail::from("a present cell"));
+    };
+    few_writes(store)?;
+    store.overwrite(number, cell, Holder::Int(value));
     Ok(())
 }
 
-fn savepoint(store: &mut Store) -> Result<(), Fail> {
+pub(crate) fn savepoint(store: &mut Store) -> Result<(), Fail> {
     if store.marks() >= 1000 {
         return Err(Fail::from("few savepoints"));
     }
@@ -90,55 +159,178 @@ fn savepoint(store: &mut Store) -> Result<(), Fail> {
     Ok(())
 }
 
-/// The number in a property.
-fn value(store: &Store, number: u32, prop: u16) -> Option<i32> {
-    match store.get(number, &Cell::Prop(prop)) {
+/// The number in a cell.
+fn value(store: &Store, number: u32, cell: &Cell) -> Option<i32> {
+    match store.get(number, cell) {
         Some(Holder::Int(value)) => Some(value),
         _ => None,
     }
 }
 
+/// A key of one letter.
+fn letter(alloc: Global, letter: u8) -> Result<Key, NoMemory> {
+    let mut bytes = Vec::new(alloc);
+    bytes.push(letter)?;
+    Ok(Key::Text(Bytes(bytes)))
+}
+
+/// Sets the entries under letters to numbers, or takes those away that have none.
+fn set_letters(
+    store: &mut Store,
+    alloc: Global,
+    number: u32,
+    entries: &[(u8, Option<i32>)],
+) -> Result<bool, Fail> {
+    for (key, value) in entries {
+        if !set_key(store, number, letter(alloc, *key)?, *value)? {
+            return Ok(false);
+        }
+    }
+    Ok(true)
+}
+
+/// Whether a table has just these entries under letters, in this order.
+fn has_letters(
+    store: &Store,
+    alloc: Global,
+    number: u32,
+    expected: &[(u8, i32)],
+) -> Result<bool, Fail> {
+    let Some(Kind::Table) = store.kind(number) else {
+        return Err(Fail::from("a table"));
+    };
+    let entries = store.entries(alloc, number)?;
+    let pairs = entries.items();
+    if pairs.len() != expected.len() {
+        return Ok(false);
+    }
+    for index in 0..pairs.len() {
+        let (key, value) = expected[index];
+        if pairs[index].key != letter(alloc, key)? || pairs[index].value != Holder::Int(value) {
+            return Ok(false);
+        }
+    }
+    Ok(true)
+}
+
+/// Whether a vector has just these numbers.
+fn has_numbers(store: &Store, number: u32, expected: &[i32]) -> bool {
+    if expected.len() > 100 {
+        return false;
+    }
+    for index in 0..expected.len() {
+        if value(store, number, &Cell::Elem(index as u32 + 1)) != Some(expected[index]) {
+            return false;
+        }
+    }
+    store.length(number) == Some(expected.len() as u32)
+}
+
+/// A store with a tads-object, whose property 5 is 10, a vector of 1, 2, 3, and a table with `a` to 1 and `b` to
+/// 2, under the numbers 1, 2, 3.
+fn three_kinds(alloc: Global) -> Result<Store, Fail> {
+    let mut store = empty_store(alloc, 9, 99, 8, 2)?;
+    let object = create(&mut store, alloc, false)?;
+    let _vector = store.create(NewObject::Vector(numbers(alloc, &[1, 2, 3])?), false)?;
+    let table = store.create(NewObject::Table, false)?;
+    let _set = set(&mut store, object, 5, Some(10))?;
+    let _set = set_letters(
+        &mut store,
+        alloc,
+        table,
+        &[(b'a', Some(1)), (b'b', Some(2))],
+    )?;
+    Ok(store)
+}
+
+/// Changes each of the three.
+fn change(store: &mut Store, alloc: Global) -> Result<bool, Fail> {
+    let props = set(store, 1, 5, Some(11))? && set(store, 1, 5, Some(12))?;
+    let elements = take_last(store, 2)? && take_last(store, 2)? && set_element(store, 2, 2, 9)?;
+    let entries = [(b'a', None), (b'c', Some(3)), (b'a', Some(4))];
+    Ok(props && elements && set_letters(store, alloc, 3, &entries)?)
+}
+
 #[test]
-fn what_was_made_since_goes_and_transient_objects_stay(rt: HostRuntime) -> Result<(), Fail> {
+fn all_kinds_change(rt: HostRuntime) -> Result<(), Fail> {
     let alloc = rt.alloc();
-    let mut store = empty_store(alloc, 9, 9, 8, 2)?;
+    let mut store = three_kinds(alloc)?;
     savepoint(&mut store)?;
-    assert_eq!(rt; create(&mut store, alloc, false)?, 1);
-    assert_eq!(rt; create(&mut store, alloc, true)?, 2_147_483_648);
-    assert!(rt; store.undo());
-    assert!(rt; !store.live(1));
-    assert!(rt; store.is_transient(2_147_483_648));
-    assert_eq!(rt; create(&mut store, alloc, false)?, 2);
+    assert!(rt; change(&mut store, alloc)?);
+    assert_eq!(rt; store.records(), 5);
+    assert!(rt; has_numbers(&store, 2, &[1, 9]));
+    assert!(rt; has_letters(&store, alloc, 3, &[(b'b', 2), (b'c', 3), (b'a', 4)])?);
     Ok(())
 }
 
 #[test]
-fn one_savepoint_may_outgrow_the_journal(rt: HostRuntime) -> Result<(), Fail> {
+fn all_kinds_come_back(rt: HostRuntime) -> Result<(), Fail> {
     let alloc = rt.alloc();
-    let mut store = empty_store(alloc, 9, 9, 1, 128)?;
-    let object = create(&mut store, alloc, false)?;
+    let mut store = three_kinds(alloc)?;
     savepoint(&mut store)?;
-    assert!(rt; set(&mut store, object, 1, Some(1))?);
-    overwrite(&mut store, object, 1, 2)?;
-    assert_eq!(rt; store.records(), 1);
-    assert!(rt; set(&mut store, object, 2, Some(3))?);
+    assert!(rt; change(&mut store, alloc)?);
+    assert!(rt; store.undo());
+    assert_eq!(rt; value(&store, 1, &Cell::Prop(5)), Some(10));
+    assert!(rt; has_numbers(&store, 2, &[1, 2, 3]));
+    assert!(rt; has_letters(&store, alloc, 3, &[(b'a', 1), (b'b', 2)])?);
     assert_eq!(rt; store.held(), 0);
     assert!(rt; !store.undo());
     Ok(())
 }
 
 #[test]
-fn a_further_savepoint_drops_the_oldest(rt: HostRuntime) -> Result<(), Fail> {
+fn what_was_made_since_goes_and_transient_objects_stay(rt: HostRuntime) -> Result<(), Fail> {
     let alloc = rt.alloc();
-    let mut store = empty_store(alloc, 9, 9, 3, 1)?;
+    let mut store = empty_store(alloc, 9, 9, 8, 2)?;
+    assert_eq!(rt; create(&mut store, alloc, false)?, 1);
+    savepoint(&mut store)?;
+    assert_eq!(rt; create(&mut store, alloc, false)?, 2);
+    let transient = create(&mut store, alloc, true)?;
+    assert_eq!(rt; transient, 2_147_483_648);
+    assert!(rt; set(&mut store, transient, 5, Some(7))?);
+    assert!(rt; store.undo());
+    assert!(rt; !store.live(2));
+    assert!(rt; store.is_transient(transient));
+    assert_eq!(rt; value(&store, transient, &Cell::Prop(5)), Some(7));
+    assert_eq!(rt; create(&mut store, alloc, false)?, 3);
+    Ok(())
+}
+
+#[test]
+fn one_savepoint_may_outgrow_the_journal(rt: HostRuntime) -> Result<(), Fail> {
+    let alloc = rt.alloc();
+    let mut store = empty_store(alloc, 9, 9, 2, 128)?;
     let object = create(&mut store, alloc, false)?;
     savepoint(&mut store)?;
-    assert!(rt; set(&mut store, object, 5, Some(1))?);
-    savepoint(&mut store)?;
-    overwrite(&mut store, object, 5, 2)?;
-    assert!(rt; store.undo());
-    assert_eq!(rt; value(&store, object, 5), Some(1));
+    assert!(rt; set(&mut store, object, 1, Some(1))?);
+    assert!(rt; set(&mut store, object, 2, Some(2))?);
+    overwrite(&mut store, object, Cell::Prop(2), 3)?;
+    assert_eq!(rt; store.records(), 2);
+    assert!(rt; set(&mut store, object, 3, Some(4))?);
+    assert_eq!(rt; store.held(), 0);
+    assert_eq!(rt; store.records(), 0);
     assert!(rt; !store.undo());
+    assert_eq!(rt; value(&store, object, &Cell::Prop(3)), Some(4));
+    Ok(())
+}
+
+#[test]
+fn a_further_savepoint_drops_the_oldest(rt: HostRuntime) -> Result<(), Fail> {
+    let alloc = rt.alloc();
+    let mut store = empty_store(alloc, 9, 9, 3, 2)?;
+    let object = create(&mut store, alloc, false)?;
+    assert!(rt; set(&mut store, object, 5, Some(0))?);
+    for value in 1..4 {
+        savepoint(&mut store)?;
+        overwrite(&mut store, object, Cell::Prop(5), value)?;
+    }
+    assert_eq!(rt; store.held(), 2);
+    assert_eq!(rt; store.records(), 2);
+    assert!(rt; store.undo());
+    assert_eq!(rt; value(&store, object, &Cell::Prop(5)), Some(2));
+    assert!(rt; store.undo());
+    assert!(rt; !store.undo());
+    assert_eq!(rt; value(&store, object, &Cell::Prop(5)), Some(1));
     Ok(())
 }
 
@@ -148,6 +340,7 @@ fn limits_are_reached_and_not_passed(rt: HostRuntime) -> Result<(), Fail> {
     let mut store = empty_store(alloc, 1, 1, 8, 2)?;
     let object = create(&mut store, alloc, false)?;
     assert!(rt; create(&mut store, alloc, true) == Err(StoreRefusal::Full));
+    assert_eq!(rt; store.objects(), 1);
     assert!(rt; set(&mut store, object, 1, Some(1))?);
     assert!(rt; !set(&mut store, object, 2, Some(2))?);
     assert!(rt; set(&mut store, object, 1, None)?);
@@ -155,6 +348,25 @@ fn limits_are_reached_and_not_passed(rt: HostRuntime) -> Result<(), Fail> {
         set(&mut store, object, 2, Some(2))?,
         "a unit was given back"
     );
+    Ok(())
+}
+
+/// A key of so many bytes.
+fn long_key(alloc: Global, length: usize) -> Result<Key, NoMemory> {
+    let bytes = Vec::from_elem(alloc, b'k', length)?;
+    Ok(Key::Text(Bytes(bytes)))
+}
+
+#[test]
+fn keys_count_by_eight_bytes(rt: HostRuntime) -> Result<(), Fail> {
+    let alloc = rt.alloc();
+    let mut store = empty_store(alloc, 9, 6, 8, 2)?;
+    let table = store.create(NewObject::Table, false)?;
+    for (length, units) in [(0, 1), (8, 3), (9, 6)] {
+        assert!(rt; set_key(&mut store, table, long_key(alloc, length)?, Some(1))?);
+        assert_eq!(rt; store.units(), units);
+    }
+    assert!(rt; !set_key(&mut store, table, Key::Nil, Some(1))?);
     Ok(())
 }
 

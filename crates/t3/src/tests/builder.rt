@@ -89,21 +89,49 @@ pub(crate) fn outcome(
     Ok((status, Vec::from_slice(alloc, console.shown())?))
 }
 
-/// A method's body, and what its run shows.
-pub(crate) type Row = (&'static [u8], &'static str);
+/// A method's body as lines that are parted by ` / `, and what its run shows.
+pub(crate) type Row = (&'static str, &'static str);
 
-/// One page of code, of at most 128 bytes.
-const LONG_POOL: &[u8] = b"CPDF\x0A\x00\x00\x00\x01\x00\x01\x00\x01\x00\x00\x00\x80\x00\x00\x00";
+/// What stands before the body in the source of a story: the entry, a page of code of at most 128 bytes, and
+/// the function set for input and output.
+const BEFORE: &str =
+    "image / block \"ENTP\" 1 / entry @main 10 10 0 0 0 0 - / block \"CPDF\" 1 / pool 1 1 128 / \
+                      block \"FNSD\" 1 / function-set \"tads-io/030007\" / block \"CPPG\" 1 / page 1 0 0 / main:";
 
 /// The number of the first row whose body doesn't show what it says, in a method of so many locals.
 pub(crate) fn first_unlike(alloc: Global, locals: u8, rows: &[Row]) -> Result<Option<usize>, Fail> {
-    let method = [0, 0, locals, 0, 2, 0, 0, 0, 0, 0];
     for (index, (body, want)) in rows.iter().enumerate() {
-        let file = code_image(alloc, &[ENTRY, LONG_POOL, FUNCTIONS], &method, body)?;
-        let (_, shown) = outcome(alloc, &["run", "a.t3"], Some(&file))?;
+        let source = format!(in alloc; "{BEFORE} / method 0 {locals} 2 0 / {body} / end 0")?;
+        let (_, image) = written(alloc, "asm", &lines(alloc, &source)?)?;
+        let (_, shown) = outcome(alloc, &["run", "a.t3"], Some(&image))?;
         if shown.as_slice() != want.as_bytes() {
             return Ok(Some(index));
         }
     }
     Ok(None)
+}
+
+/// The lines that are parted by ` / `, each ended by a newline.
+pub(crate) fn lines(alloc: Global, parted: &str) -> Result<Vec<u8>, AllocError> {
+    let mut text = Vec::new(alloc);
+    for line in parted.split(" / ") {
+        text.extend_from_slice(line.as_bytes())?;
+        text.push(b'\n')?;
+    }
+    Ok(text)
+}
+
+/// What a command that reads `a.t3` and puts `b.t3` shows, and what it put.
+pub(crate) fn written(
+    alloc: Global,
+    command: &str,
+    file: &[u8],
+) -> Result<(Vec<u8>, Vec<u8>), Fail> {
+    let mut depot = SureDepot::new(alloc);
+    depot.keep(b"a.t3", file)?;
+    let mut console = SureConsole::new(alloc, b"")?;
+    let words = owned(alloc, &[command, "a.t3", "b.t3"])?;
+    let _status = t3_main(alloc, &words, &mut depot, &mut console);
+    let put = Vec::from_slice(alloc, depot.file(b"b.t3").unwrap_or(b""))?;
+    Ok((Vec::from_slice(alloc, console.shown())?, put))
 }

@@ -5,33 +5,31 @@ use std::test::Fail;
 
 /// Each code that pushes a value: what has no text is compared.
 const PUSHES_VALUES: [Row; 6] = [
-    // Pushes numbers.
     (
-        b"\x01\xB1\x01\x00\x02\xB1\x01\x00\x03\x80\xB1\x01\x00\x04\x00\x00\x00\x80\xB1\x01\x00\x04\xFF\xFF\xFF\x7F\xB1\x01\x00\x51",
+        "push_0 / builtin_a 1 0 / push_1 / builtin_a 1 0 / pushint8 -128 / builtin_a 1 0 / pushint -2147483648 / builtin_a 1 0 / pushint 2147483647 / builtin_a 1 0 / retnil",
         "01-128-21474836482147483647\n",
     ),
-    // Nil and true.
-    (b"\x08\xB1\x01\x00\x09\xB1\x01\x00\x51", "true\n"),
+    (
+        "pushnil / builtin_a 1 0 / pushtrue / builtin_a 1 0 / retnil",
+        "true\n",
+    ),
     // A property, a function and an enum are themselves.
     (
-        b"\x0A\x03\x00\x0A\x03\x00\x40\xB1\x01\x00\x0B\x05\x00\x00\x00\x0B\x05\x00\x00\x00\x40\xB1\x01\x00\x0F\x07\x00\x00\x00\x0F\x07\x00\x00\x00\x40\xB1\x01\x00\x51",
+        "pushpropid 3 / pushpropid 3 / eq / builtin_a 1 0 / pushfnptr 5 / pushfnptr 5 / eq / builtin_a 1 0 / pushenum 7 / pushenum 7 / eq / builtin_a 1 0 / retnil",
         "truetruetrue\n",
     ),
     // And of one number they are not one another.
     (
-        b"\x0A\x03\x00\x0F\x03\x00\x00\x00\x41\xB1\x01\x00\x0B\x03\x00\x00\x00\x0F\x03\x00\x00\x00\x41\xB1\x01\x00\x02\x0F\x01\x00\x00\x00\x41\xB1\x01\x00\x51",
+        "pushpropid 3 / pushenum 3 / ne / builtin_a 1 0 / pushfnptr 3 / pushenum 3 / ne / builtin_a 1 0 / push_1 / pushenum 1 / ne / builtin_a 1 0 / retnil",
         "truetruetrue\n",
     ),
     // A property can not be said.
     (
-        b"\x0A\x03\x00\xB1\x01\x00",
+        "pushpropid 3 / builtin_a 1 0",
         "[unhandled object=1 fault=3]\n",
     ),
     // An object is not built yet.
-    (
-        b"\x07\x01\x00\x00\x00\x51",
-        "[bad code at=10 why=Unbuilt]\n",
-    ),
+    ("pushobj 1 / retnil", "[bad code at=10 why=Unbuilt]\n"),
 ];
 
 #[test]
@@ -43,36 +41,28 @@ fn pushes_values(rt: HostRuntime) -> Result<(), Fail> {
 /// Computing of one operand: the plain case, the ends, and what is no integer.
 const COMPUTES_OF_ONE: [Row; 10] = [
     (
-        b"\x03\x05\x20\xB1\x01\x00\x03\x05\x21\xB1\x01\x00\x04\x00\x00\x00\x80\x21\xB1\x01\x00\x01\x2E\xB1\x01\x00\x01\x2F\xB1\x01\x00\x51",
+        "pushint8 5 / neg / builtin_a 1 0 / pushint8 5 / bnot / builtin_a 1 0 / pushint -2147483648 / bnot / builtin_a 1 0 / push_0 / inc / builtin_a 1 0 / push_0 / dec / builtin_a 1 0 / retnil",
         "-5-621474836471-1\n",
     ),
     // The least has no negative.
     (
-        b"\x04\x00\x00\x00\x80\x20",
+        "pushint -2147483648 / neg",
         "[unhandled object=1 fault=5]\n",
     ),
+    ("pushint 2147483647 / inc", "[unhandled object=1 fault=5]\n"),
     (
-        b"\x04\xFF\xFF\xFF\x7F\x2E",
+        "pushint -2147483648 / dec",
         "[unhandled object=1 fault=5]\n",
     ),
+    ("pushnil / neg", "[unhandled object=1 fault=3]\n"),
+    ("pushtrue / bnot", "[unhandled object=1 fault=3]\n"),
+    ("pushenum 1 / inc", "[unhandled object=1 fault=3]\n"),
     (
-        b"\x04\x00\x00\x00\x80\x2F",
-        "[unhandled object=1 fault=5]\n",
-    ),
-    (b"\x08\x20", "[unhandled object=1 fault=3]\n"),
-    (b"\x09\x21", "[unhandled object=1 fault=3]\n"),
-    (
-        b"\x0F\x01\x00\x00\x00\x2E",
-        "[unhandled object=1 fault=3]\n",
-    ),
-    // Truths.
-    (
-        b"\x01\x2C\xB1\x01\x00\x02\x2C\xB1\x01\x00\x08\x2D\xB1\x01\x00\x0F\x00\x00\x00\x00\x2D\xB1\x01\x00\x51",
+        "push_0 / not / builtin_a 1 0 / push_1 / not / builtin_a 1 0 / pushnil / boolize / builtin_a 1 0 / pushenum 0 / boolize / builtin_a 1 0 / retnil",
         "truetrue\n",
     ),
-    // Nothing is there.
-    (b"\x20", "[bad code at=10 why=Underflow]\n"),
-    (b"\x2D", "[bad code at=10 why=Underflow]\n"),
+    ("neg", "[bad code at=10 why=Underflow]\n"),
+    ("boolize", "[bad code at=10 why=Underflow]\n"),
 ];
 
 #[test]
@@ -84,44 +74,52 @@ fn computes_of_one(rt: HostRuntime) -> Result<(), Fail> {
 /// Computing of two operands.
 const COMPUTES_OF_TWO: [Row; 15] = [
     (
-        b"\x03\x07\x03\xFE\x22\xB1\x01\x00\x03\x07\x03\xFE\x23\xB1\x01\x00\x03\x07\x03\xFE\x24\xB1\x01\x00\x51",
+        "pushint8 7 / pushint8 -2 / add / builtin_a 1 0 / pushint8 7 / pushint8 -2 / sub / builtin_a 1 0 / pushint8 7 / pushint8 -2 / mul / builtin_a 1 0 / retnil",
         "59-14\n",
     ),
     // A quotient is cut towards 0, and the rest has the sign of the left one.
     (
-        b"\x03\x07\x03\xFE\x2A\xB1\x01\x00\x03\xF9\x03\x02\x2A\xB1\x01\x00\x03\xF9\x03\x02\x2B\xB1\x01\x00\x03\x07\x03\xFE\x2B\xB1\x01\x00\x51",
+        "pushint8 7 / pushint8 -2 / div / builtin_a 1 0 / pushint8 -7 / pushint8 2 / div / builtin_a 1 0 / pushint8 -7 / pushint8 2 / mod / builtin_a 1 0 / pushint8 7 / pushint8 -2 / mod / builtin_a 1 0 / retnil",
         "-3-3-11\n",
     ),
     (
-        b"\x03\x07\x03\xFE\x2B\xB1\x01\x00\x04\x00\x00\x00\x80\x03\xFF\x2B\xB1\x01\x00\x51",
+        "pushint8 7 / pushint8 -2 / mod / builtin_a 1 0 / pushint -2147483648 / pushint8 -1 / mod / builtin_a 1 0 / retnil",
         "10\n",
     ),
     (
-        b"\x03\x0C\x03\x0A\x25\xB1\x01\x00\x03\x0C\x03\x0A\x26\xB1\x01\x00\x03\x0C\x03\x0A\x29\xB1\x01\x00\x51",
+        "pushint8 12 / pushint8 10 / band / builtin_a 1 0 / pushint8 12 / pushint8 10 / bor / builtin_a 1 0 / pushint8 12 / pushint8 10 / xor / builtin_a 1 0 / retnil",
         "8146\n",
     ),
     (
-        b"\x02\x03\x1F\x27\xB1\x01\x00\x03\xF8\x02\x28\xB1\x01\x00\x03\xFF\x03\x1F\x30\xB1\x01\x00\x51",
+        "push_1 / pushint8 31 / shl / builtin_a 1 0 / pushint8 -8 / push_1 / ashr / builtin_a 1 0 / pushint8 -1 / pushint8 31 / lshr / builtin_a 1 0 / retnil",
         "-2147483648-41\n",
     ),
     (
-        b"\x04\x00\x00\x00\x80\x03\xFF\x2A",
+        "pushint -2147483648 / pushint8 -1 / div",
         "[unhandled object=1 fault=5]\n",
     ),
-    (b"\x02\x01\x2A", "[unhandled object=1 fault=4]\n"),
-    (b"\x02\x01\x2B", "[unhandled object=1 fault=4]\n"),
-    (b"\x02\x03\x20\x27", "[unhandled object=1 fault=6]\n"),
-    (b"\x02\x03\xFF\x28", "[unhandled object=1 fault=6]\n"),
-    // The kind is tested before the number.
-    (b"\x08\x01\x2A", "[unhandled object=1 fault=3]\n"),
-    (b"\x08\x03\x20\x30", "[unhandled object=1 fault=3]\n"),
-    (b"\x02\x09\x22", "[unhandled object=1 fault=3]\n"),
+    ("push_1 / push_0 / div", "[unhandled object=1 fault=4]\n"),
+    ("push_1 / push_0 / mod", "[unhandled object=1 fault=4]\n"),
     (
-        b"\x04\x00\x00\x00\x80\x04\x00\x00\x00\x80\x24",
+        "push_1 / pushint8 32 / shl",
+        "[unhandled object=1 fault=6]\n",
+    ),
+    (
+        "push_1 / pushint8 -1 / ashr",
+        "[unhandled object=1 fault=6]\n",
+    ),
+    // The kind is tested before the number.
+    ("pushnil / push_0 / div", "[unhandled object=1 fault=3]\n"),
+    (
+        "pushnil / pushint8 32 / lshr",
+        "[unhandled object=1 fault=3]\n",
+    ),
+    ("push_1 / pushtrue / add", "[unhandled object=1 fault=3]\n"),
+    (
+        "pushint -2147483648 / pushint -2147483648 / mul",
         "[unhandled object=1 fault=5]\n",
     ),
-    // One is missing.
-    (b"\x02\x29", "[bad code at=11 why=Underflow]\n"),
+    ("push_1 / xor", "[bad code at=11 why=Underflow]\n"),
 ];
 
 #[test]
@@ -133,28 +131,28 @@ fn computes_of_two(rt: HostRuntime) -> Result<(), Fail> {
 /// Comparing two operands.
 const COMPARES: [Row; 8] = [
     (
-        b"\x03\xFF\x01\x42\xB1\x01\x00\x01\x01\x42\xB1\x01\x00\x01\x03\xFF\x42\xB1\x01\x00\x51",
+        "pushint8 -1 / push_0 / lt / builtin_a 1 0 / push_0 / push_0 / lt / builtin_a 1 0 / push_0 / pushint8 -1 / lt / builtin_a 1 0 / retnil",
         "true\n",
     ),
     (
-        b"\x03\xFF\x01\x43\xB1\x01\x00\x01\x01\x43\xB1\x01\x00\x01\x03\xFF\x43\xB1\x01\x00\x51",
+        "pushint8 -1 / push_0 / le / builtin_a 1 0 / push_0 / push_0 / le / builtin_a 1 0 / push_0 / pushint8 -1 / le / builtin_a 1 0 / retnil",
         "truetrue\n",
     ),
     (
-        b"\x03\xFF\x01\x44\xB1\x01\x00\x01\x01\x44\xB1\x01\x00\x01\x03\xFF\x44\xB1\x01\x00\x51",
+        "pushint8 -1 / push_0 / gt / builtin_a 1 0 / push_0 / push_0 / gt / builtin_a 1 0 / push_0 / pushint8 -1 / gt / builtin_a 1 0 / retnil",
         "true\n",
     ),
     (
-        b"\x03\xFF\x01\x45\xB1\x01\x00\x01\x01\x45\xB1\x01\x00\x01\x03\xFF\x45\xB1\x01\x00\x51",
+        "pushint8 -1 / push_0 / ge / builtin_a 1 0 / push_0 / push_0 / ge / builtin_a 1 0 / push_0 / pushint8 -1 / ge / builtin_a 1 0 / retnil",
         "truetrue\n",
     ),
     (
-        b"\x02\x02\x40\xB1\x01\x00\x02\x01\x41\xB1\x01\x00\x08\x08\x40\xB1\x01\x00\x01\x08\x40\xB1\x01\x00\x51",
+        "push_1 / push_1 / eq / builtin_a 1 0 / push_1 / push_0 / ne / builtin_a 1 0 / pushnil / pushnil / eq / builtin_a 1 0 / push_0 / pushnil / eq / builtin_a 1 0 / retnil",
         "truetruetrue\n",
     ),
-    (b"\x01\x08\x42", "[unhandled object=1 fault=3]\n"),
-    (b"\x09\x09\x45", "[unhandled object=1 fault=3]\n"),
-    (b"\x01\x40", "[bad code at=11 why=Underflow]\n"),
+    ("push_0 / pushnil / lt", "[unhandled object=1 fault=3]\n"),
+    ("pushtrue / pushtrue / ge", "[unhandled object=1 fault=3]\n"),
+    ("push_0 / eq", "[bad code at=11 why=Underflow]\n"),
 ];
 
 #[test]
@@ -165,24 +163,33 @@ fn compares(rt: HostRuntime) -> Result<(), Fail> {
 
 /// The stack, the register, and what a method has got.
 const MOVES_VALUES: [Row; 13] = [
-    (b"\x03\x05\x88\x22\xB1\x01\x00\x51", "10\n"),
-    (b"\x03\x05\x02\x8D\x23\xB1\x01\x00\x51", "-4\n"),
+    ("pushint8 5 / dup / add / builtin_a 1 0 / retnil", "10\n"),
     (
-        b"\x03\x05\x01\x89\xB1\x01\x00\x02\x01\x01\x8A\x02\xB1\x01\x00\x03\x09\x8A\x00\xB1\x01\x00\x51",
+        "pushint8 5 / push_1 / swap / sub / builtin_a 1 0 / retnil",
+        "-4\n",
+    ),
+    (
+        "pushint8 5 / push_0 / disc / builtin_a 1 0 / push_1 / push_0 / push_0 / disc1 2 / builtin_a 1 0 / pushint8 9 / disc1 0 / builtin_a 1 0 / retnil",
         "519\n",
     ),
     // A function has neither self nor arguments.
-    (b"\x84\xB1\x01\x00\x87\xB1\x01\x00\x51", "0\n"),
-    // A built-in function answers nil.
-    (b"\x8B\x2C\xB1\x01\x00\x51", "true\n"),
-    (b"\x88", "[bad code at=10 why=Underflow]\n"),
-    (b"\x02\x8D", "[bad code at=11 why=Underflow]\n"),
-    (b"\x89", "[bad code at=10 why=Underflow]\n"),
-    (b"\x02\x8A\x02", "[bad code at=11 why=Underflow]\n"),
-    (b"\x82\x00", "[bad code at=10 why=Argument]\n"),
-    (b"\x83\x00\x00", "[bad code at=10 why=Argument]\n"),
-    (b"\x80\x00", "[bad code at=10 why=Local]\n"),
-    (b"\x81\x00\x00", "[bad code at=10 why=Local]\n"),
+    (
+        "pushself / builtin_a 1 0 / getargc / builtin_a 1 0 / retnil",
+        "0\n",
+    ),
+    // The register begins as nil, and is nil where a value was said.
+    (
+        "getr0 / not / builtin_a 1 0 / getr0 / not / builtin_a 1 0 / retnil",
+        "truetrue\n",
+    ),
+    ("dup", "[bad code at=10 why=Underflow]\n"),
+    ("push_1 / swap", "[bad code at=11 why=Underflow]\n"),
+    ("disc", "[bad code at=10 why=Underflow]\n"),
+    ("push_1 / disc1 2", "[bad code at=11 why=Underflow]\n"),
+    ("getarg1 0", "[bad code at=10 why=Argument]\n"),
+    ("getarg2 0", "[bad code at=10 why=Argument]\n"),
+    ("getlcl1 0", "[bad code at=10 why=Local]\n"),
+    ("getlcl2 0", "[bad code at=10 why=Local]\n"),
 ];
 
 #[test]
@@ -195,48 +202,45 @@ fn moves_values(rt: HostRuntime) -> Result<(), Fail> {
 const KEEPS_VARIABLES: [Row; 14] = [
     // They begin as nil.
     (
-        b"\x80\x00\x2C\xB1\x01\x00\x81\x01\x00\x2C\xB1\x01\x00\x51",
+        "getlcl1 0 / not / builtin_a 1 0 / getlcl2 1 / not / builtin_a 1 0 / retnil",
         "truetrue\n",
     ),
     (
-        b"\x03\x05\xE0\x00\x02\xE1\x01\x00\x80\x00\xB1\x01\x00\x80\x01\xB1\x01\x00\x51",
+        "pushint8 5 / setlcl1 0 / push_1 / setlcl2 1 / getlcl1 0 / builtin_a 1 0 / getlcl1 1 / builtin_a 1 0 / retnil",
         "51\n",
     ),
     (
-        b"\xD6\x00\xD0\x00\x00\xD0\x00\x00\x80\x00\xB1\x01\x00\xD1\x00\x00\x80\x00\xB1\x01\x00\x51",
+        "zerolcl1 0 / inclcl 0 / inclcl 0 / getlcl1 0 / builtin_a 1 0 / declcl 0 / getlcl1 0 / builtin_a 1 0 / retnil",
         "21\n",
     ),
     (
-        b"\xDA\x01\xD2\x01\xFD\x80\x01\xB1\x01\x00\xD3\x01\x00\x40\x42\x0F\x00\x81\x01\x00\xB1\x01\x00\x51",
+        "onelcl1 1 / addilcl1 1 -3 / getlcl1 1 / builtin_a 1 0 / addilcl4 1 1000000 / getlcl2 1 / builtin_a 1 0 / retnil",
         "-2999998\n",
     ),
     (
-        b"\xDB\x00\x00\x03\x09\xD4\x00\x00\x80\x00\xB1\x01\x00\x02\xD5\x00\x00\x80\x00\xB1\x01\x00\x51",
+        "onelcl2 0 / pushint8 9 / addtolcl 0 / getlcl1 0 / builtin_a 1 0 / push_1 / subfromlcl 0 / getlcl1 0 / builtin_a 1 0 / retnil",
         "109\n",
     ),
     (
-        b"\xDA\x00\xD8\x00\x80\x00\x2C\xB1\x01\x00\xDA\x01\xD9\x01\x00\x80\x01\x2C\xB1\x01\x00\xD7\x01\x00\x80\x01\xB1\x01\x00\x51",
+        "onelcl1 0 / nillcl1 0 / getlcl1 0 / not / builtin_a 1 0 / onelcl1 1 / nillcl2 1 / getlcl1 1 / not / builtin_a 1 0 / zerolcl2 1 / getlcl1 1 / builtin_a 1 0 / retnil",
         "truetrue0\n",
     ),
     (
-        b"\x04\xFF\xFF\xFF\x7F\xE0\x00\xD0\x00\x00",
+        "pushint 2147483647 / setlcl1 0 / inclcl 0",
         "[unhandled object=1 fault=5]\n",
     ),
     (
-        b"\xD6\x00\x04\x00\x00\x00\x80\xD5\x00\x00",
+        "zerolcl1 0 / pushint -2147483648 / subfromlcl 0",
         "[unhandled object=1 fault=5]\n",
     ),
     // Nil is no integer.
-    (b"\xD2\x00\x01", "[unhandled object=1 fault=3]\n"),
-    (b"\x02\xD4\x00\x00", "[unhandled object=1 fault=3]\n"),
+    ("addilcl1 0 1", "[unhandled object=1 fault=3]\n"),
+    ("push_1 / addtolcl 0", "[unhandled object=1 fault=3]\n"),
     // What is missing is told before a fault.
-    (
-        b"\xD3\x02\x00\x01\x00\x00\x00",
-        "[bad code at=10 why=Local]\n",
-    ),
-    (b"\xD4\x02\x00", "[bad code at=10 why=Underflow]\n"),
-    (b"\x02\xE0\x02", "[bad code at=11 why=Local]\n"),
-    (b"\x02\xE2\x00", "[bad code at=11 why=Argument]\n"),
+    ("addilcl4 2 1", "[bad code at=10 why=Local]\n"),
+    ("addtolcl 2", "[bad code at=10 why=Underflow]\n"),
+    ("push_1 / setlcl1 2", "[bad code at=11 why=Local]\n"),
+    ("push_1 / setarg1 0", "[bad code at=11 why=Argument]\n"),
 ];
 
 #[test]

@@ -7,10 +7,10 @@ use Rattle.t3_io.specs.declared.refusal.DeviceRefusal.{DeviceRefusal}
 use Rattle.t3_cli.specs.declared.images.read.ReadImage.{ReadImage}
 use Rattle.t3_cli.specs.declared.images.read.ReadImage.TheVariants as read
 use Rattle.t3_cli.specs.declared.status.Status.{Status}
-use Rattle.t3_cli.specs.declared.status.Status.TheVariants.{Absent, ImageRefused}
+use Rattle.t3_cli.specs.declared.status.Status.TheVariants.{Absent, ImageRefused, SourceRefused}
 use Rattle.t3_cli.specs.Act.{Act, shown_by, files_by, StopsIn}
 use Rattle.t3_cli.specs.Command.{CommandValue}
-use Rattle.t3_cli.specs.Lines.{absent_line, refused_line}
+use Rattle.t3_cli.specs.Lines.{absent_line, refused_line, bad_line}
 use Rattle.t3_cli.specs.Outcome.{Outcome, showing, input_of, IsImageOutcome}
 use Rattle.t3_cli.specs.Top.{CutsShort, ShowsMore, IsWhole, IsCut}
 use Rattle.t3_cli.specs.Inner.Parsing.{file_of}
@@ -54,6 +54,7 @@ FollowsSome IsOutcome files left before after answer =
 abbrev pub IsReadOutcome : CommandValue → ReadImage → Outcome → Type 0
 IsReadOutcome command read.Absent outcome = outcome ≡ showing Absent (absent_line (file_of (input_of command)))
 IsReadOutcome command (read.Refused place why) outcome = outcome ≡ showing ImageRefused (refused_line why place)
+IsReadOutcome command (read.BadLine line why) outcome = outcome ≡ showing SourceRefused (bad_line line why)
 IsReadOutcome command (read.Image image) outcome = IsImageOutcome command image outcome
 
 -- how many bytes were put, or why they weren't

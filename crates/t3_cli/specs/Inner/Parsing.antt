@@ -1,10 +1,11 @@
 -- What the words give, part by part.
 use Rattle.std.specs.Prelude.{ℕ, List, [], ◌∷◌, Option, Some, None}
-use Rattle.t3_cli.specs.Outcome.{InputFile, ImageFile}
+use Rattle.t3_cli.specs.Outcome.{InputFile, ImageFile, SourceFile}
 
 -- the name of the file that is read
 abbrev pub file_of : InputFile → List ℕ
 file_of (ImageFile name) = name
+file_of (SourceFile name) = name
 
 -- the one value, if there is one; none where there are more
 abbrev pub only_value : List (List ℕ) → Option (Option (List ℕ))

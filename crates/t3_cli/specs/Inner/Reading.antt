@@ -1,6 +1,10 @@
 -- What is read of an image's file, as the commands hand it on.
 use Rattle.std.specs.Prelude.{◌≡◌, ℕ, ◌≤◌, List, length, take, drop, Option, Some, None, Result, Ok, Err}
 use Rattle.std.specs.FinMap.{get}
+use Rattle.std.specs.Option.{option_map}
+use Rattle.std.specs.Global.{Vec}
+use Rattle.std.specs.Vec.{vec_items}
+use Rattle.t3_asm.specs.Refusals.{refusal}
 use Rattle.t3_io.specs.Files.{Files}
 use Rattle.t3_io.specs.declared.depot.Got.{Got}
 use Rattle.t3_io.specs.declared.depot.Got.TheVariants as got
@@ -14,12 +18,13 @@ use Rattle.t3_image_read.specs.Refusal.{Refused}
 use Rattle.t3_image_read.specs.Reader.{Reading, Taking, Ended, Failed, Feeds}
 use Rattle.t3_cli.specs.declared.images.read.ReadImage.{ReadImage}
 use Rattle.t3_cli.specs.declared.images.read.ReadImage.TheVariants as read
-use Rattle.t3_cli.specs.Outcome.{read_bytes, BeginsWith}
+use Rattle.t3_cli.specs.Outcome.{InputFile, ImageFile, SourceFile, read_bytes, assembled, BeginsWith}
 
 abbrev pub ReadsBytes : Option (List ℕ) → ReadImage → Type 0
 ReadsBytes None read.Absent = Unit {0}
 ReadsBytes None _ = ⊥
 ReadsBytes (Some file) read.Absent = ⊥
+ReadsBytes (Some file) (read.BadLine line why) = ⊥
 ReadsBytes (Some file) (read.Refused place why) = Refused (read_bytes file) place why
 ReadsBytes (Some file) (read.Image image) = BeginsWith (read_bytes file) image
 
@@ -28,6 +33,39 @@ abbrev pub ReadsImage : Option Files → List ℕ → Result ReadImage DeviceRef
 ReadsImage None name answer = Unit {0}
 ReadsImage (Some files) name (Err _) = Unit {0}
 ReadsImage (Some files) name (Ok found) = ReadsBytes (get files name) found
+
+-- the image that bytes say as a source, or the bad line, as it is handed on
+abbrev pub Assembles : List ℕ → ReadImage → Type 0
+Assembles bytes (read.Image image) = assembled bytes ≡ Ok image
+Assembles bytes (read.BadLine line why) = assembled bytes ≡ Err (refusal line why)
+Assembles bytes _ = ⊥
+
+abbrev pub IsAssembled : List ℕ → Result ReadImage DeviceRefusal → Type 0
+IsAssembled bytes (Ok found) = Assembles bytes found
+IsAssembled bytes (Err device.NoMemory) = Unit {0}
+IsAssembled bytes (Err device.Fault) = ⊥
+
+abbrev pub ReadsText : Option (List ℕ) → ReadImage → Type 0
+ReadsText None read.Absent = Unit {0}
+ReadsText None _ = ⊥
+ReadsText (Some file) found = Assembles (read_bytes file) found
+
+-- what is read of a source's file
+abbrev pub ReadsSource : Option Files → List ℕ → Result ReadImage DeviceRefusal → Type 0
+ReadsSource None name answer = Unit {0}
+ReadsSource (Some files) name (Err _) = Unit {0}
+ReadsSource (Some files) name (Ok found) = ReadsText (get files name) found
+
+-- what is read of a command's file
+abbrev pub ReadsInput : Option Files → InputFile → Result ReadImage DeviceRefusal → Type 0
+ReadsInput files (ImageFile name) answer = ReadsImage files name answer
+ReadsInput files (SourceFile name) answer = ReadsSource files name answer
+
+-- all bytes that are read of a file, if it is there
+abbrev pub ReadsFile : Option Files → List ℕ → Result (Option (Vec ℕ)) DeviceRefusal → Type 0
+ReadsFile None name answer = Unit {0}
+ReadsFile (Some files) name (Err _) = Unit {0}
+ReadsFile (Some files) name (Ok found) = option_map vec_items found ≡ option_map read_bytes (get files name)
 
 -- a read gave bytes of the file from the place on, at most so many, and none only at its end
 pub record IsPiece (file : List ℕ) (at want : ℕ) (buffer : List ℕ) (count : ℕ) : Type 0 where

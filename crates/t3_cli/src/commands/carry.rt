@@ -1,7 +1,11 @@
-//! Carries commands out: reads their image, and shows what it is or what it says, or writes it anew.
+//! Carries commands out: reads their image or source, and shows what it is or what it says, or writes it
+//! anew.
 ghost use Rattle.std.specs.Prelude.{◌≡◌, ◌≢◌, ◌<◌, ◌-◌, ◌^◌, ◌⊎◌, Some, IfSome};
 ghost use Rattle.t3_holder.specs.FileName.{IsFileName};
-ghost use Rattle.t3_cli.specs.Outcome.{putting, written_text};
+ghost use Rattle.t3_io.specs.Cause.{MovesFaults};
+ghost use Rattle.t3_asm.specs.Listing.{listing};
+ghost use Rattle.t3_cli.specs.Outcome.{putting, written_text, input_of};
+ghost use Rattle.t3_cli.specs.Inner.Reading.{ReadsInput};
 ghost use Rattle.t3_cli.specs.Top.{CutsShort, ShowsSome};
 ghost use Rattle.t3_cli.specs.Command.{command_value, HasFileNames};
 ghost use Rattle.t3_cli.specs.Inner.Following.{Answers, FollowsSome, Follows, IsReadOutcome};
@@ -10,7 +14,8 @@ use crate::commands::command::Command;
 use crate::console::answer;
 use crate::images::image_lines::{check_line, image_lines};
 use crate::images::read::{ReadImage, read_image};
-use crate::images::rewrite::put_image;
+use crate::images::rewrite::{put_image, put_listing};
+use crate::images::source::read_source;
 use crate::lines;
 use crate::status::Status;
 use crate::story::launch;
@@ -39,9 +44,31 @@ pub(crate) fn carry_out<D: Depot, C: Console>(
     ensures console_rise { (result ≡ Status.ConsoleFault) ⊎
         (C.faults console.new ≡ C.faults console.old) }
 {
-    match read_image(alloc, command.image().as_bytes(), depot) {
+    match read_input(alloc, command, depot) {
         Ok(read) => act(alloc, command, read, depot, console),
         Err(refusal) => depot_status(refusal),
+    }
+}
+
+/// Reads the command's file: an image, or a source that says one.
+fn read_input<D: Depot>(
+    alloc: Global,
+    command: Command,
+    depot: &mut D,
+) -> Result<ReadImage, DeviceRefusal>
+    requires names { HasFileNames (command_value command) }
+    requires faults { D.faults depot.old < 2 ^ 64 - 1 }
+    ensures read { ReadsInput (D.files depot.old) (input_of (command_value command.entry)) result }
+    ensures files { D.files depot.new ≡ D.files depot.old }
+    ensures cause { MovesFaults (D.faults depot.old) (D.faults depot.new) result }
+{
+    match command {
+        Command::Asm { source, .. } => read_source(alloc, source.as_bytes(), depot),
+        Command::Check { image }
+        | Command::Show { image }
+        | Command::Run { image, .. }
+        | Command::Rewrite { image, .. }
+        | Command::List { image, .. } => read_image(alloc, image.as_bytes(), depot),
     }
 }
 
@@ -81,18 +108,24 @@ fn act<D: Depot, C: Console>(
 {
     match read {
         ReadImage::Absent => {
-            let line = lines::absent(alloc, command.image());
+            let line = lines::absent(alloc, command.file());
             answer(console, line, Status::Absent)
         }
         ReadImage::Refused { place, why } => {
             let line = lines::refused(alloc, place, why);
             answer(console, line, Status::ImageRefused)
         }
+        ReadImage::BadLine { line, why } => {
+            let line = lines::bad_line(alloc, line, why);
+            answer(console, line, Status::SourceRefused)
+        }
         ReadImage::Image(image) => match command {
             Command::Check { .. } => answer(console, check_line(alloc, &image), Status::Done),
             Command::Show { .. } => answer(console, image_lines(alloc, &image), Status::Done),
             Command::Run { options, .. } => launch(alloc, &image, options, console),
             Command::Rewrite { out, mask, .. } => rewrite(alloc, image, out, mask, depot, console),
+            Command::Asm { out, .. } => rewrite(alloc, image, out, None, depot, console),
+            Command::List { out, .. } => write_listing(alloc, &image, out, depot, console),
         },
     }
 }
@@ -119,6 +152,32 @@ fn rewrite<D: Depot, C: Console>(
         (C.faults console.new ≡ C.faults console.old) }
 {
     match put_image(alloc, image, out, mask, depot) {
+        Ok(size) => answer(console, lines::put(alloc, size), Status::Done),
+        Err(refusal) => depot_status(refusal),
+    }
+}
+
+/// Puts the listing of an image, and shows how many bytes that were.
+fn write_listing<D: Depot, C: Console>(
+    alloc: Global,
+    image: &Image,
+    out: &str,
+    depot: &mut D,
+    console: &mut C,
+) -> Status
+    requires out { IsFileName out.now }
+    requires depot { D.faults depot.old < 2 ^ 64 - 1 }
+    requires console { C.faults console.old < 2 ^ 64 - 1 }
+    ensures follows { Follows (putting out.now (listing image.now)) (D.files depot.old)
+        (D.files depot.new) (C.session console.old) (C.session console.new) result }
+    ensures depot_fault { result ≡ Status.DepotFault → D.faults depot.old < D.faults depot.new }
+    ensures depot_rise { (result ≡ Status.DepotFault) ⊎ (D.faults depot.new ≡ D.faults depot.old) }
+    ensures console_fault { result ≡ Status.ConsoleFault → C.faults console.old < C.faults
+        console.new }
+    ensures console_rise { (result ≡ Status.ConsoleFault) ⊎
+        (C.faults console.new ≡ C.faults console.old) }
+{
+    match put_listing(alloc, image, out, depot) {
         Ok(size) => answer(console, lines::put(alloc, size), Status::Done),
         Err(refusal) => depot_status(refusal),
     }

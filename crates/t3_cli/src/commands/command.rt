@@ -1,7 +1,7 @@
 //! Which command the words are.
 ghost use Rattle.std.specs.Prelude.{◌≡◌, map, string_bytes};
 ghost use Rattle.std.specs.Option.{option_map, option_copied};
-ghost use Rattle.t3_cli.specs.Command.{Check, Show, run_of, rewrite_of, only_name as only_name_of, file_name as file_name_of};
+ghost use Rattle.t3_cli.specs.Command.{Check, Show, Listing, Asm, run_of, rewrite_of, only_name as only_name_of, two_names as two_names_of, file_name as file_name_of};
 ghost use Rattle.t3_cli.specs.Command.{command_value};
 
 use crate::commands::file_name::is_file_name;
@@ -28,6 +28,16 @@ pub(crate) enum Command<'w> {
         image: &'w str,
         out: &'w str,
         mask: Option<u8>,
+    },
+    /// Writes the source that an image is listed as.
+    List {
+        image: &'w str,
+        out: &'w str,
+    },
+    /// Assembles a source into an image.
+    Asm {
+        source: &'w str,
+        out: &'w str,
     },
 }
 
@@ -58,19 +68,23 @@ impl<'w> Command<'w> {
             "show" => show(words),
             "run" => run(words),
             "rewrite" => rewrite(words),
+            "list" => list(words),
+            "asm" => asm(words),
             _ => None,
         }
     }
 
     /// The file that the command reads.
-    pub(crate) fn image(self) -> &'w str
+    pub(crate) fn file(self) -> &'w str
         ensures { result.now ≡ file_of (input_of (command_value self.entry)) }
     {
         match self {
             Command::Check { image }
             | Command::Show { image }
             | Command::Run { image, .. }
-            | Command::Rewrite { image, .. } => image,
+            | Command::Rewrite { image, .. }
+            | Command::List { image, .. } => image,
+            Command::Asm { source, .. } => source,
         }
     }
 }
@@ -112,6 +126,35 @@ fn rewrite<'w>(words: &'w [String]) -> Option<Command<'w>>
     let out = file_name(out.as_str())?;
     let mask = mask(words)?;
     Some(Command::Rewrite { image, out, mask })
+}
+
+fn list<'w>(words: &'w [String]) -> Option<Command<'w>>
+    ensures { option_map command_value result ≡ option_map (λ names. Listing names.0 names.1)
+        (two_names_of (map string_bytes words.now)) }
+{
+    let (image, out) = two_names(words)?;
+    Some(Command::List { image, out })
+}
+
+fn asm<'w>(words: &'w [String]) -> Option<Command<'w>>
+    ensures { option_map command_value result ≡ option_map (λ names. Asm names.0 names.1)
+        (two_names_of (map string_bytes words.now)) }
+{
+    let (source, out) = two_names(words)?;
+    Some(Command::Asm { source, out })
+}
+
+/// The two words that there are, if files may have these names.
+fn two_names<'w>(words: &'w [String]) -> Option<(&'w str, &'w str)>
+    ensures { option_map (λ names. (names.0.now, names.1.now)) result
+        ≡ two_names_of (map string_bytes words.now) }
+{
+    let [first, words @ ..] = words else {
+        return None;
+    };
+    let first = file_name(first.as_str())?;
+    let second = only_name(words)?;
+    Some((first, second))
 }
 
 /// The one word that there is, if a file may have that name.

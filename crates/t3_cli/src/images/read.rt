@@ -7,23 +7,26 @@ ghost use Rattle.t3_image_read.specs.Reader.{Taking};
 ghost use Rattle.t3_cli.specs.Inner.Reading.{ReadsImage, GivesPiece, IsFed, Concludes};
 
 use std::alloc::{AllocError, Global};
+use t3_asm::AsmWhy;
 use t3_image_read::{Image, ImageReader, ReadRefusal, ReadWhy};
 use t3_io::{Depot, DeviceRefusal, Got};
 
 /// A file is read up to so many bytes: one more than an image has.
-const READ_LIMIT: u64 = 268_435_457;
+pub(super) const READ_LIMIT: u64 = 268_435_457;
 
 /// How many bytes are asked for at once.
-const PIECE: usize = 1 << 18;
+pub(super) const PIECE: usize = 1 << 18;
 
-/// What an image's file has.
+/// What the file of a command has: an image, as it stands or as a source says it, or why none.
 #[derive(Debug, Drop)]
 pub(crate) enum ReadImage {
     /// There is no such file.
     Absent,
     /// The file is no image, by this rule and at this place.
     Refused { place: u32, why: ReadWhy },
-    /// The file begins with this image.
+    /// The source breaks this rule at this line, or at 0 where it is too long.
+    BadLine { line: u32, why: AsmWhy },
+    /// The file begins with this image, or says it.
     Image(Image),
 }
 
@@ -43,7 +46,7 @@ pub(crate) fn read_image<D: Depot>(
     read_pieces(name, depot, ImageReader::new(alloc), &mut buf)
 }
 
-fn zeroed(alloc: Global, size: usize) -> Result<Vec<u8>, AllocError>
+pub(super) fn zeroed(alloc: Global, size: usize) -> Result<Vec<u8>, AllocError>
     ensures { IfOk result (λ buf. length buf.items ≡ size) }
 {
     vec![in alloc; 0; size]
@@ -88,7 +91,7 @@ fn feed(reader: &mut ImageReader, piece: &[u8])
 }
 
 /// Reads at most so many bytes into the first bytes of the buffer.
-fn read_piece<D: Depot>(
+pub(super) fn read_piece<D: Depot>(
     depot: &mut D,
     name: &[u8],
     at: u64,

@@ -1,5 +1,5 @@
 -- Which parts an object of a shape can have while no change is under way.
-use Rattle.std.specs.Prelude.{◌≡◌, ◌≤◌, ℕ, Bool, true, ◌&&◌, List, [], ◌∷◌, length, Some, IsTrue, IsSome}
+use Rattle.std.specs.Prelude.{◌≡◌, ◌≤◌, ℕ, ◌&&◌, List, [], ◌∷◌, length, Some, IsTrue, IsSome}
 use Rattle.std.specs.FinMap.{get, empty}
 use Rattle.t3_holder.specs.declared.holder.Holder.{Holder}
 use Rattle.t3_undo.specs.Content.{Parts, Present, is_form}

@@ -1,4 +1,4 @@
-use Rattle.std.proofs.Common.{subst, sym, ap, map, nat_eq}
+use Rattle.std.proofs.Common.{subst, map, nat_eq}
 use Rattle.std.specs.List.{IsDistinct}
 use Rattle.t3_tadsobj.specs.declared.props.PropValue.{PropValue}
 use Rattle.t3_load.specs.Layout.{SpellsNumber, SpellsProp}

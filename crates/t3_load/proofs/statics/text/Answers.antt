@@ -1,4 +1,4 @@
-use Rattle.std.proofs.Common.{subst, sym, ◌∙◌, arith}
+use Rattle.std.proofs.Common.{◌∙◌, arith}
 use Rattle.t3_load.proofs.Layouts.{text_short, text_cut, text_bad, text_begins, split_parts, no_text}
 use Rattle.t3_load.proofs.statics.text.Goals as goal
 

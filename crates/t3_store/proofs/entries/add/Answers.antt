@@ -3,7 +3,8 @@ use Rattle.std.specs.List.{AllWithin}
 use Rattle.t3_store.specs.Inner.Shapes.{thing_of, places_of, tick_of}
 use Rattle.t3_store.specs.Inner.Entries.{IsRising, things_of, places_in, ticks_in}
 use Rattle.t3_store.specs.declared.entries.Entry.{Entry}
-use Rattle.t3_store.proofs.Rows.{by_number-add, rising-add, none-of}
+use Rattle.t3_store.proofs.RowEdits.{by_number-add, rising-add}
+use Rattle.t3_store.proofs.Rows.{none-of}
 use Rattle.t3_store.proofs.entries.add.Goals as goal
 
 pub returns-clause-rising : goal.returns-clause-rising

@@ -1,4 +1,4 @@
-use Rattle.std.proofs.Common.{◌≡◌, ◌∙◌, ◌≤◌, ap, sym, subst, Option, Some, None, IsTrue, true≢false, arith}
+use Rattle.std.proofs.Common.{◌≡◌, ◌∙◌, ap, sym, subst, Some, true≢false, arith}
 use Rattle.std.specs.Option.{option_map}
 use Rattle.std.specs.FinMap.{get}
 use Rattle.t3_undo.specs.Content.{Parts, shown}
@@ -6,7 +6,7 @@ use Rattle.t3_undo.specs.Objects.{with_part, part_of, part_at}
 use Rattle.t3_store.specs.Value.{with_cell, can_have_at}
 use Rattle.t3_store.specs.Inner.Shapes.{Shape, thing_of, tick_of, value_of, risen}
 use Rattle.t3_store.specs.Inner.Valid.{IsValid}
-use Rattle.t3_store.specs.Inner.Entries.{things_of, ticks_in}
+use Rattle.t3_store.specs.Inner.Entries.{things_of}
 use Rattle.t3_store.proofs.Ticks.{risen-up}
 use Rattle.t3_store.proofs.Rows.{get-by_number, read-found}
 use Rattle.t3_store.proofs.MapValues.{found-value, no-value, values-adjust}

@@ -3,7 +3,7 @@ use Rattle.std.specs.List.{AllWithin}
 use Rattle.t3_store.specs.Inner.Shapes.{thing_of, places_of, tick_of}
 use Rattle.t3_store.specs.Inner.Entries.{IsRising, things_of, places_in, ticks_in}
 use Rattle.t3_store.specs.declared.entries.Entry.{Entry}
-use Rattle.t3_store.proofs.Rows.{rising-take, by_number-cut}
+use Rattle.t3_store.proofs.RowEdits.{rising-take, by_number-cut}
 use Rattle.t3_store.proofs.entries.cut.Goals as goal
 use Rattle.t3_store.proofs.entries.cut.Goals.{After-truncate}
 

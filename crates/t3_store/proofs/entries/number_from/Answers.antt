@@ -1,4 +1,4 @@
-use Rattle.t3_store.proofs.Rows.{first-from, none-from, slice_get-at, slice_get-past}
+use Rattle.t3_store.proofs.FirstFrom.{first-from, none-from, slice_get-at, slice_get-past}
 use Rattle.t3_store.proofs.entries.number_from.Goals as goal
 
 pub returns-then-index-entries : goal.returns-then-index-entries

@@ -1,4 +1,4 @@
-use Rattle.std.proofs.Common.{◌∙◌, ◌≤◌, ap, sym, subst, refl, None, IsTrue, true≢false, arith}
+use Rattle.std.proofs.Common.{◌∙◌, ap, sym, subst, refl, None, IsTrue, true≢false, arith}
 use Rattle.t3_undo.specs.Content.{shown}
 use Rattle.t3_undo.specs.Objects.{part_of, with_part}
 use Rattle.t3_store.specs.Inner.Shapes.{thing_of, places_of, tick_of, has_place_in, AreWithin}

@@ -1,9 +1,8 @@
 use Rattle.std.proofs.Common.{◌≡◌, ◌∙◌, ◌+◌, ℕ, suc, ap, sym, subst, length, Some, None, arith}
 use Rattle.std.specs.FinSet as set
-use Rattle.t3_undo.specs.Content.{Parts}
 use Rattle.t3_undo.specs.Objects.{set_at}
 use Rattle.t3_undo.specs.declared.cell.Cell.TheVariants as cells
-use Rattle.t3_lists.specs.Vector.{places_of, filled, HasPlaceBelow}
+use Rattle.t3_lists.specs.Vector.{places_of, HasPlaceBelow}
 use Rattle.t3_lists.proofs.Items.{filled-push, place-below}
 use Rattle.t3_store.proofs.Places.{contains-own}
 use Rattle.t3_store.proofs.new_object.add_element.Goals as goal

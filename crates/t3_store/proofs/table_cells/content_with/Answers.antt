@@ -1,4 +1,4 @@
-use Rattle.std.proofs.Common.{◌≡◌, ◌∙◌, ◌-◌, ◌<◌, ◌≤◌, ◌^◌, ℕ, ap, sym, subst, None, arith}
+use Rattle.std.proofs.Common.{◌∙◌, ◌≤◌, ℕ, ap, sym, subst, arith}
 use Rattle.std.specs.FinMap.{get}
 use Rattle.t3_undo.specs.Content.{shown}
 use Rattle.t3_undo.specs.declared.content.Content.TheVariants.{Held, Slot}

@@ -1,11 +1,11 @@
-use Rattle.std.proofs.Common.{◌≡◌, ◌∙◌, ap, refl, arith, ◌≤◌, ◌+◌}
+use Rattle.std.proofs.Common.{◌≡◌, ◌∙◌, ap, arith}
 use Rattle.std.specs.FinMap.{empty, get, get-empty, len, len-empty}
 use Rattle.std.specs.Ordering.{nat_cmp}
 use Rattle.t3_store.specs.Value.{Objects, Value, supers_of, units_in}
 use Rattle.std.specs.Prelude.{option_and_then}
 use Rattle.t3_store.specs.Store.{AreBelow, either}
 use Rattle.t3_store.proofs.MapValues.{units_in-empty}
-use Rattle.t3_store.proofs.WholeKept.{none-whole}
+use Rattle.t3_store.proofs.WholeStarted.{none-whole}
 use Rattle.t3_store.proofs.tests.empty_store.Goals as goal
 
 none-below : (objects : Objects) → objects ≡ empty → AreBelow 1 objects

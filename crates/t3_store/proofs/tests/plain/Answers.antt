@@ -1,4 +1,4 @@
-use Rattle.std.proofs.Common.{ap, sym, subst, ℕ, List, nat_eq}
+use Rattle.std.proofs.Common.{sym, subst, nat_eq}
 use Rattle.std.specs.Prelude.{map}
 use Rattle.std.specs.List.{IsDistinct}
 use Rattle.t3_tadsobj.specs.declared.props.PropValue.{PropValue}

@@ -1,10 +1,12 @@
 use Rattle.std.proofs.Common.{◌≡◌, ℕ, List, IfOk, ap, subst, refl}
 use Rattle.std.specs.Prelude.{string_bytes}
 use Rattle.t3_cli.specs.declared.images.read.ReadImage.TheVariants as read
-use Rattle.t3_cli.specs.declared.status.Status.TheVariants.{Done, Absent, ImageRefused}
-use Rattle.t3_cli.specs.Lines.{absent_line, refused_line}
+use Rattle.t3_cli.specs.declared.status.Status.TheVariants.{Done, Absent, ImageRefused, SourceRefused}
+use Rattle.t3_cli.specs.Lines.{absent_line, refused_line, bad_line}
 use Rattle.t3_cli.specs.BlockLines.{check_text, show_text}
-use Rattle.t3_cli.specs.Command.{Check, Show, Run, Rewrite}
+use Rattle.t3_cli.specs.Command.{Check, Show, Run, Rewrite, Listing, Asm}
+use Rattle.t3_asm.specs.Listing.{listing}
+use Rattle.t3_image_read.specs.ImageText.{text}
 use Rattle.t3_cli.specs.Outcome.{putting, written_text, input_of}
 use Rattle.t3_cli.specs.Command.{command_value, options_value, HasFileNames}
 use Rattle.t3_cli.specs.Inner.Parsing.{file_of}
@@ -19,7 +21,7 @@ rewrite-requires-clause-out g c =
 pub returns-in-Absent-clause-follows : goal.returns-in-Absent-clause-follows
 returns-in-Absent-clause-follows g c =
     let command = command_value c.args.command in
-    let line = subst (λ (n : List ℕ). IfOk c.absent-line.result (λ l. string_bytes l ≡ absent_line n)) c.image.ensures c.absent-line.ensures in
+    let line = subst (λ (n : List ℕ). IfOk c.absent-line.result (λ l. string_bytes l ≡ absent_line n)) c.file.ensures c.absent-line.ensures in
     line_matched command command c.args.read read.Absent string_bytes (g.D.Depot.files c.args.depot.now) _ _ c.absent-line.result (absent_line (file_of (input_of command))) Absent _ refl c.in-Absent.is refl
     line c.answer.ensures.shown
 
@@ -38,6 +40,24 @@ pub returns-in-Show-clause-follows : goal.returns-in-Show-clause-follows
 returns-in-Show-clause-follows g c =
     line_matched (command_value c.args.command) (Show c.in-Show.image.now) c.args.read (read.Image c.in-Image.image) string_bytes (g.D.Depot.files c.args.depot.now) _ _ c.image_lines.result
     (show_text c.in-Image.image) Done _ (ap command_value c.in-Show.is) c.in-Image.is refl c.image_lines.ensures c.answer-in-Show.ensures.shown
+
+pub returns-in-BadLine-clause-follows : goal.returns-in-BadLine-clause-follows
+returns-in-BadLine-clause-follows g c =
+    let command = command_value c.args.command in
+    line_matched command command c.args.read (read.BadLine c.in-BadLine.line c.in-BadLine.why) string_bytes (g.D.Depot.files c.args.depot.now) _ _ c.bad_line-line.result
+    (bad_line c.in-BadLine.line c.in-BadLine.why) SourceRefused _ refl c.in-BadLine.is refl c.bad_line-line.ensures c.answer-in-BadLine.ensures.shown
+
+pub returns-in-List-clause-follows : goal.returns-in-List-clause-follows
+returns-in-List-clause-follows g c =
+    matched_follows (command_value c.args.command) (Listing c.in-List.image.now c.in-List.out.now) c.args.read (read.Image c.in-Image.image)
+    (g.D.Depot.files c.args.depot.now) _ _ _ c.write_listing.result (ap command_value c.in-List.is) c.in-Image.is
+    (putting c.in-List.out.now (listing c.in-Image.image), refl, c.write_listing.ensures.follows)
+
+pub returns-in-Asm-clause-follows : goal.returns-in-Asm-clause-follows
+returns-in-Asm-clause-follows g c =
+    matched_follows (command_value c.args.command) (Asm c.in-Asm.source.now c.in-Asm.out.now) c.args.read (read.Image c.in-Image.image)
+    (g.D.Depot.files c.args.depot.now) _ _ _ c.rewrite-in-Asm.result (ap command_value c.in-Asm.is) c.in-Image.is
+    (putting c.in-Asm.out.now (text c.in-Image.image), refl, c.rewrite-in-Asm.ensures.follows)
 
 pub returns-in-Run-clause-follows : goal.returns-in-Run-clause-follows
 returns-in-Run-clause-follows g c =

@@ -1,20 +1,9 @@
-use Rattle.std.proofs.Common.{Some, Ok, List, ℕ, Option, subst, sym, ◌∙◌}
-use Rattle.t3_holder.specs.FileName.{IsFileName}
+use Rattle.std.proofs.Common.{Some, Option, subst}
 use Rattle.t3_io.specs.Files.{Files}
-use Rattle.t3_cli.specs.Outcome.{input_of}
 use Rattle.t3_cli.specs.Command.{command_value}
-use Rattle.t3_cli.specs.Inner.Parsing.{file_of}
-use Rattle.t3_cli.specs.Inner.Reading.{ReadsImage}
 use Rattle.t3_cli.specs.Inner.Following.{FollowsSome, IsReadOutcome}
-use Rattle.t3_cli.proofs.CommandNames.{input_fits}
 use Rattle.t3_cli.proofs.Answered.{read_answers, untouched_answers, follows_some, some_nothing, follows_not_usage}
 use Rattle.t3_cli.proofs.commands.carry.carry_out.Goals as goal
-
--- what was read is of the command's file
-read : (g : _) (c : goal.After-act g)
-    → ReadsImage (g.D.Depot.files c.args.depot.now) (file_of (input_of (command_value c.args.command))) (Ok c.in-Ok.read)
-read g c =
-    subst (λ (name : List ℕ). ReadsImage (g.D.Depot.files c.args.depot.now) name (Ok c.in-Ok.read)) (c.as_bytes.ensures.value ∙ c.image.ensures) c.in-Ok.ensures.read
 
 -- reading left the files, and what was done with the image was done with these
 follows : (g : _) (c : goal.After-act g)
@@ -24,15 +13,11 @@ follows : (g : _) (c : goal.After-act g)
 follows g c =
     let P : Option Files → Type 0 =
     λ all. FollowsSome (IsReadOutcome (command_value c.args.command) c.in-Ok.read) all (g.D.Depot.files c.act.new.depot) (g.C.Console.session c.args.console.now) (g.C.Console.session c.act.new.console) c.act.result in
-    subst P c.read_image.ensures.files c.act.ensures.follows
-
-pub read_image-requires-clause-name : goal.read_image-requires-clause-name
-read_image-requires-clause-name g c =
-    let P : List ℕ → Type 0 = IsFileName in subst P (sym (c.as_bytes.ensures.value ∙ c.image.ensures)) (input_fits (command_value c.args.command) c.requires.names)
+    subst P c.read_input.ensures.files c.act.ensures.follows
 
 pub returns-in-Ok-clause-answers : goal.returns-in-Ok-clause-answers
 returns-in-Ok-clause-answers g c =
-    read_answers (command_value c.args.command) (g.D.Depot.files c.args.depot.now) _ _ _ _ c.in-Ok.read (read g c) (follows g c)
+    read_answers (command_value c.args.command) (g.D.Depot.files c.args.depot.now) _ _ _ _ c.in-Ok.read c.in-Ok.ensures.read (follows g c)
 
 pub returns-in-Ok-clause-shown : goal.returns-in-Ok-clause-shown
 returns-in-Ok-clause-shown g c = follows_some (IsReadOutcome (command_value c.args.command) c.in-Ok.read) _ _ _ _ _ (follows g c)
@@ -42,7 +27,7 @@ returns-in-Ok-clause-no_usage g c = follows_not_usage (command_value c.args.comm
 
 pub returns-in-Err-clause-answers : goal.returns-in-Err-clause-answers
 returns-in-Err-clause-answers g c =
-    untouched_answers (Some (command_value c.args.command)) (g.D.Depot.files c.args.depot.now) _ (g.C.Console.session c.args.console.now) c.depot_status.result c.read_image.ensures.files c.depot_status.ensures.cut
+    untouched_answers (Some (command_value c.args.command)) (g.D.Depot.files c.args.depot.now) _ (g.C.Console.session c.args.console.now) c.depot_status.result c.read_input.ensures.files c.depot_status.ensures.cut
 
 pub returns-in-Err-clause-shown : goal.returns-in-Err-clause-shown
 returns-in-Err-clause-shown g c = some_nothing (g.C.Console.session c.args.console.now)

@@ -1,4 +1,4 @@
-use Rattle.std.proofs.Common.{◌-◌, length, take, drop, subst, arith}
+use Rattle.std.proofs.Common.{◌-◌, length, drop, subst, arith}
 use Rattle.std.proofs.lemmas.List.{take_all, length-drop}
 use Rattle.t3_holder.specs.declared.holder.Holder.{Holder}
 use Rattle.t3_load.specs.Layout.{SpellsHolder}

@@ -6,7 +6,7 @@ use Rattle.t3_tables.specs.Table.{TableValue}
 use Rattle.t3_store.specs.Value.{Vector, new_value}
 use Rattle.t3_store.specs.Inner.Shapes.{TableShape, value_of}
 use Rattle.t3_store.specs.Inner.Valid.{IsWholeTable}
-use Rattle.t3_store.proofs.TableValues.{value-new, whole-new}
+use Rattle.t3_store.proofs.TableUnits.{value-new, whole-new}
 use Rattle.t3_store.proofs.new_object.NewObject.make.Goals as goal
 
 pub returns-in_ok-make_vector-in-Vector-clause-value : goal.returns-in_ok-make_vector-in-Vector-clause-value

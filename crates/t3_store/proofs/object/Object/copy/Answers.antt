@@ -1,7 +1,7 @@
 use Rattle.std.proofs.Common.{◌∙◌, ap, sym}
 use Rattle.t3_store.specs.Inner.Shapes.{thing_of, value_of}
 use Rattle.t3_store.specs.declared.object.Object.TheVariants as objects
-use Rattle.t3_store.proofs.TableValues.{IsTableCopy, table-copy}
+use Rattle.t3_store.proofs.TableUnits.{IsTableCopy, table-copy}
 use Rattle.t3_store.proofs.object.Object.copy.Goals as goal
 
 copied : (c : goal.In_ok-copy-in-Table) → IsTableCopy c.in_ok-copy-in-Table.field-0 (value_of (thing_of (objects.Table c.in-Table.table)))

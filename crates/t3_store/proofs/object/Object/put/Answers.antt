@@ -1,4 +1,3 @@
-use Rattle.std.proofs.Common.{sym}
 use Rattle.t3_store.proofs.KindValues.{placed-text, placed-list}
 use Rattle.t3_store.proofs.object.Object.put.Goals as goal
 

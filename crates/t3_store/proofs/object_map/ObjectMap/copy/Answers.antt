@@ -1,4 +1,4 @@
-use Rattle.std.proofs.Common.{◌≡◌, ◌∙◌, ◌+◌, ap, sym, subst, map, ℕ}
+use Rattle.std.proofs.Common.{◌∙◌, ◌+◌, ap, sym, subst, map, ℕ}
 use Rattle.t3_store.specs.Value.{units_in}
 use Rattle.t3_store.specs.Inner.Shapes.{values, AreWithin}
 use Rattle.t3_store.specs.Inner.Entries.{keyed, ticks_in, AreAllValid}

@@ -1,9 +1,9 @@
-use Rattle.std.proofs.Common.{◌≡◌, ◌∙◌, ◌+◌, ◌-◌, ◌^◌, ◌<◌, ◌≤◌, ap, sym, subst, List, None, arith}
+use Rattle.std.proofs.Common.{◌≡◌, ◌∙◌, ◌+◌, ◌-◌, ◌^◌, ap, sym, subst, List, None, arith}
 use Rattle.std.specs.FinMap.{get}
 use Rattle.t3_undo.specs.Content.{shown}
 use Rattle.t3_undo.specs.Objects.{set_cell, part_at}
 use Rattle.t3_store.specs.Value.{units_in, holder_at}
-use Rattle.t3_store.specs.Inner.Shapes.{Stored, values, tick_behind, risen, AreWithin}
+use Rattle.t3_store.specs.Inner.Shapes.{Stored, values, risen, AreWithin}
 use Rattle.t3_store.specs.Inner.Valid.{AreValid}
 use Rattle.t3_store.specs.Inner.Entries.{things_of, ticks_in}
 use Rattle.t3_store.specs.declared.entries.Entry.{Entry}

@@ -1,9 +1,9 @@
-use Rattle.std.proofs.Common.{◌≡◌, ◌∙◌, ◌+◌, ◌<◌, ap, sym, subst, None, IsTrue, arith}
+use Rattle.std.proofs.Common.{◌≡◌, ◌∙◌, ◌+◌, ap, sym, subst, None, IsTrue, arith}
 use Rattle.std.specs.FinMap.{get}
 use Rattle.t3_undo.specs.Content.{shown}
-use Rattle.t3_undo.specs.Objects.{Objects, set_cell}
+use Rattle.t3_undo.specs.Objects.{set_cell}
 use Rattle.t3_store.specs.Value.{units_in, cell_units, can_lose_at}
-use Rattle.t3_store.specs.Inner.Shapes.{Shape, Stored, values, risen, AreWithin}
+use Rattle.t3_store.specs.Inner.Shapes.{Stored, values, risen, AreWithin}
 use Rattle.t3_store.specs.Inner.Valid.{AreValid}
 use Rattle.t3_store.specs.Inner.Entries.{things_of}
 use Rattle.t3_store.proofs.MapValues.{values-without}

@@ -1,4 +1,4 @@
-use Rattle.std.proofs.Common.{◌≡◌, ◌∙◌, ap, sym, subst, arith}
+use Rattle.std.proofs.Common.{◌∙◌, ap, sym, subst, arith}
 use Rattle.std.specs.FinMap.{len}
 use Rattle.t3_store.specs.Inner.Shapes.{Shape, Stored, values, AreWithin}
 use Rattle.t3_undo.specs.Objects.{Objects, below}

@@ -1,12 +1,10 @@
-use Rattle.std.proofs.Common.{◌≡◌, ◌∙◌, ◌+◌, ap, sym, subst, Bool, true, false, ◌&&◌, if◌then◌else◌, IsTrue, IsSome, is_some, is_none, None, nat_lt, ltb-false, arith}
+use Rattle.std.proofs.Common.{◌≡◌, ◌∙◌, ◌+◌, ap, sym, subst, false, if◌then◌else◌, is_some, is_none, ltb-false}
 use Rattle.std.specs.FinMap.{get}
-use Rattle.std.specs.Option.{option_and_then}
-use Rattle.t3_undo.specs.Content.{shown}
 use Rattle.t3_undo.specs.declared.cell.Cell.TheVariants as cells
-use Rattle.t3_store.specs.Value.{Objects, IsTableWithout, entries_in, with_cell, units_in, key_units, holder_at, is_past_units}
+use Rattle.t3_store.specs.Value.{Objects, IsTableWithout, with_cell, units_in, key_units, holder_at, is_past_units}
 use Rattle.t3_store.specs.Inner.Shapes.{values}
 use Rattle.t3_store.specs.declared.limits.StoreRefusal.TheVariants as refusals
-use Rattle.t3_store.proofs.TableValues.{table-key, least-units}
+use Rattle.t3_store.proofs.TableUnits.{table-key, least-units}
 use Rattle.t3_store.proofs.MapValues.{units_in-with}
 use Rattle.t3_store.proofs.Changes.{ok-not}
 use Rattle.t3_store.proofs.Adding.{paired-kept, not-and}

@@ -8,7 +8,8 @@ use Rattle.std.specs.Prelude.{option_and_then}
 use Rattle.t3_store.specs.Value.{supers_of}
 use Rattle.t3_store.specs.Whole.{supers_in}
 use Rattle.t3_store.specs.Inner.Whole.{supers_from}
-use Rattle.t3_store.proofs.WholeKept.{has-supers, supers-values}
+use Rattle.t3_store.proofs.WholeStarted.{has-supers}
+use Rattle.t3_store.proofs.WholeWritten.{supers-values}
 use Rattle.t3_store.proofs.Changes.{room-for, neither}
 use Rattle.t3_store.proofs.Creating.{persistent-created, marks-created, value-none}
 use Rattle.t3_store.proofs.store.Store.add_persistent.Goals as goal

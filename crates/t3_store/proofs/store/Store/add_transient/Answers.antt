@@ -7,7 +7,8 @@ use Rattle.std.specs.Prelude.{option_and_then}
 use Rattle.t3_store.specs.Value.{supers_of}
 use Rattle.t3_store.specs.Whole.{supers_of_live}
 use Rattle.t3_store.specs.Inner.Whole.{supers_of_both}
-use Rattle.t3_store.proofs.WholeKept.{has-supers, supers-both}
+use Rattle.t3_store.proofs.WholeStarted.{has-supers}
+use Rattle.t3_store.proofs.WholeWritten.{supers-both}
 use Rattle.t3_store.proofs.Changes.{room-for, neither}
 use Rattle.t3_store.proofs.Creating.{transient-created, value-none}
 use Rattle.t3_store.proofs.store.Store.add_transient.Goals as goal

@@ -1,5 +1,5 @@
 use Rattle.std.proofs.Common.{sym}
-use Rattle.t3_store.proofs.WholeKept.{acyclic-live}
+use Rattle.t3_store.proofs.WholeStarted.{acyclic-live}
 use Rattle.t3_store.proofs.store.Store.kind.Goals as goal
 
 pub returns-clause-acyclic : goal.returns-clause-acyclic

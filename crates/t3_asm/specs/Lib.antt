@@ -1,0 +1,12 @@
+pub mod Arguments
+pub mod Refusals
+pub mod Stages
+pub mod Sizes
+pub mod Places
+pub mod Forms
+pub mod Values
+pub mod Blocks
+pub mod Source
+pub mod Inner
+pub mod Listing
+pub mod HasBytes
