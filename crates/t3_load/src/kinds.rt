@@ -15,12 +15,17 @@ use t3_image_read::Image;
 /// The metaclasses that there are.
 #[derive(Clone, Copy, Debug, PartialEq, Eq)]
 pub enum MetaKind {
+    /// What all objects have in common. No object is of it.
     Root,
+    /// What lists and vectors have in common. No object is of it.
     Collection,
+    /// Objects with superclasses and properties.
     Tads,
+    /// Strings.
     Text,
     List,
     Vector,
+    /// Lookup tables. None stands in an image.
     Table,
 }
 

@@ -19,6 +19,8 @@ mod rows;
 mod sets;
 mod statics;
 mod symbols;
+#[cfg(test)]
+mod tests;
 
 pub use kinds::{KindEntry, Kinds, MetaKind, PropNumbers};
 pub use refusal::NameRefusal;
