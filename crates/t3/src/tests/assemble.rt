@@ -22,7 +22,7 @@ fn assembles_and_runs_a_story(rt: HostRuntime) -> Result<(), Fail> {
     let alloc = rt.alloc();
     let (shown, image) = written(alloc, "asm", &lines(alloc, STORY)?)?;
     assert_eq!(rt; shown.as_slice(), b"ok bytes=185\n".as_slice());
-    assert_eq!(rt; &image[142..], PAGE);
+    assert_eq!(rt; image.get(142..), Some(PAGE));
     let (status, shown) = outcome(alloc, &["run", "a.t3"], Some(&image))?;
     assert_eq!(rt; shown.as_slice(), b"42\n".as_slice());
     assert_eq!(rt; status, Status::Done);
