@@ -5,3 +5,7 @@ mod RowLemmas
 mod Spelled
 mod Layouts
 mod Repeated
+pub mod RuleSteps
+pub mod EntryRules
+pub mod Firsts
+pub mod ObjectRules

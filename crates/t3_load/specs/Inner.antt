@@ -1,2 +1,5 @@
 pub mod Listing
 pub mod Rows
+pub mod Deciding
+pub mod Objects
+pub mod Numbers

@@ -3,4 +3,9 @@ pub mod Kinds
 pub mod Sets
 pub mod Symbols
 pub mod Layout
+pub mod Entries
+pub mod Statics
+pub mod ImageObjects
+pub mod Rules
+pub mod Loading
 pub mod Inner

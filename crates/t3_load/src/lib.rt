@@ -11,12 +11,15 @@
 //! ```
 #![tactic(auto)]
 
+mod entry;
 mod kinds;
 mod listing;
 mod names;
+mod objects;
 mod refusal;
 mod rows;
 mod sets;
+mod standing;
 mod statics;
 mod symbols;
 #[cfg(test)]
