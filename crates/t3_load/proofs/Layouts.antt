@@ -59,7 +59,7 @@ number_first bytes rest n is = ap length is ∙ length-append (little_endian 2 n
 pub text_short : (bytes : List ℕ) → length bytes < 2 → (text : List ℕ) → ¬ BeginsText text bytes
 text_short bytes short text begins = omega (arith, short, number_first bytes (text ++ begins.rest) (length text) begins.is)
 
-text_parts : (bytes rest : List ℕ) (count : ℕ) → count < 2 ^ 16 → bytes ≡ little_endian 2 count ++ rest → (text : List ℕ)
+pub text_parts : (bytes rest : List ℕ) (count : ℕ) → count < 2 ^ 16 → bytes ≡ little_endian 2 count ++ rest → (text : List ℕ)
     → (begins : BeginsText text bytes) → (length text ≡ count) × (text ++ begins.rest ≡ rest)
 text_parts bytes rest count few is text begins =
     number_split 2 (length text) count (text ++ begins.rest) rest begins.few few (sym begins.is ∙ is)
@@ -135,20 +135,21 @@ head_long bytes rest s p f is =
     omega (arith, first, second, third)
 
 -- a head is told from its bytes
-record SameHead (s p : ℕ) (x : List ℕ) (t q : ℕ) (y : List ℕ) : Type 0 where
-  supers : s ≡ t
-  props : p ≡ q
-  rest : x ≡ y
+pub record SameHead (s p f : ℕ) (x : List ℕ) (t q g : ℕ) (y : List ℕ) : Type 0 where
+  pub supers : s ≡ t
+  pub props : p ≡ q
+  pub flags : f ≡ g
+  pub rest : x ≡ y
 
-head_same : (bytes x y : List ℕ) (s p f t q g : ℕ) → HasHead s p f bytes x → HasHead t q g bytes y → SameHead s p x t q y
+pub head_same : (bytes x y : List ℕ) (s p f t q g : ℕ) → HasHead s p f bytes x → HasHead t q g bytes y → SameHead s p f x t q g y
 head_same bytes x y s p f t q g a b =
     let whole = sym (head_parts s p f x) ∙ sym a.is ∙ b.is ∙ head_parts t q g y in
     let first = number_split 2 s t _ _ a.few_supers b.few_supers whole in
     let second = number_split 2 p q _ _ a.few_props b.few_props first.1 in
     let third = number_split 2 f g _ _ a.flags_fit b.flags_fit second.1 in
-    record { supers = first.0; props = second.0; rest = third.1 }
+    record { supers = first.0; props = second.0; flags = third.0; rest = third.1 }
 
-head_of : (bytes : List ℕ) (supers : List ℕ) (class : Bool) (props : List PropValue) → (begins : BeginsTads supers class props bytes)
+pub head_of : (bytes : List ℕ) (supers : List ℕ) (class : Bool) (props : List PropValue) → (begins : BeginsTads supers class props bytes)
     → HasHead (length supers) (length props) begins.flags bytes begins.after_head
 head_of bytes supers class props begins = record {
   few_supers = begins.few_supers;

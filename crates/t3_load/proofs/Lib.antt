@@ -9,3 +9,5 @@ pub mod RuleSteps
 pub mod EntryRules
 pub mod Firsts
 pub mod ObjectRules
+pub mod OneObject
+pub mod SuperRules

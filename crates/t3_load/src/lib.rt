@@ -21,6 +21,7 @@ mod rows;
 mod sets;
 mod standing;
 mod statics;
+mod supers;
 mod symbols;
 #[cfg(test)]
 mod tests;

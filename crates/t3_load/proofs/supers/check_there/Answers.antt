@@ -1,0 +1,10 @@
+use Rattle.std.proofs.Common.{arith}
+use Rattle.t3_load.specs.ImageObjects.{lacks_super}
+use Rattle.t3_load.proofs.SuperRules.{none_by, there_kept}
+use Rattle.t3_load.proofs.supers.check_there.Goals as goal
+
+pub returns : goal.returns
+returns c = λ blocks are.
+    there_kept blocks c.args.objects.now are
+    (none_by (lacks_super c.args.objects.now) c.as_slice-object-items.result.now c.args.objects.now c.loop-object.object-index
+    (omega (arith, c.loop-object-test.false)) c.loop-object.invariant)

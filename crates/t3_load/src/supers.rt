@@ -1,0 +1,81 @@
+//! The rules on the superclasses of an image's objects.
+ghost use Rattle.std.specs.Prelude.{◌≡◌, List};
+ghost use Rattle.t3_image_read.specs.declared.image.PlacedBlock.{PlacedBlock as AnyBlock};
+ghost use Rattle.t3_load.specs.ImageObjects.{superclasses, lacks_super, is_transient_at, has_transient_super};
+ghost use Rattle.t3_load.specs.Rules.{AreObjectsIn, first_by};
+ghost use Rattle.t3_load.specs.Inner.Deciding.{Decides};
+
+use crate::objects::{ImageObject, ImageObjects};
+use crate::refusal::LoadRefusal;
+use t3_store::NewObject;
+use t3_tadsobj::Supers;
+
+/// Whether each superclass is there: rule 10.
+pub(crate) fn check_there(objects: &ImageObjects) -> Result<(), LoadRefusal>
+    ensures { (blocks : List AnyBlock) → AreObjectsIn blocks objects.now → Decides blocks 10 11 result }
+{
+    for object in objects.as_slice() {
+        if lacks_super(objects, object) {
+            return Err(LoadRefusal::SuperMissing(object.number));
+        }
+    }
+    Ok(())
+}
+
+/// Whether persistent objects have persistent superclasses: rule 12.
+pub(crate) fn check_persistent(objects: &ImageObjects) -> Result<(), LoadRefusal>
+    ensures { (blocks : List AnyBlock) → AreObjectsIn blocks objects.now → Decides blocks 12 13 result }
+{
+    for object in objects.as_slice() {
+        if has_transient_super(objects, object) {
+            return Err(LoadRefusal::TransientSuper(object.number));
+        }
+    }
+    Ok(())
+}
+
+/// Whether a superclass is no tads-object of the image.
+fn lacks_super(objects: &ImageObjects, object: &ImageObject) -> bool
+    ensures { result ≡ lacks_super objects.now object.now }
+{
+    for number in superclasses(object) {
+        if objects.supers(*number).is_none() {
+            return true;
+        }
+    }
+    false
+}
+
+/// Whether the object is persistent and a superclass is transient.
+fn has_transient_super(objects: &ImageObjects, object: &ImageObject) -> bool
+    ensures { result ≡ has_transient_super objects.now object.now }
+{
+    if object.transient {
+        return false;
+    }
+    for number in superclasses(object) {
+        if is_transient_at(objects, *number) {
+            return true;
+        }
+    }
+    false
+}
+
+fn is_transient_at(objects: &ImageObjects, number: u32) -> bool
+    ensures { result ≡ is_transient_at objects.now number }
+{
+    match objects.object(number) {
+        Some(object) => object.transient,
+        None => false,
+    }
+}
+
+/// The superclasses of a tads-object. Other objects have none.
+fn superclasses(object: &ImageObject) -> &[u32]
+    ensures { result.now ≡ superclasses object.now }
+{
+    match &object.object {
+        NewObject::Tads { supers, .. } => &supers.0,
+        _ => &[],
+    }
+}
