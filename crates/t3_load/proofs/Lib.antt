@@ -11,3 +11,4 @@ pub mod Firsts
 pub mod ObjectRules
 pub mod OneObject
 pub mod SuperRules
+pub mod Halving

@@ -1,9 +1,10 @@
 -- Objects of an image among each other: their superclasses, and how much they are together.
-use Rattle.std.specs.Prelude.{◌≡◌, ℕ, ◌&&◌, Bool, false, not, List, [], Option, None, Some, is_none, nat_eq, option_and_then, sum_by, Contains}
+use Rattle.std.specs.Prelude.{◌||◌, nat_lt, length, ◌≡◌, ℕ, ◌&&◌, Bool, false, not, List, [], Option, None, Some, is_none, nat_eq, option_and_then, sum_by, Contains}
 use Rattle.std.specs.List.{find, list_any}
 use Rattle.std.specs.FinMap.{get}
 use Rattle.t3_tadsobj.specs.Order.{SupersAt, IsAncestor}
 use Rattle.t3_store.specs.Value.{Value, Objects, supers_of, units_of, new_value}
+use Rattle.t3_store.specs.declared.limits.StoreLimits.{StoreLimits}
 use Rattle.t3_load.specs.declared.objects.ImageObject.{ImageObject}
 
 abbrev pub value_of : ImageObject → Value
@@ -45,6 +46,10 @@ IsOwnAncestor objects object = IsAncestor (supers_by objects) object.number obje
 
 abbrev pub units_together : List ImageObject → ℕ
 units_together objects = sum_by (λ object. units_of (value_of object)) objects
+
+-- the objects or their units pass the limits
+abbrev pub is_past : StoreLimits → List ImageObject → Bool
+is_past limits objects = nat_lt limits.objects (length objects) || nat_lt limits.units (units_together objects)
 
 -- an object of these has the number and the value, and is in that half
 pub record IsAmong (transient : Bool) (objects : List ImageObject) (number : ℕ) (value : Value) : Type 0 where

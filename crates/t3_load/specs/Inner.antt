@@ -3,3 +3,4 @@ pub mod Rows
 pub mod Deciding
 pub mod Objects
 pub mod Numbers
+pub mod Halves

@@ -1,5 +1,5 @@
 -- The rules that an image keeps of which a program can be made, in their order.
-use Rattle.std.specs.Prelude.{◌≡◌, ◌≢◌, ℕ, ◌<◌, ◌≤◌, ◌^◌, ◌⊎◌, ◌&&◌, Bool, not, nat_lt, IsTrue, List, [], ◌∷◌, ◌++◌, Option, Some, map, length, option_map, nat_eq, Contains}
+use Rattle.std.specs.Prelude.{◌≡◌, ◌≢◌, ℕ, ◌<◌, ◌≤◌, ◌^◌, ◌&&◌, Bool, not, nat_lt, IsTrue, List, [], ◌∷◌, ◌++◌, Option, Some, map, length, option_map, nat_eq, Contains}
 use Rattle.std.specs.List.{find, list_any, AllByRecursion, IsDistinct}
 use Rattle.t3_image_read.specs.declared.image.PlacedBlock.{PlacedBlock}
 use Rattle.t3_pools.specs.Building.{Refuses as PoolsRefuse}
@@ -13,7 +13,7 @@ use Rattle.t3_load.specs.Names.{metas_in, names_in, unknown_from}
 use Rattle.t3_load.specs.Kinds.{kind_entry_of}
 use Rattle.t3_load.specs.Sets.{set_named}
 use Rattle.t3_load.specs.Statics.{StaticValue, statics_in, kind_at, IsObjectOf, AreObjectsOf}
-use Rattle.t3_load.specs.ImageObjects.{lacks_super, has_transient_super, IsOwnAncestor, units_together}
+use Rattle.t3_load.specs.ImageObjects.{lacks_super, has_transient_super, IsOwnAncestor, is_past}
 
 -- the first of a list that breaks a rule
 pub record IsFirst {X : Type 0} (Broken : X → Type 0) (items : List X) (first : X) : Type 0 where
@@ -70,7 +70,7 @@ Breaks blocks limits (SuperMissing number) = OfObjects blocks (λ objects. first
 Breaks blocks limits (SuperCycle number) = OfObjects blocks (λ objects.
     (object : ImageObject) × (object.number ≡ number) × IsFirst (IsOwnAncestor objects) objects object)
 Breaks blocks limits (TransientSuper number) = OfObjects blocks (λ objects. first_by (has_transient_super objects) objects ≡ Some number)
-Breaks blocks limits Full = OfObjects blocks (λ objects. (limits.objects < length objects) ⊎ (limits.units < units_together objects))
+Breaks blocks limits Full = OfObjects blocks (λ objects. IsTrue (is_past limits objects))
 Breaks blocks limits NoMemory = ⊥
 
 -- the rules in their order, from 1 on

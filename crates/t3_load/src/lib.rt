@@ -12,6 +12,7 @@
 #![tactic(auto)]
 
 mod entry;
+mod halves;
 mod kinds;
 mod listing;
 mod names;

@@ -1,6 +1,6 @@
 //! The objects of an image, as they are to be made.
-ghost use Rattle.std.specs.Prelude.{◌≡◌, IfOk, OnErr, map, not, option_map};
-ghost use Rattle.std.specs.List.{find};
+ghost use Rattle.std.specs.Prelude.{◌≡◌, IfOk, map, nat_eq, not, option_map};
+ghost use Rattle.std.specs.List.{find, IsDistinct};
 ghost use Rattle.t3_load.specs.Names.{metas_in};
 ghost use Rattle.t3_load.specs.Kinds.{kind_entry_of};
 ghost use Rattle.t3_load.specs.ImageObjects.{object_of};
@@ -71,6 +71,7 @@ impl ImageObjects {
     /// The objects themselves, in order.
     pub(crate) fn into_vec(self) -> Vec<ImageObject>
         ensures objects { result.items ≡ self }
+        ensures distinct { IsDistinct nat_eq (map (λ object. object.number) self) }
     {
         let ImageObjects { numbers: _, objects } = self;
         objects

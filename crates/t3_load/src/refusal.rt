@@ -1,6 +1,7 @@
 use std::alloc::{AllocError, AllocFailed};
 use t3_holder::NoMemory;
 use t3_pools::PoolRefusal;
+use t3_store::StoreRefusal;
 use thiserror::Error;
 
 /// Why no program is made of an image: the first of these rules that it breaks, and of one rule the first that breaks it in the
@@ -70,6 +71,20 @@ impl From<NoMemory> for LoadRefusal {
 
     fn from(_error: NoMemory) -> LoadRefusal {
         LoadRefusal::NoMemory
+    }
+}
+
+impl From<StoreRefusal> for LoadRefusal {
+    ghost use Rattle.std.specs.Prelude.{◌≡◌};
+    ghost use Rattle.t3_load.specs.Inner.Halves.{refusal_by_store};
+
+    ghost from_gives = { λ why refusal. refusal ≡ refusal_by_store why };
+
+    fn from(why: StoreRefusal) -> LoadRefusal {
+        match why {
+            StoreRefusal::Full => LoadRefusal::Full,
+            StoreRefusal::NoMemory => LoadRefusal::NoMemory,
+        }
     }
 }
 

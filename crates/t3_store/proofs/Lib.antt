@@ -28,3 +28,4 @@ pub mod Ticks
 pub mod Validity
 pub mod Callers
 pub mod Given
+pub mod Added

@@ -34,7 +34,7 @@ pub enum NewObject {
 
 impl NewObject {
     /// How many units the object will count.
-    pub(crate) fn units(&self) -> u64
+    pub fn units(&self) -> u64
         ensures { result ≡ units_of (new_value self.now) }
     {
         match self {

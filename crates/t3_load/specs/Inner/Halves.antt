@@ -1,0 +1,32 @@
+-- What is known of the objects of an image that keeps its rules, and of the halves that are made of them.
+use Rattle.std.specs.Prelude.{◌≡◌, ◌+◌, ◌<◌, ◌^◌, true, false, List, length}
+use Rattle.std.specs.List.{All}
+use Rattle.std.specs.FinMap.{len}
+use Rattle.t3_store.specs.Value.{Objects, units_in, HasFittingLength}
+use Rattle.t3_store.specs.declared.limits.StoreRefusal.{StoreRefusal}
+use Rattle.t3_store.specs.declared.limits.StoreRefusal.TheVariants as store
+use Rattle.t3_load.specs.declared.refusal.LoadRefusal.{LoadRefusal}
+use Rattle.t3_load.specs.declared.refusal.LoadRefusal.TheVariants as refusals
+use Rattle.t3_load.specs.declared.objects.ImageObject.{ImageObject}
+use Rattle.t3_load.specs.ImageObjects.{value_of, units_together, IsHalf}
+
+-- an object has a number that a persistent one may have, and no more bytes or elements than an object may have
+pub record IsMade (object : ImageObject) : Type 0 where
+  pub above : 0 < object.number
+  pub below : object.number < 2 ^ 31
+  pub fits : HasFittingLength (value_of object)
+
+abbrev pub AreMade : List ImageObject → Type 0
+AreMade objects = All IsMade objects
+
+-- the two halves of some objects, which have as many objects and units together
+pub record AreHalves (objects : List ImageObject) (first passing : Objects) : Type 0 where
+  pub persistent : IsHalf false objects first
+  pub transient : IsHalf true objects passing
+  pub count : len first + len passing ≡ length objects
+  pub units : units_in first + units_in passing ≡ units_together objects
+
+-- a refusal of the store, as one of the loader
+abbrev pub refusal_by_store : StoreRefusal → LoadRefusal
+refusal_by_store store.Full = refusals.Full
+refusal_by_store store.NoMemory = refusals.NoMemory
