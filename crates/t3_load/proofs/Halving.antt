@@ -25,7 +25,7 @@ use Rattle.t3_load.proofs.Firsts.{parts_at, not_twice}
 number_of : ImageObject → ℕ
 number_of object = object.number
 
-contains_map : {X Y : Type 0} (f : X → Y) (xs : List X) (x : X) → Contains xs x → Contains (map f xs) (f x)
+pub contains_map : {X Y : Type 0} (f : X → Y) (xs : List X) (x : X) → Contains xs x → Contains (map f xs) (f x)
 contains_map f xs x there =
     (there.0, omega (arith, there.1, length-map xs f), get_or-map f xs there.0 x (f x) there.1 ∙ ap f there.2)
 

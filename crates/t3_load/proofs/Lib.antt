@@ -12,3 +12,7 @@ pub mod ObjectRules
 pub mod OneObject
 pub mod SuperRules
 pub mod Halving
+pub mod ByNumber
+pub mod Starting
+pub mod NameRules
+pub mod LoadSteps

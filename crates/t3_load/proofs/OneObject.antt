@@ -1,6 +1,13 @@
 -- Bytes begin with at most one object of a metaclass, so an image has one list of objects.
-use Rattle.std.proofs.Common.{◌≡◌, ℕ, ◌==◌, Bool, List, [], ◌∷◌, ◌++◌, Option, length, refl, sym, ap, ◌∙◌, subst}
+use Rattle.std.proofs.Common.{◌≡◌, ℕ, ◌==◌, ◌<◌, ◌^◌, ◌&&◌, Bool, true, false, not, nat_lt, cond, List, [], ◌∷◌, ◌++◌, Option, None, Some, length, refl, sym, ap, ◌∙◌, subst, arith}
 use Rattle.std.specs.Int.{bit_at}
+use Rattle.std.specs.Prelude.{option_map}
+use Rattle.std.specs.List.{find}
+use Rattle.std.proofs.lemmas.Bool.{ltb-true}
+use Rattle.std.proofs.lemmas.List.Elements.{All-nil, All-cons}
+use Rattle.t3_store.specs.Value.{HasFittingLength, new_value}
+use Rattle.t3_load.specs.Rules.{is_object_number}
+use Rattle.t3_load.specs.Inner.Halves.{IsMade, AreMade}
 use Rattle.t3_blocks.proofs.Lists.{number_split, split_same}
 use Rattle.t3_holder.specs.declared.holder.Holder.{Holder}
 use Rattle.t3_store.specs.declared.new_object.NewObject.{NewObject}
@@ -52,7 +59,7 @@ as_tads (new.List items) bytes begins = absurd begins
 as_tads (new.Vector items) bytes begins = absurd begins
 as_tads new.Table bytes begins = absurd begins
 
-as_text : (object : NewObject) (bytes : List ℕ) → BeginsObject kinds.Text object bytes
+pub as_text : (object : NewObject) (bytes : List ℕ) → BeginsObject kinds.Text object bytes
     → (text : List ℕ) × (object ≡ new.Text text) × BeginsText text bytes
 as_text (new.Tads supers class props) bytes begins = absurd begins
 as_text (new.Text text) bytes begins = (text, refl, begins)
@@ -60,7 +67,7 @@ as_text (new.List items) bytes begins = absurd begins
 as_text (new.Vector items) bytes begins = absurd begins
 as_text new.Table bytes begins = absurd begins
 
-as_list : (object : NewObject) (bytes : List ℕ) → BeginsObject kinds.List object bytes
+pub as_list : (object : NewObject) (bytes : List ℕ) → BeginsObject kinds.List object bytes
     → (items : List Holder) × (object ≡ new.List items) × BeginsList items bytes
 as_list (new.Tads supers class props) bytes begins = absurd begins
 as_list (new.Text text) bytes begins = absurd begins
@@ -68,7 +75,7 @@ as_list (new.List items) bytes begins = (items, refl, begins)
 as_list (new.Vector items) bytes begins = absurd begins
 as_list new.Table bytes begins = absurd begins
 
-as_vector : (object : NewObject) (bytes : List ℕ) → BeginsObject kinds.Vector object bytes
+pub as_vector : (object : NewObject) (bytes : List ℕ) → BeginsObject kinds.Vector object bytes
     → (items : List Holder) × (object ≡ new.Vector items) × BeginsVector items bytes
 as_vector (new.Tads supers class props) bytes begins = absurd begins
 as_vector (new.Text text) bytes begins = absurd begins
@@ -136,3 +143,55 @@ one_list_of kind (s ∷ statics) [] ys a b = absurd a
 one_list_of kind (s ∷ statics) (x ∷ xs) [] a b = absurd b
 one_list_of kind (s ∷ statics) (x ∷ xs) (y ∷ ys) a b =
     λ i. one_of kind s x y a.0 b.0 i ∷ one_list_of kind statics xs ys a.1 b.1 i
+
+-- ---- and it has no more bytes or elements than an object may have
+
+fitting : (kind : MetaKind) (object : NewObject) (bytes : List ℕ) → BeginsObject kind object bytes → HasFittingLength (new_value object)
+fitting kinds.Tads (new.Tads supers class props) bytes begins = tt
+fitting kinds.Tads (new.Text text) bytes begins = absurd begins
+fitting kinds.Tads (new.List items) bytes begins = absurd begins
+fitting kinds.Tads (new.Vector items) bytes begins = absurd begins
+fitting kinds.Tads new.Table bytes begins = absurd begins
+fitting kinds.Text object bytes begins =
+    let text = as_text object bytes begins in
+    subst (λ o. HasFittingLength (new_value o)) (sym text.1) (omega (arith, text.2.few))
+fitting kinds.List object bytes begins =
+    let items = as_list object bytes begins in
+    subst (λ o. HasFittingLength (new_value o)) (sym items.1) (omega (arith, items.2.few))
+fitting kinds.Vector object bytes begins =
+    let items = as_vector object bytes begins in
+    subst (λ o. HasFittingLength (new_value o)) (sym items.1) (omega (arith, items.2.listed.few))
+fitting kinds.Root object bytes begins = absurd (root_not object bytes begins)
+fitting kinds.Collection object bytes begins = absurd (collection_not object bytes begins)
+fitting kinds.Table object bytes begins = absurd (table_not object bytes begins)
+
+number_within : (n : ℕ) → not (is_object_number n) ≡ false → (0 < n) × (n < 2 ^ 31)
+number_within n e = by_test (nat_lt 0 n) refl (nat_lt n (2 ^ 31)) refl e
+  where
+    by_test : (a : Bool) → nat_lt 0 n ≡ a → (b : Bool) → nat_lt n (2 ^ 31) ≡ b → not (a && b) ≡ false → (0 < n) × (n < 2 ^ 31)
+    by_test true p true q e = (ltb-true 0 n p, ltb-true n (2 ^ 31) q)
+    by_test true p false q e = absurd cc
+    by_test false p b q e = absurd cc
+
+-- the objects of an image of which none has a bad number
+pub are_made : (kind : ℕ → Option MetaKind) (statics : List StaticValue) (objects : List ImageObject) → AreObjectsOf kind statics objects
+    → option_map (λ (s : StaticValue). s.number) (find (λ (s : StaticValue). not (is_object_number s.number)) statics) ≡ None → AreMade objects
+are_made kind [] [] are none = All-nil IsMade
+are_made kind [] (o ∷ objects) are none = absurd are
+are_made kind (s ∷ statics) [] are none = absurd are
+are_made kind (s ∷ statics) (o ∷ objects) are none =
+    by_test (λ none. are_made kind statics objects are.1 none) (not (is_object_number s.number)) refl none
+  where
+    by_test : (option_map (λ (x : StaticValue). x.number) (find (λ (x : StaticValue). not (is_object_number x.number)) statics) ≡ None → AreMade objects)
+        → (b : Bool) → not (is_object_number s.number) ≡ b
+        → option_map (λ (x : StaticValue). x.number) (cond b (Some s) (find (λ (x : StaticValue). not (is_object_number x.number)) statics)) ≡ None
+        → AreMade (o ∷ objects)
+    by_test further true t none = absurd cc
+    by_test further false t none =
+        let within = number_within s.number t in
+        All-cons IsMade o objects
+        (record {
+          above = omega (arith, within.0, are.0.number);
+          below = omega (arith, within.1, are.0.number);
+          fits = fitting are.0.metaclass o.object s.bytes are.0.begins;
+        }) (further none)

@@ -29,7 +29,7 @@ superclasses object = or_none (supers_of (value_of object))
 abbrev pub lacks_super : List ImageObject → ImageObject → Bool
 lacks_super objects object = list_any (λ super. is_none (supers_by objects super)) (superclasses object)
 
-abbrev flag_or_false : Option ImageObject → Bool
+abbrev pub flag_or_false : Option ImageObject → Bool
 flag_or_false None = false
 flag_or_false (Some object) = object.transient
 

@@ -1,9 +1,15 @@
 -- The program of an image, or the first rule that it breaks.
-use Rattle.std.specs.Prelude.{◌≡◌, ℕ, ◌+◌, true, false, List, [], ◌∷◌, Result, Ok, Err, Some, map, max, fold}
+use Rattle.std.specs.Prelude.{◌≡◌, ℕ, ◌+◌, ◌<◌, ◌≤◌, ◌^◌, ◌⊎◌, true, false, List, [], ◌∷◌, Result, Ok, Err, Some, map, max, fold}
 use Rattle.t3_blocks.specs.declared.items.Symbol.{Symbol}
 use Rattle.t3_image_read.specs.declared.image.PlacedBlock.{PlacedBlock}
 use Rattle.t3_pools.specs.Pool.{PoolsValue, pools_in}
-use Rattle.t3_store.specs.Value.{Objects}
+use Rattle.t3_store.specs.Value.{Value, Objects, units_in, new_value}
+use Rattle.t3_store.specs.Store.{AreLimits, AreBelow}
+use Rattle.t3_store.specs.Whole.{IsWhole, AreApart, supers_in, supers_among}
+use Rattle.t3_store.specs.declared.new_object.NewObject.{NewObject}
+use Rattle.t3_load.specs.declared.kinds.MetaKind.{MetaKind}
+use Rattle.t3_load.specs.Layout.{BeginsObject}
+use Rattle.std.specs.FinMap.{get, len}
 use Rattle.t3_store.specs.declared.limits.StoreLimits.{StoreLimits}
 use Rattle.t3_load.specs.declared.refusal.LoadRefusal.{LoadRefusal}
 use Rattle.t3_load.specs.declared.refusal.LoadRefusal.TheVariants.{NoMemory}
@@ -37,6 +43,31 @@ pub record ProgramValue : Type 0 where
 abbrev pub next_above : List ℕ → ℕ
 next_above numbers = fold max 0 numbers + 1
 
+-- each object is one with which some bytes begin
+pub record IsSound (value : Value) : Type 0 where
+  pub metaclass : MetaKind
+  pub object : NewObject
+  pub bytes : List ℕ
+  pub begins : BeginsObject metaclass object bytes
+  pub is : new_value object ≡ value
+
+abbrev pub AreSound : Objects → Type 0
+AreSound objects = (number : ℕ) (value : Value) → get objects number ≡ Some value → IsSound value
+
+-- a store can be begun with these objects, of which each is one with which bytes may begin
+pub record CanStart (limits : StoreLimits) (first passing : Objects) (next : ℕ) : Type 0 where
+  pub limits_are : AreLimits limits
+  pub next_is : (0 < next) × (next ≤ 2 ^ 31)
+  pub first_below : AreBelow next first
+  pub passing_below : AreBelow next passing
+  pub apart : AreApart first passing
+  pub whole : IsWhole (supers_in first)
+  pub both : IsWhole (supers_among first passing)
+  pub objects : len first + len passing ≤ limits.objects
+  pub units : units_in first + units_in passing ≤ limits.units
+  pub first_sound : AreSound first
+  pub passing_sound : AreSound passing
+
 -- the program of an image
 pub record LoadsAs (blocks : List PlacedBlock) (fingerprint : List ℕ) (limits : StoreLimits) (program : ProgramValue) : Type 0 where
   pub entry : entries blocks ≡ record { code = program.entry; method_size = 10; exception_size = 10 } ∷ []
@@ -55,5 +86,4 @@ pub record LoadsAs (blocks : List PlacedBlock) (fingerprint : List ℕ) (limits 
 -- the program of an image that keeps all rules, or the first rule that it breaks; memory may always be wanting
 abbrev pub Loads : List PlacedBlock → List ℕ → StoreLimits → Result ProgramValue LoadRefusal → Type 0
 Loads blocks fingerprint limits (Ok program) = KeepsRules blocks limits 1 14 × LoadsAs blocks fingerprint limits program
-Loads blocks fingerprint limits (Err NoMemory) = Unit {0}
-Loads blocks fingerprint limits (Err why) = Breaks blocks limits why × KeepsRules blocks limits 1 (rule_of why)
+Loads blocks fingerprint limits (Err why) = (why ≡ NoMemory) ⊎ (Breaks blocks limits why × KeepsRules blocks limits 1 (rule_of why))

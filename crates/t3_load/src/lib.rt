@@ -17,6 +17,7 @@ mod kinds;
 mod listing;
 mod names;
 mod objects;
+mod program;
 mod refusal;
 mod rows;
 mod sets;
@@ -28,7 +29,8 @@ mod symbols;
 mod tests;
 
 pub use kinds::{KindEntry, Kinds, MetaKind, PropNumbers};
-pub use refusal::NameRefusal;
+pub use program::{Program, load};
+pub use refusal::{LoadRefusal, NameRefusal};
 pub use sets::{SetKind, Sets};
 pub use statics::static_object;
 pub use symbols::SymbolTable;

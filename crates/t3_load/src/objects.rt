@@ -7,6 +7,7 @@ ghost use Rattle.t3_load.specs.ImageObjects.{object_of};
 ghost use Rattle.t3_load.specs.Rules.{AreObjectsIn, is_object_number};
 ghost use Rattle.t3_load.specs.Statics.{statics_in};
 ghost use Rattle.t3_load.specs.Inner.Deciding.{Decides};
+ghost use Rattle.t3_load.specs.Inner.Halves.{AreMade};
 ghost use Rattle.t3_load.specs.Inner.Objects.{static_of, GivesObjectOf, entry_kind_at, HasNumbers, TakesNumbers, TakesObjects};
 
 use crate::kinds::Kinds;
@@ -63,7 +64,8 @@ impl ImageObjects {
 
     /// The objects in order.
     pub(crate) fn as_slice(&self) -> &[ImageObject]
-        ensures { result.now ≡ self.now }
+        ensures objects { result.now ≡ self.now }
+        ensures distinct { IsDistinct nat_eq (map (λ object. object.number) self.now) }
     {
         &self.objects
     }
@@ -117,6 +119,7 @@ pub(crate) fn objects(
 ) -> Result<ImageObjects, LoadRefusal>
     requires { map kind_entry_of (metas_in blocks.now) ≡ map Some kinds.now }
     ensures objects { IfOk result (λ objects. AreObjectsIn blocks.now objects) }
+    ensures made { IfOk result AreMade }
     ensures decides { Decides blocks.now 7 10 result }
 {
     let statics = statics(alloc, blocks)?;

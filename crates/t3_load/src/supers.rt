@@ -1,18 +1,21 @@
 //! The rules on the superclasses of an image's objects.
-ghost use Rattle.std.specs.Prelude.{◌≡◌, List};
+ghost use Rattle.std.specs.Prelude.{◌≡◌, List, None, OnOk};
 ghost use Rattle.t3_image_read.specs.declared.image.PlacedBlock.{PlacedBlock as AnyBlock};
-ghost use Rattle.t3_load.specs.ImageObjects.{superclasses, lacks_super, is_transient_at, has_transient_super};
+ghost use Rattle.t3_load.specs.ImageObjects.{supers_by, superclasses, lacks_super, is_transient_at, has_transient_super};
+ghost use Rattle.t3_store.specs.Whole.{IsAcyclic};
 ghost use Rattle.t3_load.specs.Rules.{AreObjectsIn, first_by};
 ghost use Rattle.t3_load.specs.Inner.Deciding.{Decides};
 
 use crate::objects::{ImageObject, ImageObjects};
 use crate::refusal::LoadRefusal;
+use std::alloc::Global;
 use t3_store::NewObject;
 use t3_tadsobj::Supers;
 
 /// Whether each superclass is there: rule 10.
 pub(crate) fn check_there(objects: &ImageObjects) -> Result<(), LoadRefusal>
-    ensures { (blocks : List AnyBlock) → AreObjectsIn blocks objects.now → Decides blocks 10 11 result }
+    ensures there { OnOk result (first_by (lacks_super objects.now) objects.now ≡ None) }
+    ensures decides { (blocks : List AnyBlock) → AreObjectsIn blocks objects.now → Decides blocks 10 11 result }
 {
     for object in objects.as_slice() {
         if lacks_super(objects, object) {
@@ -22,9 +25,19 @@ pub(crate) fn check_there(objects: &ImageObjects) -> Result<(), LoadRefusal>
     Ok(())
 }
 
+/// Whether no object is its own ancestor: rule 11. Each superclass must be there.
+pub(crate) fn check_acyclic(alloc: Global, objects: &ImageObjects) -> Result<(), LoadRefusal>
+    requires { first_by (lacks_super objects.now) objects.now ≡ None }
+    ensures acyclic { OnOk result (IsAcyclic (supers_by objects.now)) }
+    ensures decides { (blocks : List AnyBlock) → AreObjectsIn blocks objects.now → Decides blocks 11 12 result }
+{
+    Err(LoadRefusal::NoMemory)
+}
+
 /// Whether persistent objects have persistent superclasses: rule 12.
 pub(crate) fn check_persistent(objects: &ImageObjects) -> Result<(), LoadRefusal>
-    ensures { (blocks : List AnyBlock) → AreObjectsIn blocks objects.now → Decides blocks 12 13 result }
+    ensures persistent { OnOk result (first_by (has_transient_super objects.now) objects.now ≡ None) }
+    ensures decides { (blocks : List AnyBlock) → AreObjectsIn blocks objects.now → Decides blocks 12 13 result }
 {
     for object in objects.as_slice() {
         if has_transient_super(objects, object) {

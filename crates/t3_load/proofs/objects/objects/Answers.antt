@@ -6,6 +6,7 @@ use Rattle.t3_load.specs.declared.objects.Tried.TheVariants as tried
 use Rattle.t3_load.specs.Rules.{is_object_number, IsFirstTwice}
 use Rattle.t3_load.specs.Inner.Objects.{static_of, entry_kind_at, TakesNumbers, TakesObjects}
 use Rattle.t3_load.proofs.ObjectRules.{twice_decides, data_decides, are_in, objects_decide, have_numbers}
+use Rattle.t3_load.proofs.OneObject.{are_made}
 use Rattle.t3_load.proofs.objects.objects.Goals as goal
 
 abbrev number_of : StaticObject → ℕ
@@ -61,6 +62,15 @@ returns-clause-objects c =
     are_in static_of c.in_ok-statics.statics.items c.args.blocks.now c.args.kinds.now c.in-Good-2.objects.items c.in_ok-statics.ensures c.requires
     (subst (λ rs. TakesObjects kind (map static_of rs) (tried.Good c.in-Good-2.objects)) c.deref-3.ensures.value
     (subst (TakesObjects kind (map static_of c.deref-3.result.now)) c.in-Good-2.is c.in_ok-objects.ensures))
+
+pub returns-clause-made : goal.returns-clause-made
+returns-clause-made c =
+    let rows = c.in_ok-statics.statics.items in
+    let kind = entry_kind_at c.args.kinds.now in
+    are_made kind (map static_of rows) c.in-Good-2.objects.items
+    (subst (λ rs. TakesObjects kind (map static_of rs) (tried.Good c.in-Good-2.objects)) c.deref-3.ensures.value
+    (subst (TakesObjects kind (map static_of c.deref-3.result.now)) c.in-Good-2.is c.in_ok-objects.ensures))
+    (no_bad rows c.deref.result.now c.bad_number.result c.deref.ensures.value c.bad_number.ensures c.in_default.is)
 
 pub returns-clause-decides : goal.returns-clause-decides
 returns-clause-decides c =
