@@ -1,7 +1,7 @@
 -- Facts that hold of each line.
 use Rattle.std.proofs.Common.{◌≡◌, ℕ, zero, suc, ◌-◌, min, List, [], ◌∷◌, ◌++◌, length, take, drop, replicate, slice_get, Some, sym, ap, ◌∙◌, subst, inl, inr, arith}
 use Rattle.std.proofs.lemmas.Bool.{cases_lt}
-use Rattle.std.proofs.lemmas.List.{take_all, drop_all, drop-replicate, length-append, length-take, length-replicate}
+use Rattle.std.proofs.lemmas.List.{append-nil, take_all, drop_all, drop-replicate, length-append, length-take, length-replicate}
 use Rattle.std.specs.List.{AllByRecursion}
 use Rattle.t3_asm.specs.Arguments.{resized}
 
@@ -41,6 +41,14 @@ resized_is size fill bytes count is =
     drop-replicate count size fill ∙ ap (λ n. replicate n fill) (omega (arith, is)) in
     ap (λ l. l ++ drop count (replicate size fill)) (ap (λ n. take n bytes) is ∙ take-min bytes size)
     ∙ ap (λ l. take size bytes ++ l) rest
+
+-- bytes of just this size
+pub resized-same : (size fill : ℕ) (bytes : List ℕ) → length bytes ≡ size → resized size fill bytes ≡ bytes
+unfolding resized
+resized-same size fill bytes long =
+    let none : size - length bytes ≡ 0 = omega (arith, long) in
+    ap (λ l. l ++ replicate (size - length bytes) fill) (take_all size bytes (omega (arith, long)))
+    ∙ ap (λ n. bytes ++ replicate n fill) none ∙ append-nil bytes
 
 pub length-resized : (size fill : ℕ) (bytes : List ℕ) → length (resized size fill bytes) ≡ size
 unfolding resized

@@ -294,7 +294,7 @@ length-end flags =
       length-little_endian 2 flags,
     )
 
-length-text : (head : Head) (blocks : List PlacedBlock) (flags : ℕ) → IsHead head
+pub length-text : (head : Head) (blocks : List PlacedBlock) (flags : ℕ) → IsHead head
     → length (text (record { head = head; blocks = blocks; eof_flags = flags })) ≡ 69 + length (flat_map block_text blocks) + 10
 unfolding text prefix_text
 length-text head blocks flags is =

@@ -45,3 +45,11 @@ pub fn listing_formed()
 {
     listed_lines_read();
 }
+
+/// The listing of a valid image, whose names and texts are bytes, is a source of exactly that image.
+pub fn listing_satisfies()
+    ensures { (image : ImageValue) → IsValid image → HasBytes image
+        → Satisfies (listing image) image }
+{
+    listing_formed();
+}
