@@ -22,6 +22,8 @@ mod item;
 mod labels;
 mod laws;
 mod level;
+#[cfg(test)]
+mod limit_tests;
 mod lines;
 mod listing;
 mod lists;
