@@ -11,6 +11,7 @@ mod ListedItems
 mod ListedLines
 mod ListingForm
 mod ListingFormed
+mod ListingLength
 mod ListingSays
 mod ListingStands
 mod Payloads

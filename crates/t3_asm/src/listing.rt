@@ -1,5 +1,6 @@
 //! The listing of an image.
-ghost use Rattle.std.specs.Prelude.{◌≡◌, IfOk};
+ghost use Rattle.std.specs.Prelude.{◌≡◌, ◌-◌, ◌^◌, ◌<◌, length, IfOk};
+ghost use Rattle.t3_asm_line.specs.Lines.{lines_of};
 ghost use Rattle.t3_holder.specs.NumberText.{AreBytes};
 ghost use Rattle.t3_blocks.specs.Spelling.{name_of};
 ghost use Rattle.t3_image_read.specs.Validity.{IsValid};
@@ -16,11 +17,12 @@ use t3_blocks::Block;
 use t3_holder::NoMemory;
 use t3_image_read::{Image, PlacedBlock};
 
-/// The listing of an image: a source of one spelling, line by line in the image's order. It is a source
-/// of exactly that image.
+/// The listing of an image: a source of one spelling, line by line in the image's order. It says exactly
+/// that image, and has no more lines than `assemble` takes.
 pub fn list(alloc: Global, image: &Image) -> Result<Vec<u8>, NoMemory>
     ensures listing { IfOk result (λ source. source.items ≡ listing image.now) }
     ensures satisfied { IfOk result (λ source. Satisfies source.items image.now) }
+    ensures few_lines { IfOk result (λ source. length (lines_of source.items) < 2 ^ 32 - 1) }
 {
     listing_satisfies();
     spell(alloc, image)

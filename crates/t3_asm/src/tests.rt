@@ -330,14 +330,20 @@ fn relisted(rt: &impl Abort, alloc: Global, source: &[u8]) -> Result<Vec<u8>, Fa
     }
 }
 
+/// What a source says once its image is listed and assembled again.
+fn told_again(rt: &impl Abort, alloc: Global, source: &[u8]) -> Result<String, Fail> {
+    assert!(rt; source.len() < 4_294_967_295);
+    let image = assemble_few(alloc, source)?;
+    image_told(alloc, &list_assembles(alloc, &image)?)
+}
+
 #[test]
 fn lists_what_assembles_to_the_same(rt: HostRuntime) -> Result<(), Fail> {
     let alloc = rt.alloc();
     assert_eq!(rt; relisted(&rt, alloc, STORY)?.len(), 302);
     for row in &WORKED {
         let (source, expected) = *row;
-        let listing = relisted(&rt, alloc, source)?;
-        assert_eq!(rt; told(&rt, alloc, &listing)?.as_str(), expected);
+        assert_eq!(rt; told_again(&rt, alloc, source)?.as_str(), expected);
     }
     Ok(())
 }
