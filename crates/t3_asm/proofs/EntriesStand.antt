@@ -16,6 +16,7 @@ use Rattle.t3_asm.specs.declared.stage.Stage.TheVariants as stages
 use Rattle.t3_asm.specs.Forms.{has_size, is_resized}
 use Rattle.t3_asm.specs.Listing.{bytes_line, bytes_lines, pieces, static_lines, prop_lines, name_lines, symbol_lines}
 use Rattle.t3_asm.specs.Stages.{stage_behind, takes_kept}
+use Rattle.t3_asm.proofs.EachLine.{prop_line}
 use Rattle.t3_asm.proofs.ListingForm.{Stands, StandFrom}
 
 -- the stage behind some lines
@@ -125,8 +126,7 @@ objects_stand flags (object ∷ objects) =
 
 -- properties of their metaclass's size
 prop_by : (size : ℕ) (entry : PropEntry) (small : Bool) → eqb size 2 ≡ small → IsProp size entry
-    → Stands (stages.Metaclass size) (cond small (parsed_line of.Prop (Number entry.number ∷ []))
-    (parsed_line of.PropBytes (Number entry.number ∷ Text entry.extra ∷ [])))
+    → Stands (stages.Metaclass size) (prop_line small entry)
 prop_by size entry true two is = record {
   taken = refl;
   sized = ap not two;
@@ -145,9 +145,7 @@ prop_by size entry false two is = record {
 }
 
 prop_stage : (size : ℕ) (entry : PropEntry) (small : Bool)
-    → stage_through (stages.Metaclass size)
-    (cond small (parsed_line of.Prop (Number entry.number ∷ []))
-    (parsed_line of.PropBytes (Number entry.number ∷ Text entry.extra ∷ [])) ∷ [])
+    → stage_through (stages.Metaclass size) (prop_line small entry ∷ [])
     ≡ stages.Metaclass size
 prop_stage size entry true = refl
 prop_stage size entry false = refl

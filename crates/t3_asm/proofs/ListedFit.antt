@@ -22,11 +22,7 @@ use Rattle.t3_asm_line.specs.Listing.{IsListedLine}
 use Rattle.t3_asm_line.specs.Values.{is_size}
 use Rattle.t3_asm.specs.HasBytes.{PropHasBytes, StaticHasBytes, SymbolHasBytes, MetaHasBytes, BlockHasBytes, PlacedHasBytes, HasBytes}
 use Rattle.t3_asm.specs.Listing.{piece_size, first_pieces, pieces, bytes_line, bytes_lines, head_line, end_line, entry_line, static_lines, prop_lines, meta_lines, name_lines, symbol_lines, lines_in, block_lines, listed_lines}
-use Rattle.t3_asm.proofs.EachLine.{All-drop}
-
-pub All-append : {X : Type 0} (P : X → Type 0) (xs ys : List X) → AllByRecursion P xs → AllByRecursion P ys → AllByRecursion P (xs ++ ys)
-All-append P [] ys front back = back
-All-append P (x ∷ xs) ys front back = (front.0, All-append P xs ys front.1 back)
+use Rattle.t3_asm.proofs.EachLine.{All-append, All-drop, prop_line}
 
 All-take : {X : Type 0} (P : X → Type 0) (n : ℕ) (xs : List X) → AllByRecursion P xs → AllByRecursion P (take n xs)
 All-take P zero xs all = tt
@@ -85,8 +81,7 @@ static_listed width object is bytes =
     (record { named = tt; fit = (long object.number is.0, tt) }, bytes_lines_listed object.bytes bytes)
 
 prop_by : (size : ℕ) (entry : PropEntry) (small : Bool) → IsProp size entry → PropHasBytes entry
-    → IsListedLine (cond small (parsed_line of.Prop (Number entry.number ∷ []))
-    (parsed_line of.PropBytes (Number entry.number ∷ Text entry.extra ∷ [])))
+    → IsListedLine (prop_line small entry)
 prop_by size entry true is bytes = record { named = tt; fit = (short entry.number is.0, tt) }
 prop_by size entry false is bytes =
     record { named = tt; fit = (short entry.number is.0, ((bytes, any_size (length entry.extra)), tt)) }

@@ -21,8 +21,7 @@ use Rattle.t3_asm.specs.Listing.{bytes_line, bytes_lines, pieces, end_line, stat
 use Rattle.t3_asm.specs.Places.{Labels}
 use Rattle.t3_asm.specs.Stages.{stage_of_name}
 use Rattle.t3_asm.specs.Values.{content_text}
-use Rattle.t3_asm.proofs.EachLine.{resized-same}
-use Rattle.t3_asm.proofs.ListedFit.{All-append}
+use Rattle.t3_asm.proofs.EachLine.{All-bytes_lines, All-flat_map, All-prop_lines, prop_line, resized-same}
 use Rattle.t3_asm.proofs.ListedItems.{Positions, item_at, after, items_at, lines_with, lines_with-flat, closes, contents_bytes, entries_all, entries_pass, Passes}
 use Rattle.t3_asm.proofs.ListingStands.{named_by, kept_stage, short_number}
 use Rattle.t3_asm.proofs.SaidLists.{long_number, EndsEntry, statics_said, metas_said, names_said, symbols_said}
@@ -139,40 +138,24 @@ placed_said labels placed good behind may positions =
 abbrev NoBlock : ParsedLine → Type 0
 NoBlock line = Passes Image is_block line
 
-bytes_pass : (ps : List (List ℕ)) → AllByRecursion NoBlock (map bytes_line ps)
-bytes_pass [] = tt
-bytes_pass (piece ∷ ps) = ((refl, refl), bytes_pass ps)
+bytes_pass : (bytes : List ℕ) → AllByRecursion NoBlock (bytes_lines bytes)
+bytes_pass bytes = All-bytes_lines NoBlock (λ piece. (refl, refl)) bytes
 
-bytes_lines_pass : (bytes : List ℕ) → AllByRecursion NoBlock (bytes_lines bytes)
-unfolding bytes_lines
-bytes_lines_pass bytes = bytes_pass (pieces bytes)
-
-all_pass : {A : Type 0} (lines : A → List ParsedLine) → ((x : A) → AllByRecursion NoBlock (lines x)) → (xs : List A)
-    → AllByRecursion NoBlock (flat_map lines xs)
-all_pass lines each [] = tt
-all_pass lines each (x ∷ xs) = All-append NoBlock (lines x) (flat_map lines xs) (each x) (all_pass lines each xs)
-
-prop_passes : (size : ℕ) (entry : PropEntry) (small : Bool)
-    → NoBlock (cond small (parsed_line of.Prop (Number entry.number ∷ []))
-    (parsed_line of.PropBytes (Number entry.number ∷ Text entry.extra ∷ [])))
-prop_passes size entry true = (refl, refl)
-prop_passes size entry false = (refl, refl)
+prop_passes : (alone : Bool) (entry : PropEntry) → NoBlock (prop_line alone entry)
+prop_passes true entry = (refl, refl)
+prop_passes false entry = (refl, refl)
 
 lines_pass : (block : Block) → AllByRecursion NoBlock (lines_in block)
 lines_pass (blocks.Entry code m e debug tail) = ((refl, refl), tt)
 lines_pass (blocks.Objects metaclass flags objects) =
-    ((refl, refl), all_pass static_lines (λ object. ((refl, refl), bytes_lines_pass object.bytes)) objects)
+    ((refl, refl), All-flat_map NoBlock static_lines (λ object. ((refl, refl), bytes_pass object.bytes)) objects)
 lines_pass (blocks.PoolDef pool count size) = ((refl, refl), tt)
-lines_pass (blocks.Page pool index mask bytes) = ((refl, refl), bytes_lines_pass bytes)
+lines_pass (blocks.Page pool index mask bytes) = ((refl, refl), bytes_pass bytes)
 lines_pass (blocks.Metas metas) =
-    all_pass meta_lines (λ meta. (
-      (refl, refl),
-      all_pass (prop_lines meta.property_size)
-          (λ entry. (prop_passes meta.property_size entry (eqb meta.property_size 2), tt)) meta.props,
-    )) metas
-lines_pass (blocks.Functions names) = all_pass name_lines (λ name. ((refl, refl), tt)) names
-lines_pass (blocks.Symbols symbols) = all_pass symbol_lines (λ symbol. ((refl, refl), tt)) symbols
-lines_pass (blocks.Opaque name bytes) = bytes_lines_pass bytes
+    All-flat_map NoBlock meta_lines (λ meta. ((refl, refl), All-prop_lines NoBlock prop_passes meta.property_size meta.props)) metas
+lines_pass (blocks.Functions names) = All-flat_map NoBlock name_lines (λ name. ((refl, refl), tt)) names
+lines_pass (blocks.Symbols symbols) = All-flat_map NoBlock symbol_lines (λ symbol. ((refl, refl), tt)) symbols
+lines_pass (blocks.Opaque name bytes) = bytes_pass bytes
 
 -- the lines of good blocks say the blocks
 pub blocks_said : (labels : Labels) (placed : List PlacedBlock) → AllByRecursion IsGood placed → (flags : ℕ) → (positions : Positions)

@@ -15,6 +15,7 @@ use Rattle.t3_asm.specs.declared.level.Level.TheVariants.{InBlock, InEntry}
 use Rattle.t3_asm.specs.Blocks.{is_object, is_meta, is_prop, statics_of, static_of, props_of, prop_of, metas_of, meta_of, names_of, symbols_of}
 use Rattle.t3_asm.specs.Listing.{bytes_line, bytes_lines, pieces, static_lines, prop_lines, meta_lines, name_lines, symbol_lines}
 use Rattle.t3_asm.specs.Places.{Labels}
+use Rattle.t3_asm.proofs.EachLine.{All-bytes_lines, All-prop_lines, prop_line}
 use Rattle.t3_asm.proofs.ListedItems.{Positions, item_at, after, items_at, lines_with, lines_with-flat, closes, contents_bytes, entries_none, entries_all, entries_pass, Passes}
 use Rattle.t3_asm.proofs.ListingStands.{short_number}
 
@@ -29,14 +30,6 @@ abbrev pub EndsAny : List ParsedLine → Type 0
 EndsAny lines = Unit {0}
 
 -- ---- objects
-
-bytes_pass : (ps : List (List ℕ)) → AllByRecursion (Passes InBlock is_object) (map bytes_line ps)
-bytes_pass [] = tt
-bytes_pass (piece ∷ ps) = ((refl, refl), bytes_pass ps)
-
-bytes_lines_pass : (bytes : List ℕ) → AllByRecursion (Passes InBlock is_object) (bytes_lines bytes)
-unfolding bytes_lines
-bytes_lines_pass bytes = bytes_pass (pieces bytes)
 
 -- an object's line, with the lines of its bytes
 pub static_said : (labels : Labels) (width : ℕ) (object : Static) → IsStatic width object → (behind : List ParsedLine) → EndsEntry behind
@@ -55,7 +48,7 @@ statics_said labels width objects are behind may closed positions =
     entries_all (statics_of labels) static_lines (IsStatic width) EndsEntry
     (λ object is more may_follow xs others p.
     let first = static_said labels width object is more may_follow p in
-    let rest = entries_pass InBlock is_object (static_of labels) (bytes_lines object.bytes) more xs (bytes_lines_pass object.bytes) others
+    let rest = entries_pass InBlock is_object (static_of labels) (bytes_lines object.bytes) more xs (All-bytes_lines (Passes InBlock is_object) (λ piece. (refl, refl)) object.bytes) others
     (after p) in
     λ i. first i ∷ rest i)
     (λ object more. refl) behind may (λ p. entries_none InBlock is_object (static_of labels) behind p closed) objects are positions
@@ -65,8 +58,7 @@ statics_said labels width objects are behind may closed positions =
 prop_said : (size : ℕ) (entry : PropEntry) (small : Bool) → eqb size 2 ≡ small → IsProp size entry
     → (behind : List ParsedLine) (xs : List PropEntry)
     → ((positions : Positions) → props_of (items_at positions behind) ≡ xs) → (positions : Positions)
-    → props_of (items_at positions (cond small (parsed_line of.Prop (Number entry.number ∷ []))
-    (parsed_line of.PropBytes (Number entry.number ∷ Text entry.extra ∷ [])) ∷ behind)) ≡ entry ∷ xs
+    → props_of (items_at positions (prop_line small entry ∷ behind)) ≡ entry ∷ xs
 prop_said size entry true two is behind xs others positions =
     let number = short_number entry.number is.0 in
     let none : length entry.extra ≡ 0 = omega (arith, is.1, eqb-true size 2 two) in
@@ -85,15 +77,9 @@ props_said size props are behind may positions =
     (λ entry is more tail xs others p. prop_said size entry (eqb size 2) refl is more xs others p)
     (λ entry more. tt) behind tt (λ p. entries_none InEntry is_prop prop_of behind p may) props are positions
 
-prop_passes : (size : ℕ) (entry : PropEntry) (small : Bool)
-    → Passes InBlock is_meta (cond small (parsed_line of.Prop (Number entry.number ∷ []))
-    (parsed_line of.PropBytes (Number entry.number ∷ Text entry.extra ∷ [])))
-prop_passes size entry true = (refl, refl)
-prop_passes size entry false = (refl, refl)
-
-props_pass : (size : ℕ) (props : List PropEntry) → AllByRecursion (Passes InBlock is_meta) (flat_map (prop_lines size) props)
-props_pass size [] = tt
-props_pass size (entry ∷ props) = (prop_passes size entry (eqb size 2), props_pass size props)
+prop_passes : (alone : Bool) (entry : PropEntry) → Passes InBlock is_meta (prop_line alone entry)
+prop_passes true entry = (refl, refl)
+prop_passes false entry = (refl, refl)
 
 -- a metaclass's line, with the lines of its properties
 pub meta_said : (meta : Meta) → IsMeta meta → (behind : List ParsedLine) → EndsEntry behind → (positions : Positions)
@@ -114,7 +100,7 @@ metas_said metas are behind may closed positions =
     (λ meta is more may_follow xs others p.
     let first = meta_said meta is more may_follow p in
     let rest = entries_pass InBlock is_meta meta_of (flat_map (prop_lines meta.property_size) meta.props) more xs
-    (props_pass meta.property_size meta.props) others (after p) in
+    (All-prop_lines (Passes InBlock is_meta) prop_passes meta.property_size meta.props) others (after p) in
     λ i. first i ∷ rest i)
     (λ meta more. refl) behind may (λ p. entries_none InBlock is_meta meta_of behind p closed) metas are positions
 

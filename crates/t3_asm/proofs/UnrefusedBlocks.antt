@@ -27,6 +27,7 @@ use Rattle.t3_asm.specs.Places.{Labels}
 use Rattle.t3_asm.specs.Source.{is_many, is_crowded_block, is_crowded_meta, flags_in, passes_limits}
 use Rattle.t3_asm.specs.Stages.{object_stage, stage_behind, stage_of_name}
 use Rattle.t3_asm.proofs.Chain.{Follow}
+use Rattle.t3_asm.proofs.EachLine.{All-bytes_lines, All-flat_map, All-prop_lines, prop_line}
 use Rattle.t3_asm.proofs.EntriesStand.{stage_through, bytes_lines_stand}
 use Rattle.t3_asm.proofs.ListedItems.{Positions, item_at, after, items_at, lines_with, lines_with-flat}
 use Rattle.t3_asm.proofs.ListingStands.{named_by, numbers_address, numbers_offset, short_number}
@@ -39,34 +40,24 @@ few n less = le-ltb 65535 n (omega arith)
 
 -- ---- quiet lines
 
-bytes_quiet : (ps : List (List ℕ)) → AllByRecursion IsQuiet (map bytes_line ps)
-bytes_quiet [] = tt
-bytes_quiet (piece ∷ ps) =
-    (record { no_address = refl; no_offset = refl; inside = refl; roomy = λ labels item behind. refl }, bytes_quiet ps)
+bytes_quiet : (bytes : List ℕ) → AllByRecursion IsQuiet (bytes_lines bytes)
+bytes_quiet bytes =
+    All-bytes_lines IsQuiet
+    (λ piece. record { no_address = refl; no_offset = refl; inside = refl; roomy = λ labels item behind. refl }) bytes
 
-bytes_lines_quiet : (bytes : List ℕ) → AllByRecursion IsQuiet (bytes_lines bytes)
-unfolding bytes_lines
-bytes_lines_quiet bytes = bytes_quiet (pieces bytes)
-
-prop_quiet : (entry : PropEntry) (small : Bool)
-    → IsQuiet (cond small (parsed_line of.Prop (Number entry.number ∷ []))
-    (parsed_line of.PropBytes (Number entry.number ∷ Text entry.extra ∷ [])))
-prop_quiet entry true = record { no_address = refl; no_offset = refl; inside = refl; roomy = λ labels item behind. refl }
-prop_quiet entry false = record { no_address = refl; no_offset = refl; inside = refl; roomy = λ labels item behind. refl }
-
-props_quiet : (size : ℕ) (props : List PropEntry) → AllByRecursion IsQuiet (flat_map (prop_lines size) props)
-props_quiet size [] = tt
-props_quiet size (entry ∷ props) = (prop_quiet entry (eqb size 2), props_quiet size props)
+prop_quiet : (alone : Bool) (entry : PropEntry) → IsQuiet (prop_line alone entry)
+prop_quiet true entry = record { no_address = refl; no_offset = refl; inside = refl; roomy = λ labels item behind. refl }
+prop_quiet false entry = record { no_address = refl; no_offset = refl; inside = refl; roomy = λ labels item behind. refl }
 
 names_quiet : (names : List (List ℕ)) → AllByRecursion IsQuiet (flat_map name_lines names)
-names_quiet [] = tt
-names_quiet (name ∷ names) =
-    (record { no_address = refl; no_offset = refl; inside = refl; roomy = λ labels item behind. refl }, names_quiet names)
+names_quiet names =
+    All-flat_map IsQuiet name_lines
+    (λ name. (record { no_address = refl; no_offset = refl; inside = refl; roomy = λ labels item behind. refl }, tt)) names
 
 symbols_quiet : (symbols : List Symbol) → AllByRecursion IsQuiet (flat_map symbol_lines symbols)
-symbols_quiet [] = tt
-symbols_quiet (symbol ∷ symbols) =
-    (record { no_address = refl; no_offset = refl; inside = refl; roomy = λ labels item behind. refl }, symbols_quiet symbols)
+symbols_quiet symbols =
+    All-flat_map IsQuiet symbol_lines
+    (λ symbol. (record { no_address = refl; no_offset = refl; inside = refl; roomy = λ labels item behind. refl }, tt)) symbols
 
 -- ---- objects
 
@@ -101,7 +92,7 @@ objects_none labels size count flags (object ∷ objects) are behind ends others
     (objects_none labels size count flags objects are.1 behind ends others (stages.Object flags)
     (record { next = refl; flags_are = refl })) in
     inside_none labels size count item items (record { no_address = refl; no_offset = refl }) refl roomy
-    (quiet_none labels size count (stages.Object flags) (bytes_lines object.bytes) more (bytes_lines_quiet object.bytes) go_on
+    (quiet_none labels size count (stages.Object flags) (bytes_lines object.bytes) more (bytes_quiet object.bytes) go_on
     (after positions) next)
 
 -- ---- metaclasses
@@ -129,7 +120,7 @@ metas_none labels size count (meta ∷ metas) are behind ends others stage = λ 
     let said = meta_said meta are.0 more (metas_end metas behind ends) positions in
     inside_none labels size count item (items_at (after positions) (props ++ more)) (record { no_address = refl; no_offset = refl }) refl
     (ap is_crowded_meta said ∙ meta_fits meta are.0)
-    (quiet_none labels size count next props more (props_quiet meta.property_size meta.props)
+    (quiet_none labels size count next props more (All-prop_lines IsQuiet prop_quiet meta.property_size meta.props)
     (metas_none labels size count metas are.1 behind ends others (stage_through next props)) (after positions)
     (follow_next stage positions line (props ++ more) follow))
 
@@ -169,7 +160,7 @@ lines_none labels size count (blocks.PoolDef pool number each) is behind may oth
     (record { no_address = refl; no_offset = refl; inside = refl; roomy = λ labels item behind. refl }, tt) (others _)
 lines_none labels size count (blocks.Page pool index mask bytes) is behind may others stage =
     quiet_none labels size count stage (lines_in (blocks.Page pool index mask bytes)) behind
-    (record { no_address = refl; no_offset = refl; inside = refl; roomy = λ labels item behind. refl }, bytes_lines_quiet bytes) (others _)
+    (record { no_address = refl; no_offset = refl; inside = refl; roomy = λ labels item behind. refl }, bytes_quiet bytes) (others _)
 lines_none labels size count (blocks.Metas metas) is behind may others stage =
     subst (Unrefused labels size count stage) (sym (lines_with-flat meta_lines metas behind))
     (metas_none labels size count metas is.1 behind may.entry others stage)
@@ -178,7 +169,7 @@ lines_none labels size count (blocks.Functions names) is behind may others stage
 lines_none labels size count (blocks.Symbols symbols) is behind may others stage =
     quiet_none labels size count stage (flat_map symbol_lines symbols) behind (symbols_quiet symbols) (others _)
 lines_none labels size count (blocks.Opaque name bytes) is behind may others stage =
-    quiet_none labels size count stage (bytes_lines bytes) behind (bytes_lines_quiet bytes) (others _)
+    quiet_none labels size count stage (bytes_lines bytes) behind (bytes_quiet bytes) (others _)
 
 -- ---- a block's line
 
