@@ -1,5 +1,5 @@
 -- Lines of bytes, of objects, of properties, of names and of symbols may stand one behind the other.
-use Rattle.std.proofs.Common.{◌≡◌, ℕ, ◌+◌, Bool, true, false, not, cond, eqb, List, [], ◌∷◌, ◌++◌, length, map, refl, sym, ap, ◌∙◌, subst, eq-eqb}
+use Rattle.std.proofs.Common.{◌≡◌, ℕ, ◌+◌, Bool, true, false, not, eqb, List, [], ◌∷◌, ◌++◌, length, map, refl, sym, ap, ◌∙◌, subst, eq-eqb}
 use Rattle.std.specs.List.{AllByRecursion, flat_map}
 use Rattle.t3_blocks.specs.declared.items.PropEntry.{PropEntry}
 use Rattle.t3_blocks.specs.declared.items.Static.{Static}

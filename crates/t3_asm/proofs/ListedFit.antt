@@ -1,5 +1,5 @@
 -- Each line of a valid image's listing is one that reads back.
-use Rattle.std.proofs.Common.{◌≡◌, ℕ, zero, suc, ◌^◌, ◌<◌, ◌≤◌, Bool, true, false, ◌&&◌, leb, cond, eqb, List, [], ◌∷◌, ◌++◌, length, map, take, drop, Some, None, refl, ap, ◌∙◌, lit<, arith}
+use Rattle.std.proofs.Common.{◌≡◌, ℕ, zero, suc, ◌^◌, ◌<◌, ◌≤◌, Bool, true, false, ◌&&◌, leb, eqb, List, [], ◌∷◌, length, map, take, drop, Some, None, refl, ap, ◌∙◌, lit<, arith}
 use Rattle.std.specs.List.{AllByRecursion, flat_map}
 use Rattle.std.proofs.lemmas.Bool.{le-leb}
 use Rattle.t3_holder.specs.NumberText.{AreBytes}
@@ -14,10 +14,7 @@ use Rattle.t3_image_read.specs.declared.image.Head.{Head}
 use Rattle.t3_image_read.specs.declared.image.PlacedBlock.{PlacedBlock}
 use Rattle.t3_image_read.specs.ImageText.{ImageValue}
 use Rattle.t3_image_read.specs.Validity.{IsHead, IsGood, IsValid}
-use Rattle.t3_asm_line.specs.declared.argument.Argument.TheVariants.{Number, Text}
-use Rattle.t3_asm_line.specs.declared.keyword.Keyword.TheVariants as of
 use Rattle.t3_asm_line.specs.declared.line.ParsedLine.{ParsedLine}
-use Rattle.t3_asm_line.specs.Line.{parsed_line}
 use Rattle.t3_asm_line.specs.Listing.{IsListedLine}
 use Rattle.t3_asm_line.specs.Values.{is_size}
 use Rattle.t3_asm.specs.HasBytes.{PropHasBytes, StaticHasBytes, SymbolHasBytes, MetaHasBytes, BlockHasBytes, PlacedHasBytes, HasBytes}

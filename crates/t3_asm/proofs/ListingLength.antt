@@ -1,5 +1,5 @@
 -- A listing has hardly more lines than its image has bytes.
-use Rattle.std.proofs.Common.{◌≡◌, ℕ, zero, suc, ◌+◌, ◌-◌, ◌^◌, ◌<◌, ◌≤◌, Bool, true, false, cond, eqb, List, [], ◌∷◌, ◌++◌, length, map, drop, Option, Some, Result, Ok, sym, ap, ◌∙◌, arith}
+use Rattle.std.proofs.Common.{◌≡◌, ℕ, zero, suc, ◌+◌, ◌-◌, ◌^◌, ◌<◌, ◌≤◌, List, [], ◌∷◌, ◌++◌, length, map, drop, Option, Some, Result, Ok, ap, arith}
 use Rattle.std.specs.List.{flat_map}
 use Rattle.std.proofs.lemmas.List.{length-append, length-map}
 use Rattle.t3_holder.specs.NumberText.{little_endian}
@@ -9,8 +9,7 @@ use Rattle.t3_blocks.specs.declared.block.Block.TheVariants as blocks
 use Rattle.t3_blocks.specs.declared.items.Meta.{Meta}
 use Rattle.t3_blocks.specs.declared.items.PropEntry.{PropEntry}
 use Rattle.t3_blocks.specs.declared.items.Static.{Static}
-use Rattle.t3_blocks.specs.declared.items.Symbol.{Symbol}
-use Rattle.t3_blocks.specs.Spelling.{name_text, prop_text, meta_text, meta_body, static_text, symbol_text, payload_of, size_width}
+use Rattle.t3_blocks.specs.Spelling.{name_text, prop_text, meta_text, static_text, symbol_text, payload_of, size_width}
 use Rattle.t3_blocks.proofs.Sizes.{length_static_text, length_prop_text, length_meta_text, length-meta_body, length_symbol_text, length_page, length_functions, length_metas, length_symbols, length_objects}
 use Rattle.t3_image_read.specs.declared.image.PlacedBlock.{PlacedBlock}
 use Rattle.t3_image_read.specs.ImageText.{ImageValue, header_text, header_of, block_text}

@@ -1,14 +1,13 @@
 -- What the lines of blocks say.
-use Rattle.std.proofs.Common.{◌≡◌, ℕ, zero, ◌%◌, Bool, true, false, cond, eqb, List, [], ◌∷◌, ◌++◌, length, map, refl, ap, ◌∙◌, arith}
+use Rattle.std.proofs.Common.{◌≡◌, ℕ, zero, ◌%◌, Bool, true, false, List, [], ◌∷◌, ◌++◌, length, refl, ap, ◌∙◌, arith}
 use Rattle.std.specs.Prelude.{codes}
-use Rattle.std.specs.List.{AllByRecursion, flat_map}
+use Rattle.std.specs.List.{AllByRecursion}
 use Rattle.t3_blocks.specs.declared.block.Block.{Block}
 use Rattle.t3_blocks.specs.declared.block.Block.TheVariants as blocks
 use Rattle.t3_blocks.specs.declared.items.PropEntry.{PropEntry}
 use Rattle.t3_blocks.specs.Spelling.{IsSpellable, name_of, size_width}
 use Rattle.t3_image_read.specs.declared.image.PlacedBlock.{PlacedBlock}
 use Rattle.t3_image_read.specs.Validity.{IsGood}
-use Rattle.t3_asm_line.specs.declared.argument.Argument.TheVariants.{Number, Text}
 use Rattle.t3_asm_line.specs.declared.keyword.Keyword.TheVariants as of
 use Rattle.t3_asm_line.specs.declared.line.ParsedLine.{ParsedLine}
 use Rattle.t3_asm_line.specs.Line.{parsed_line}
@@ -17,7 +16,7 @@ use Rattle.t3_asm.specs.declared.stage.Stage.{Stage}
 use Rattle.t3_asm.specs.declared.stage.Stage.TheVariants as stages
 use Rattle.t3_asm.specs.Arguments.{block_name}
 use Rattle.t3_asm.specs.Blocks.{is_block, statics_of, metas_of, names_of, symbols_of, block_by, block_of, placed_of, blocks_of}
-use Rattle.t3_asm.specs.Listing.{bytes_line, bytes_lines, pieces, end_line, static_lines, prop_lines, meta_lines, name_lines, symbol_lines, lines_in, block_lines}
+use Rattle.t3_asm.specs.Listing.{bytes_lines, end_line, static_lines, meta_lines, name_lines, symbol_lines, lines_in, block_lines}
 use Rattle.t3_asm.specs.Places.{Labels}
 use Rattle.t3_asm.specs.Stages.{stage_of_name}
 use Rattle.t3_asm.specs.Values.{content_text}

@@ -1,5 +1,5 @@
 -- What the lines of objects, of metaclasses, of names and of symbols say.
-use Rattle.std.proofs.Common.{◌≡◌, ℕ, zero, ◌%◌, ◌^◌, ◌<◌, Bool, true, false, cond, eqb, List, [], ◌∷◌, ◌++◌, length, map, refl, sym, ap, ◌∙◌, eqb-true, arith}
+use Rattle.std.proofs.Common.{◌≡◌, ℕ, zero, ◌%◌, ◌^◌, ◌<◌, Bool, true, false, eqb, List, [], ◌∷◌, ◌++◌, length, refl, sym, ap, ◌∙◌, eqb-true, arith}
 use Rattle.std.specs.List.{AllByRecursion, flat_map}
 use Rattle.std.proofs.lemmas.List.{nil_from_length}
 use Rattle.t3_blocks.specs.declared.items.Meta.{Meta}
@@ -13,7 +13,7 @@ use Rattle.t3_asm_line.specs.declared.line.ParsedLine.{ParsedLine}
 use Rattle.t3_asm_line.specs.Line.{parsed_line}
 use Rattle.t3_asm.specs.declared.level.Level.TheVariants.{InBlock, InEntry}
 use Rattle.t3_asm.specs.Blocks.{is_object, is_meta, is_prop, statics_of, static_of, props_of, prop_of, metas_of, meta_of, names_of, symbols_of}
-use Rattle.t3_asm.specs.Listing.{bytes_line, bytes_lines, pieces, static_lines, prop_lines, meta_lines, name_lines, symbol_lines}
+use Rattle.t3_asm.specs.Listing.{bytes_lines, static_lines, prop_lines, meta_lines, name_lines, symbol_lines}
 use Rattle.t3_asm.specs.Places.{Labels}
 use Rattle.t3_asm.proofs.EachLine.{All-bytes_lines, All-prop_lines, prop_line}
 use Rattle.t3_asm.proofs.ListedItems.{Positions, item_at, after, items_at, lines_with, lines_with-flat, closes, contents_bytes, entries_none, entries_all, entries_pass, Passes}
@@ -48,7 +48,8 @@ statics_said labels width objects are behind may closed positions =
     entries_all (statics_of labels) static_lines (IsStatic width) EndsEntry
     (λ object is more may_follow xs others p.
     let first = static_said labels width object is more may_follow p in
-    let rest = entries_pass InBlock is_object (static_of labels) (bytes_lines object.bytes) more xs (All-bytes_lines (Passes InBlock is_object) (λ piece. (refl, refl)) object.bytes) others
+    let rest = entries_pass InBlock is_object (static_of labels) (bytes_lines object.bytes) more xs
+    (All-bytes_lines (Passes InBlock is_object) (λ piece. (refl, refl)) object.bytes) others
     (after p) in
     λ i. first i ∷ rest i)
     (λ object more. refl) behind may (λ p. entries_none InBlock is_object (static_of labels) behind p closed) objects are positions

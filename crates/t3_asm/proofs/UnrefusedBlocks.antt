@@ -1,5 +1,5 @@
 -- The lines of good blocks, within the image's limits, break no rule of values.
-use Rattle.std.proofs.Common.{◌≡◌, ℕ, zero, ◌+◌, ◌^◌, ◌<◌, ◌≤◌, Bool, true, false, ◌||◌, leb, ltb, cond, eqb, List, [], ◌∷◌, ◌++◌, length, map, refl, sym, ap, subst, ◌∙◌, arith}
+use Rattle.std.proofs.Common.{◌≡◌, ℕ, zero, ◌+◌, ◌^◌, ◌<◌, ◌≤◌, Bool, true, false, ◌||◌, leb, ltb, List, [], ◌∷◌, ◌++◌, length, refl, sym, ap, subst, ◌∙◌, arith}
 use Rattle.std.specs.List.{AllByRecursion, flat_map}
 use Rattle.std.proofs.lemmas.Bool.{lt-leb, le-ltb}
 use Rattle.std.proofs.lemmas.List.{length-append}
@@ -22,7 +22,7 @@ use Rattle.t3_asm.specs.declared.stage.Stage.{Stage}
 use Rattle.t3_asm.specs.declared.stage.Stage.TheVariants as stages
 use Rattle.t3_asm.specs.Arguments.{block_name}
 use Rattle.t3_asm.specs.Blocks.{static_of, statics_of, metas_of, names_of, symbols_of}
-use Rattle.t3_asm.specs.Listing.{bytes_line, bytes_lines, pieces, end_line, static_lines, prop_lines, meta_lines, name_lines, symbol_lines, lines_in, block_lines}
+use Rattle.t3_asm.specs.Listing.{bytes_lines, end_line, static_lines, prop_lines, meta_lines, name_lines, symbol_lines, lines_in, block_lines}
 use Rattle.t3_asm.specs.Places.{Labels}
 use Rattle.t3_asm.specs.Source.{is_many, is_crowded_block, is_crowded_meta, flags_in, passes_limits}
 use Rattle.t3_asm.specs.Stages.{object_stage, stage_behind, stage_of_name}
