@@ -233,9 +233,6 @@ abbrev end_lines : List Item → ℕ
 end_lines [] = 0
 end_lines (item ∷ items) = cond (is_end_line item.keyword) 1 0 + end_lines items
 
-blocks_size : Labels → List Item → ℕ
-blocks_size labels items = length (flat_map block_text (blocks_of labels items))
-
 -- blocks and ends fit the image behind what was there
 record Fits (size count blocks headers ends : ℕ) : Type 0 where
   bytes : size + blocks + 10 * ends ≤ image_limit
