@@ -90,7 +90,8 @@ picked before item items false false false sized stands is = absurd cc
 joined-Ok : (before : List Item) (item : Item) (items : List Item) → joined before item ≡ Ok items → Joins before item items
 unfolding joined
 joined-Ok before item items is =
-    picked before item items (is_resized item.place.stage item.keyword item.arguments) (is_twice before item) (is_in_order item) refl refl is
+    picked before item items (is_resized item.place.stage item.keyword item.arguments) (is_twice before item)
+    (is_in_order item) refl refl is
 
 read_more : (line : ℕ) (before items : List Item) (parsed : ParsedLine) → HasNames parsed.keyword parsed.arguments
     → AreRead before → joined before (item_behind line before parsed) ≡ Ok items → AreRead items

@@ -95,7 +95,8 @@ labels_pushed : (keyword : Keyword) (es : List (List ℕ × ℕ)) (item : Item)
     → (is_label_line keyword && is_some (get {R = slice_cmp nat_cmp} (from_entries es) (text_at item.arguments 0))) ≡ false
     → from_entries {R = slice_cmp nat_cmp} (es ++ label_in keyword item) ≡ labels_with (from_entries es) keyword item
 labels_pushed of.Label es item new =
-    from_entries_push nat_list_cmp_total (slice_cmp-IsAntisymmetric nat_cmp-IsAntisymmetric) es (text_at item.arguments 0) item.place.address
+    from_entries_push nat_list_cmp_total (slice_cmp-IsAntisymmetric nat_cmp-IsAntisymmetric) es
+    (text_at item.arguments 0) item.place.address
     (sym (get-from_entries nat_list_cmp_total es (text_at item.arguments 0)) ∙ none_found _ new)
 labels_pushed keyword es item new = ap (λ fs. from_entries {R = slice_cmp nat_cmp} fs) (append-nil es)
 

@@ -17,7 +17,8 @@ pub some_breaks-more : (rule : Rule) (labels : Labels) (method : Option ℕ) (ow
     ≡ (breaks rule labels method own field argument
     || some_breaks rule labels method (own + width_of field) (drop (i + 1) fields) (drop (i + 1) arguments))
 some_breaks-more rule labels method own fields arguments i field argument field_is argument_is less within =
-    let first : drop i fields ≡ field ∷ drop (i + 1) fields = drop_more fields i field less ∙ ap (λ f. f ∷ drop (i + 1) fields) (sym field_is) in
+    let first : drop i fields ≡ field ∷ drop (i + 1) fields = drop_more fields i field less
+    ∙ ap (λ f. f ∷ drop (i + 1) fields) (sym field_is) in
     let one : drop i arguments ≡ argument ∷ drop (i + 1) arguments =
     drop_more arguments i argument within ∙ ap (λ a. a ∷ drop (i + 1) arguments) (sym argument_is) in
     rw (first, one) refl

@@ -33,7 +33,8 @@ short_text : (fits : Bool) (text : List ℕ) (argument : Argument) → is_size 0
     → cond fits (Ok (arguments.Text text)) (Err refusals.Range) ≡ Ok argument → length (text_in (Some argument)) < 256
 short_text true text argument small is =
     let same : argument ≡ arguments.Text text = cc in
-    subst (λ a. length (text_in (Some a)) < 256) (sym same) (omega (arith, leb-true (length text) 255 (and_true (leb 0 (length text)) (leb (length text) 255) small)))
+    subst (λ a. length (text_in (Some a)) < 256) (sym same)
+    (omega (arith, leb-true (length text) 255 (and_true (leb 0 (length text)) (leb (length text) 255) small)))
 short_text false text argument small is = absurd cc
 
 text_fits : (text : Option (List ℕ)) (argument : Argument) → text_value (is_size 0 (Some 255)) text ≡ Ok argument

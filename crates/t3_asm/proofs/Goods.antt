@@ -49,7 +49,8 @@ pub record IsUnrefused (labels : Labels) (item : Item) (behind : List Item) (siz
 
 unrefused : (labels : Labels) (item : Item) (behind : List Item) (size count : ℕ) (missing far wide crowded long : Bool)
     → is_crowded labels item behind item.keyword ≡ crowded → (ends_block item.keyword && passes_limits size count) ≡ long
-    → cond missing (Some whys.LabelMissing) (cond far (Some whys.Jump) (cond (wide || crowded) (Some whys.Range) (cond long (Some whys.TooLong) None))) ≡ None
+    → cond missing (Some whys.LabelMissing)
+    (cond far (Some whys.Jump) (cond (wide || crowded) (Some whys.Range) (cond long (Some whys.TooLong) None))) ≡ None
     → IsUnrefused labels item behind size count
 unrefused labels item behind size count true far wide crowded long c l is = absurd cc
 unrefused labels item behind size count false true wide crowded long c l is = absurd cc
@@ -125,8 +126,14 @@ props_by : (size : ℕ) (item : Item) (items : List Item) (ended begins : Bool)
     → (ended ≡ false → AllByRecursion (IsProp size) (props_of items))
     → AllByRecursion (IsProp size) (cond ended [] (cond begins (prop_of item items ∷ props_of items) (props_of items)))
 props_by size item items true begins e b here sound others = tt
-props_by size item items false true e b here sound others =
-    ((short_fits item.arguments 0, prop_size size item.keyword item.arguments b (subst (λ s. is_resized s item.keyword item.arguments ≡ false) here sound.sized)), others refl)
+props_by size item items false true e b here sound others = (
+  (
+    short_fits item.arguments 0,
+    prop_size size item.keyword item.arguments b
+        (subst (λ s. is_resized s item.keyword item.arguments ≡ false) here sound.sized),
+  ),
+  others refl,
+)
 props_by size item items false false e b here sound others = others refl
 
 pub props_good : (size : ℕ) (items : List Item) → Follow (stages.Metaclass size) items → AllByRecursion IsSound items
@@ -134,7 +141,8 @@ pub props_good : (size : ℕ) (items : List Item) → Follow (stages.Metaclass s
 props_good size [] follow sound = tt
 props_good size (item ∷ items) follow sound =
     props_by size item items (ends InEntry item.keyword) (is_prop item.keyword) refl refl follow.0 sound.0 (λ goes_on.
-    let here : takes (stages.Metaclass size) item.keyword ≡ true = subst (λ s. takes s item.keyword ≡ true) follow.0 (stands item sound.0.stands) in
+    let here : takes (stages.Metaclass size) item.keyword
+    ≡ true = subst (λ s. takes s item.keyword ≡ true) follow.0 (stands item sound.0.stands) in
     let next : stage_behind item.place.stage item.keyword item.arguments ≡ stages.Metaclass size =
     ap (λ s. stage_behind s item.keyword item.arguments) follow.0 ∙ prop_stage size item.keyword item.arguments here goes_on in
     props_good size items (subst (λ s. Follow s items) next follow.1) sound.1)
@@ -177,7 +185,8 @@ statics_by : (labels : Labels) (flags : ℕ) (item : Item) (items : List Item) (
     → is_object item.keyword ≡ begins → InObjects flags item.place.stage
     → is_crowded labels item items item.keyword ≡ false
     → (ended ≡ false → AllByRecursion (IsStatic (size_width flags)) (statics_of labels items))
-    → AllByRecursion (IsStatic (size_width flags)) (cond ended [] (cond begins (static_of labels item items ∷ statics_of labels items) (statics_of labels items)))
+    → AllByRecursion (IsStatic (size_width flags))
+    (cond ended [] (cond begins (static_of labels item items ∷ statics_of labels items) (statics_of labels items)))
 statics_by labels flags item items true begins b here roomy others = tt
 statics_by labels flags item items false true b here roomy others =
     (object_fits labels item items flags item.keyword b roomy (flags_here flags item.place.stage here), others refl)
@@ -266,7 +275,8 @@ symbol_fits labels item behind keyword is names = absurd cc
 
 symbols_by : (labels : Labels) (item : Item) (items : List Item) (ended begins : Bool) → is_symbol item.keyword ≡ begins
     → HasNames item.keyword item.arguments → AllByRecursion IsSymbol (symbols_of labels items)
-    → AllByRecursion IsSymbol (cond ended [] (cond begins (symbol_of labels item items ∷ symbols_of labels items) (symbols_of labels items)))
+    → AllByRecursion IsSymbol (cond ended []
+    (cond begins (symbol_of labels item items ∷ symbols_of labels items) (symbols_of labels items)))
 symbols_by labels item items true begins b names others = tt
 symbols_by labels item items false true b names others = (symbol_fits labels item items item.keyword b names, others)
 symbols_by labels item items false false b names others = others

@@ -26,20 +26,25 @@ kept_entries-insert_entry : {K C : Type 0} (R : C → C → Ordering) (key : K �
     → kept_entries key (insert_entry (λ x y. R (key x) (key y)) es k v) ≡ put R (key k) v (kept_entries key es)
 kept_entries-insert_entry R key [] k v = refl
 kept_entries-insert_entry {K} {C} R key (e ∷ es) k v =
-    elim (R (key k) (key e.0)) as (λ r. kept_entries key (match_ordering r ((k, v) ∷ e ∷ es) ((e.0, v) ∷ es) (e ∷ insert_entry (λ x y. R (key x) (key y)) es k v)) ≡ by_order r ((key k, v) ∷ (key e.0, e.1) ∷ kept_entries key es) ((key e.0, v) ∷ kept_entries key es) ((key e.0, e.1) ∷ put R (key k) v (kept_entries key es))) [
+    elim (R (key k) (key e.0)) as (λ r. kept_entries key
+    (match_ordering r ((k, v) ∷ e ∷ es) ((e.0, v) ∷ es) (e ∷ insert_entry (λ x y. R (key x) (key y)) es k v))
+    ≡ by_order r ((key k, v) ∷ (key e.0, e.1) ∷ kept_entries key es) ((key e.0, v) ∷ kept_entries key es)
+    ((key e.0, e.1) ∷ put R (key k) v (kept_entries key es))) [
       | Less ↦ refl
       | Equal ↦ refl
       | Greater ↦ ap (λ (fs : List (C × ℕ)). (key e.0, e.1) ∷ fs) (kept_entries-insert_entry R key es k v)
     ]
 
 -- an insert into the tree is one into the finite map
-pub kept-insert : {K C : Type 0} {R : C → C → Ordering} (o : IsTotalOrder R) (same : IsAntisymmetric R) (key : K → C) (es : List (K × ℕ)) (k : K) (v : ℕ)
+pub kept-insert : {K C : Type 0} {R : C → C → Ordering} (o : IsTotalOrder R) (same : IsAntisymmetric R) (key : K → C) (es : List (K × ℕ))
+    (k : K) (v : ℕ)
     → from_entries {R = R} (kept_entries key (insert_entry (λ x y. R (key x) (key y)) es k v))
     ≡ insert (from_entries (kept_entries key es)) (key k) v
 kept-insert {R = R} o same key es k v =
     same_map o same _ _ (λ q.
     get-from_entries o _ q ∙ ap (find R q) (kept_entries-insert_entry R key es k v) ∙ find-put R o q (key k) v (kept_entries key es)
-    ∙ sym (get-insert o (from_entries (kept_entries key es)) (key k) v q ∙ ap (cond (is_eq (R q (key k))) (Some v)) (get-from_entries o (kept_entries key es) q)))
+    ∙ sym (get-insert o (from_entries (kept_entries key es)) (key k) v q
+    ∙ ap (cond (is_eq (R q (key k))) (Some v)) (get-from_entries o (kept_entries key es) q)))
 
 -- a pool that isn't there gets its size
 pub with_size-new : (sizes : PoolSizes) (pool size : ℕ) → is_some (get sizes pool) ≡ false

@@ -1,5 +1,5 @@
 -- Each line of a valid image's listing is one that reads back.
-use Rattle.std.proofs.Common.{◌≡◌, ℕ, zero, suc, ◌^◌, ◌<◌, ◌≤◌, Bool, true, false, ◌&&◌, leb, cond, eqb, List, [], ◌∷◌, ◌++◌, length, map, take, drop, Some, None, refl, ap, ◌∙◌, lit<, arith}
+use Rattle.std.proofs.Common.{◌≡◌, ℕ, zero, suc, ◌^◌, ◌<◌, ◌≤◌, Bool, true, false, ◌&&◌, leb, eqb, List, [], ◌∷◌, length, map, take, drop, Some, None, refl, ap, ◌∙◌, lit<, arith}
 use Rattle.std.specs.List.{AllByRecursion, flat_map}
 use Rattle.std.proofs.lemmas.Bool.{le-leb}
 use Rattle.t3_holder.specs.NumberText.{AreBytes}
@@ -14,19 +14,12 @@ use Rattle.t3_image_read.specs.declared.image.Head.{Head}
 use Rattle.t3_image_read.specs.declared.image.PlacedBlock.{PlacedBlock}
 use Rattle.t3_image_read.specs.ImageText.{ImageValue}
 use Rattle.t3_image_read.specs.Validity.{IsHead, IsGood, IsValid}
-use Rattle.t3_asm_line.specs.declared.argument.Argument.TheVariants.{Number, Text}
-use Rattle.t3_asm_line.specs.declared.keyword.Keyword.TheVariants as of
 use Rattle.t3_asm_line.specs.declared.line.ParsedLine.{ParsedLine}
-use Rattle.t3_asm_line.specs.Line.{parsed_line}
 use Rattle.t3_asm_line.specs.Listing.{IsListedLine}
 use Rattle.t3_asm_line.specs.Values.{is_size}
 use Rattle.t3_asm.specs.HasBytes.{PropHasBytes, StaticHasBytes, SymbolHasBytes, MetaHasBytes, BlockHasBytes, PlacedHasBytes, HasBytes}
 use Rattle.t3_asm.specs.Listing.{piece_size, first_pieces, pieces, bytes_line, bytes_lines, head_line, end_line, entry_line, static_lines, prop_lines, meta_lines, name_lines, symbol_lines, lines_in, block_lines, listed_lines}
-use Rattle.t3_asm.proofs.EachLine.{All-drop}
-
-All-append : {X : Type 0} (P : X → Type 0) (xs ys : List X) → AllByRecursion P xs → AllByRecursion P ys → AllByRecursion P (xs ++ ys)
-All-append P [] ys front back = back
-All-append P (x ∷ xs) ys front back = (front.0, All-append P xs ys front.1 back)
+use Rattle.t3_asm.proofs.EachLine.{All-append, All-drop, prop_line}
 
 All-take : {X : Type 0} (P : X → Type 0) (n : ℕ) (xs : List X) → AllByRecursion P xs → AllByRecursion P (take n xs)
 All-take P zero xs all = tt
@@ -79,12 +72,13 @@ long n less = omega arith
 end_listed : (flags : ℕ) → flags < 2 ^ 16 → IsListedLine (end_line flags)
 end_listed flags less = record { named = tt; fit = (short flags less, tt) }
 
-static_listed : (width : ℕ) (object : Static) → IsStatic width object → StaticHasBytes object → AllByRecursion IsListedLine (static_lines object)
+static_listed : (width : ℕ) (object : Static) → IsStatic width object → StaticHasBytes object
+    → AllByRecursion IsListedLine (static_lines object)
 static_listed width object is bytes =
     (record { named = tt; fit = (long object.number is.0, tt) }, bytes_lines_listed object.bytes bytes)
 
 prop_by : (size : ℕ) (entry : PropEntry) (small : Bool) → IsProp size entry → PropHasBytes entry
-    → IsListedLine (cond small (parsed_line of.Prop (Number entry.number ∷ [])) (parsed_line of.PropBytes (Number entry.number ∷ Text entry.extra ∷ [])))
+    → IsListedLine (prop_line small entry)
 prop_by size entry true is bytes = record { named = tt; fit = (short entry.number is.0, tt) }
 prop_by size entry false is bytes =
     record { named = tt; fit = (short entry.number is.0, ((bytes, any_size (length entry.extra)), tt)) }
@@ -99,10 +93,13 @@ meta_listed : (meta : Meta) → IsMeta meta → MetaHasBytes meta → AllByRecur
 meta_listed meta is bytes = (
   record {
     named = tt;
-    fit =
-        ((bytes.name, name_fits meta.name is.1.name), (short meta.property_size is.1.size, ((bytes.tail, any_size (length meta.tail)), tt)));
+    fit = (
+      (bytes.name, name_fits meta.name is.1.name),
+      (short meta.property_size is.1.size, ((bytes.tail, any_size (length meta.tail)), tt)),
+    );
   },
-  All-flat (IsProp meta.property_size) PropHasBytes (prop_lines meta.property_size) (prop_listed meta.property_size) meta.props is.1.props bytes.props,
+  All-flat (IsProp meta.property_size) PropHasBytes (prop_lines meta.property_size)
+      (prop_listed meta.property_size) meta.props is.1.props bytes.props,
 )
 
 name_listed : (name : List ℕ) → IsName name → AreBytes name → AllByRecursion IsListedLine (name_lines name)
@@ -170,7 +167,8 @@ four : (a b c d : ℕ) → a < 256 → b < 256 → c < 256 → d < 256 → AreBy
 four a b c d ia ib ic id = (ia, (ib, (ic, (id, tt))))
 
 -- the name of a block
-name_bytes : (block : Block) → IsSpellable block → BlockHasBytes block → AreBytes (name_of block) × (is_size 4 (Some 4) (length (name_of block)) ≡ true)
+name_bytes : (block : Block) → IsSpellable block → BlockHasBytes block
+    → AreBytes (name_of block) × (is_size 4 (Some 4) (length (name_of block)) ≡ true)
 name_bytes (blocks.Entry code m e debug tail) is bytes = (four 69 78 84 80 (lit< tt) (lit< tt) (lit< tt) (lit< tt), refl)
 name_bytes (blocks.Objects metaclass flags objects) is bytes = (four 79 66 74 83 (lit< tt) (lit< tt) (lit< tt) (lit< tt), refl)
 name_bytes (blocks.PoolDef pool count size) is bytes = (four 67 80 68 70 (lit< tt) (lit< tt) (lit< tt) (lit< tt), refl)

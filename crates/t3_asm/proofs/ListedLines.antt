@@ -9,9 +9,6 @@ use Rattle.t3_asm.specs.Inner.Listed.{Lists}
 use Rattle.t3_asm.specs.Listing.{piece_size, first_pieces, pieces, bytes_line, bytes_lines}
 use Rattle.t3_asm.proofs.EachLine.{take-min, drop-min}
 
-spelled_line : ParsedLine → List ℕ
-spelled_line line = listed_line line.keyword line.arguments ++ 10 ∷ []
-
 -- one line
 pub lists_one : {T E : Type 0} (result : Result T E) (old new : List ℕ) (line : ParsedLine)
     → IfOk result (λ _. new ≡ old ++ (listed_line line.keyword line.arguments ++ 10 ∷ [])) → Lists old new (line ∷ []) result

@@ -91,7 +91,8 @@ joins number before line stands =
     ap (λ s. is_resized s line.keyword line.arguments) (stage_here number before line) ∙ stands.sized in
     let once : is_twice before item ≡ false =
     ap (λ b. b && is_some (get (labels_of before) (text_at line.arguments 0))) stands.no_label in
-    ap (λ b. cond b (Err whys.Range) (cond (is_twice before item) (Err whys.LabelTwice) (cond (is_in_order item) (Ok whole) (Err whys.Order)))) sized
+    ap (λ b. cond b (Err whys.Range) (cond (is_twice before item) (Err whys.LabelTwice)
+    (cond (is_in_order item) (Ok whole) (Err whys.Order)))) sized
     ∙ ap (λ b. cond b (Err whys.LabelTwice) (cond (is_in_order item) (Ok whole) (Err whys.Order))) once
     ∙ ap (λ b. cond b (Ok whole) (Err whys.Order)) (in_order number before line stands)
 

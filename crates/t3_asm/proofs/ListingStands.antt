@@ -1,18 +1,15 @@
 -- The lines of a valid image's listing may stand one behind the other.
-use Rattle.std.proofs.Common.{◌≡◌, ◌≢◌, ℕ, ◌+◌, ◌-◌, ◌%◌, ◌^◌, ◌<◌, Bool, true, false, ◌&&◌, ◌||◌, not, cond, eqb, List, [], ◌∷◌, ◌++◌, length, map, replicate, refl, sym, ap, ◌∙◌, subst, eq-eqb, arith}
+use Rattle.std.proofs.Common.{◌≡◌, ◌≢◌, ℕ, ◌%◌, ◌^◌, ◌<◌, Bool, true, false, ◌&&◌, ◌||◌, not, cond, List, [], ◌∷◌, ◌++◌, length, map, refl, sym, ap, ◌∙◌, subst, arith}
 use Rattle.std.specs.Prelude.{codes}
 use Rattle.std.specs.List.{AllByRecursion, flat_map, list_any}
 use Rattle.std.specs.Str.{bytes_eq}
-use Rattle.std.proofs.lemmas.List.{append-nil, take_all}
 use Rattle.t3_blocks.specs.BlockName.{end_name, layout_names, is_among, is_mandatory, is_unknown_mandatory}
 use Rattle.t3_blocks.proofs.BlockNames.{differs}
 use Rattle.t3_blocks.specs.declared.block.Block.{Block}
 use Rattle.t3_blocks.specs.declared.block.Block.TheVariants as blocks
 use Rattle.t3_blocks.specs.declared.items.Meta.{Meta}
-use Rattle.t3_blocks.specs.declared.items.PropEntry.{PropEntry}
 use Rattle.t3_blocks.specs.declared.items.Static.{Static}
-use Rattle.t3_blocks.specs.declared.items.Symbol.{Symbol}
-use Rattle.t3_blocks.specs.Spelling.{IsMeta, IsProp, IsSpellable, name_of}
+use Rattle.t3_blocks.specs.Spelling.{IsMeta, IsSpellable, name_of}
 use Rattle.t3_image_read.specs.declared.image.PlacedBlock.{PlacedBlock}
 use Rattle.t3_image_read.specs.ImageText.{ImageValue}
 use Rattle.t3_image_read.specs.Validity.{IsGood, IsValid}
@@ -24,170 +21,12 @@ use Rattle.t3_asm_line.specs.Line.{parsed_line}
 use Rattle.t3_asm.specs.declared.stage.Stage.{Stage}
 use Rattle.t3_asm.specs.declared.stage.Stage.TheVariants as stages
 use Rattle.t3_asm.specs.Arguments.{short_at, resized, block_name, is_address, is_offset}
-use Rattle.t3_asm.specs.Forms.{is_resized, is_good_block}
-use Rattle.t3_asm.specs.Listing.{bytes_line, bytes_lines, pieces, entry_line, end_line, static_lines, prop_lines, meta_lines, name_lines, symbol_lines, lines_in, block_lines, listed_lines}
-use Rattle.t3_asm.specs.Stages.{stage_behind, stage_of_name, takes_block, takes_metaclass}
-use Rattle.t3_asm.proofs.ListingForm.{Stands, StandFrom}
-
--- the stage behind some lines
-abbrev pub stage_through : Stage → List ParsedLine → Stage
-stage_through stage [] = stage
-stage_through stage (line ∷ lines) = stage_through (stage_behind stage line.keyword line.arguments) lines
-
-pub StandFrom-append : (stage : Stage) (front back : List ParsedLine) → StandFrom stage front → StandFrom (stage_through stage front) back
-    → StandFrom stage (front ++ back)
-StandFrom-append stage [] back stand behind = behind
-StandFrom-append stage (line ∷ front) back stand behind =
-    (stand.0, StandFrom-append (stage_behind stage line.keyword line.arguments) front back stand.1 behind)
-
-pub stage_through-append : (stage : Stage) (front back : List ParsedLine)
-    → stage_through stage (front ++ back) ≡ stage_through (stage_through stage front) back
-stage_through-append stage [] back = refl
-stage_through-append stage (line ∷ front) back = stage_through-append (stage_behind stage line.keyword line.arguments) front back
-
--- lines that may stand here, and lead to a stage
-pub record StandTo (stage : Stage) (lines : List ParsedLine) (end : Stage) : Type 0 where
-  pub stand : StandFrom stage lines
-  pub ends : stage_through stage lines ≡ end
-
-pub StandTo-append : (stage mid end : Stage) (front back : List ParsedLine) → StandTo stage front mid → StandTo mid back end
-    → StandTo stage (front ++ back) end
-StandTo-append stage mid end front back first second = record {
-  stand = StandFrom-append stage front back first.stand (subst (λ s. StandFrom s back) (sym first.ends) second.stand);
-  ends = stage_through-append stage front back ∙ ap (λ s. stage_through s back) first.ends ∙ second.ends;
-}
-
--- lines of bytes keep the stage of a page, of an object or of a kept block
-page_bytes : (ps : List (List ℕ)) → StandTo stages.Page (map bytes_line ps) stages.Page
-page_bytes [] = record { stand = tt; ends = refl }
-page_bytes (piece ∷ ps) =
-    let others = page_bytes ps in
-    record {
-      stand =
-          (record { taken = refl; sized = refl; named = refl; no_label = refl; no_address = refl; no_offset = refl }, others.stand);
-      ends = others.ends;
-    }
-
-object_bytes : (flags : ℕ) (ps : List (List ℕ)) → StandTo (stages.Object flags) (map bytes_line ps) (stages.Object flags)
-object_bytes flags [] = record { stand = tt; ends = refl }
-object_bytes flags (piece ∷ ps) =
-    let others = object_bytes flags ps in
-    record {
-      stand =
-          (record { taken = refl; sized = refl; named = refl; no_label = refl; no_address = refl; no_offset = refl }, others.stand);
-      ends = others.ends;
-    }
-
-kept_bytes : (ps : List (List ℕ)) → StandTo stages.Kept (map bytes_line ps) stages.Kept
-kept_bytes [] = record { stand = tt; ends = refl }
-kept_bytes (piece ∷ ps) =
-    let others = kept_bytes ps in
-    record {
-      stand =
-          (record { taken = refl; sized = refl; named = refl; no_label = refl; no_address = refl; no_offset = refl }, others.stand);
-      ends = others.ends;
-    }
-
-pub page_bytes_lines : (bytes : List ℕ) → StandTo stages.Page (bytes_lines bytes) stages.Page
-unfolding bytes_lines
-page_bytes_lines bytes = page_bytes (pieces bytes)
-
-pub object_bytes_lines : (flags : ℕ) (bytes : List ℕ) → StandTo (stages.Object flags) (bytes_lines bytes) (stages.Object flags)
-unfolding bytes_lines
-object_bytes_lines flags bytes = object_bytes flags (pieces bytes)
-
-pub kept_bytes_lines : (bytes : List ℕ) → StandTo stages.Kept (bytes_lines bytes) stages.Kept
-unfolding bytes_lines
-kept_bytes_lines bytes = kept_bytes (pieces bytes)
-
--- names and symbols keep their stages
-pub names_stand : (names : List (List ℕ)) → StandTo stages.FunctionSets (flat_map name_lines names) stages.FunctionSets
-names_stand [] = record { stand = tt; ends = refl }
-names_stand (name ∷ names) =
-    let others = names_stand names in
-    record {
-      stand =
-          (record { taken = refl; sized = refl; named = refl; no_label = refl; no_address = refl; no_offset = refl }, others.stand);
-      ends = others.ends;
-    }
-
-pub symbols_stand : (symbols : List Symbol) → StandTo stages.Symbols (flat_map symbol_lines symbols) stages.Symbols
-symbols_stand [] = record { stand = tt; ends = refl }
-symbols_stand (symbol ∷ symbols) =
-    let others = symbols_stand symbols in
-    record {
-      stand =
-          (record { taken = refl; sized = refl; named = refl; no_label = refl; no_address = refl; no_offset = refl }, others.stand);
-      ends = others.ends;
-    }
-
--- objects, behind the head or another object
-object_stands : (flags : ℕ) (object : Static) (stage : Stage)
-    → Stands stage (parsed_line of.Object (Number object.number ∷ []))
-    → stage_behind stage of.Object (Number object.number ∷ []) ≡ stages.Object flags
-    → StandTo stage (static_lines object) (stages.Object flags)
-object_stands flags object stage first next =
-    let others = object_bytes_lines flags object.bytes in
-    record {
-      stand = (first, subst (λ s. StandFrom s (bytes_lines object.bytes)) (sym next) others.stand);
-      ends = ap (λ s. stage_through s (bytes_lines object.bytes)) next ∙ others.ends;
-    }
-
-more_objects : (flags : ℕ) (objects : List Static) → StandTo (stages.Object flags) (flat_map static_lines objects) (stages.Object flags)
-more_objects flags [] = record { stand = tt; ends = refl }
-more_objects flags (object ∷ objects) =
-    StandTo-append (stages.Object flags) (stages.Object flags) (stages.Object flags) (static_lines object) (flat_map static_lines objects)
-    (object_stands flags object (stages.Object flags)
-    (record { taken = refl; sized = refl; named = refl; no_label = refl; no_address = refl; no_offset = refl }) refl)
-    (more_objects flags objects)
-
--- the stage behind so many objects
-abbrev pub objects_end : ℕ → List Static → Stage
-objects_end flags [] = stages.Objects flags
-objects_end flags (object ∷ objects) = stages.Object flags
-
-pub objects_stand : (flags : ℕ) (objects : List Static)
-    → StandTo (stages.Objects flags) (flat_map static_lines objects) (objects_end flags objects)
-objects_stand flags [] = record { stand = tt; ends = refl }
-objects_stand flags (object ∷ objects) =
-    StandTo-append (stages.Objects flags) (stages.Object flags) (stages.Object flags) (static_lines object) (flat_map static_lines objects)
-    (object_stands flags object (stages.Objects flags)
-    (record { taken = refl; sized = refl; named = refl; no_label = refl; no_address = refl; no_offset = refl }) refl)
-    (more_objects flags objects)
-
--- properties of their metaclass's size
-prop_by : (size : ℕ) (entry : PropEntry) (small : Bool) → eqb size 2 ≡ small → IsProp size entry
-    → Stands (stages.Metaclass size) (cond small (parsed_line of.Prop (Number entry.number ∷ [])) (parsed_line of.PropBytes (Number entry.number ∷ Text entry.extra ∷ [])))
-prop_by size entry true two is = record {
-  taken = refl;
-  sized = ap not two;
-  named = refl;
-  no_label = refl;
-  no_address = refl;
-  no_offset = refl;
-}
-prop_by size entry false two is = record {
-  taken = refl;
-  sized = ap not (eq-eqb size (2 + length entry.extra) (sym is.1));
-  named = refl;
-  no_label = refl;
-  no_address = refl;
-  no_offset = refl;
-}
-
-prop_stage : (size : ℕ) (entry : PropEntry) (small : Bool)
-    → stage_through (stages.Metaclass size) (cond small (parsed_line of.Prop (Number entry.number ∷ [])) (parsed_line of.PropBytes (Number entry.number ∷ Text entry.extra ∷ [])) ∷ [])
-    ≡ stages.Metaclass size
-prop_stage size entry true = refl
-prop_stage size entry false = refl
-
-pub props_stand : (size : ℕ) (props : List PropEntry) → AllByRecursion (IsProp size) props
-    → StandTo (stages.Metaclass size) (flat_map (prop_lines size) props) (stages.Metaclass size)
-props_stand size [] are = record { stand = tt; ends = refl }
-props_stand size (entry ∷ props) are =
-    StandTo-append (stages.Metaclass size) (stages.Metaclass size) (stages.Metaclass size) (prop_lines size entry) (flat_map (prop_lines size) props)
-    (record { stand = (prop_by size entry (eqb size 2) refl are.0, tt); ends = prop_stage size entry (eqb size 2) })
-    (props_stand size props are.1)
+use Rattle.t3_asm.specs.Forms.{is_good_block}
+use Rattle.t3_asm.specs.Listing.{bytes_lines, entry_line, end_line, static_lines, prop_lines, meta_lines, name_lines, symbol_lines, lines_in, block_lines, listed_lines}
+use Rattle.t3_asm.specs.Stages.{stage_of_name, takes_block, takes_metaclass}
+use Rattle.t3_asm.proofs.EachLine.{resized-same}
+use Rattle.t3_asm.proofs.ListingForm.{StandFrom}
+use Rattle.t3_asm.proofs.EntriesStand.{stage_through, StandFrom-append, stage_through-append, StandTo, not_resized, bytes_lines_stand, names_stand, symbols_stand, objects_end, objects_stand, props_stand}
 
 -- ---- metaclasses and blocks, which further blocks may follow
 
@@ -212,12 +51,8 @@ StandWell-both stage front back first second =
     StandWell-append stage (stage_through stage front) front back (record { stand = first.stand; ends = refl })
     (second (stage_through stage front) first.closes)
 
-short_number : (n : ℕ) → n < 2 ^ 16 → n % 4294967296 % 65536 ≡ n
+pub short_number : (n : ℕ) → n < 2 ^ 16 → n % 4294967296 % 65536 ≡ n
 short_number n less = omega arith
-
-no_meta_size : (stage : Stage) (arguments : List Argument) → is_resized stage of.Metaclass arguments ≡ false
-no_meta_size (stages.Metaclass size) arguments = refl
-no_meta_size stage arguments = refl
 
 meta_to : (stage : Stage) (meta : Meta) → takes_metaclass stage ≡ true → IsMeta meta
     → StandTo stage (meta_lines meta) (stages.Metaclass meta.property_size)
@@ -229,7 +64,7 @@ meta_to stage meta takes is =
       stand = (
         record {
           taken = takes;
-          sized = no_meta_size stage (Text meta.name ∷ Number size ∷ Text meta.tail ∷ []);
+          sized = not_resized stage of.Metaclass (Text meta.name ∷ Number size ∷ Text meta.tail ∷ []) (λ n. refl);
           named = refl;
           no_label = refl;
           no_address = refl;
@@ -249,22 +84,15 @@ metas_stand : (stage : Stage) (metas : List Meta) → takes_metaclass stage ≡ 
     → StandWell stage (flat_map meta_lines metas)
 metas_stand stage [] takes are = record { stand = tt; closes = meta_closes stage takes }
 metas_stand stage (meta ∷ metas) takes are =
-    StandWell-append stage (stages.Metaclass meta.property_size) (meta_lines meta) (flat_map meta_lines metas) (meta_to stage meta takes are.0)
+    StandWell-append stage (stages.Metaclass meta.property_size) (meta_lines meta) (flat_map meta_lines metas)
+    (meta_to stage meta takes are.0)
     (metas_stand (stages.Metaclass meta.property_size) metas refl are.1)
 
 objects_close : (flags : ℕ) (objects : List Static) → takes_block (objects_end flags objects) ≡ true
 objects_close flags [] = refl
 objects_close flags (object ∷ objects) = refl
 
-no_block_size : (stage : Stage) (arguments : List Argument) → is_resized stage of.Block arguments ≡ false
-no_block_size (stages.Metaclass size) arguments = refl
-no_block_size stage arguments = refl
-
-no_end_size : (stage : Stage) (arguments : List Argument) → is_resized stage of.End arguments ≡ false
-no_end_size (stages.Metaclass size) arguments = refl
-no_end_size stage arguments = refl
-
-abbrev named_by : List ℕ → ℕ → List Argument
+abbrev pub named_by : List ℕ → ℕ → List Argument
 named_by name flags = Text name ∷ Number flags ∷ []
 
 -- a block's line, and what it has
@@ -276,7 +104,7 @@ with_block stage kind name flags lines closes good is lists = record {
   stand = (
     record {
       taken = closes;
-      sized = no_block_size stage (named_by name flags);
+      sized = not_resized stage of.Block (named_by name flags) (λ n. refl);
       named = good;
       no_label = refl;
       no_address = refl;
@@ -294,23 +122,18 @@ and_false false = refl
 known_name : (flags : ℕ) → not (false || (is_mandatory flags && false)) ≡ true
 known_name flags = ap (λ b. not (false || b)) (and_false (is_mandatory flags))
 
-numbers_address : (numbers text : List ℕ) → list_any is_address (map Number numbers ++ Text text ∷ []) ≡ false
+pub numbers_address : (numbers text : List ℕ) → list_any is_address (map Number numbers ++ Text text ∷ []) ≡ false
 numbers_address [] text = refl
 numbers_address (n ∷ numbers) text = numbers_address numbers text
 
-numbers_offset : (numbers text : List ℕ) → list_any is_offset (map Number numbers ++ Text text ∷ []) ≡ false
+pub numbers_offset : (numbers text : List ℕ) → list_any is_offset (map Number numbers ++ Text text ∷ []) ≡ false
 numbers_offset [] text = refl
 numbers_offset (n ∷ numbers) text = numbers_offset numbers text
 
-resized-same : (name : List ℕ) → length name ≡ 4 → resized 4 0 name ≡ name
-unfolding resized
-resized-same name long =
-    let none : 4 - length name ≡ 0 = omega (arith, long) in
-    ap (λ l. l ++ replicate (4 - length name) 0) (take_all 4 name (omega (arith, long)))
-    ∙ ap (λ n. name ++ replicate n 0) none ∙ append-nil name
-
 no_kind : (a b c d e f g : Bool) → (a || (b || (c || (d || (e || (f || (g || false))))))) ≡ false
-    → cond a stages.EntryHead (cond b stages.ObjectsHead (cond c stages.PoolHead (cond d stages.PageHead (cond e stages.Metaclasses (cond f stages.FunctionSets (cond g stages.Symbols stages.Kept))))))
+    → cond a stages.EntryHead (cond b stages.ObjectsHead
+    (cond c stages.PoolHead (cond d stages.PageHead
+    (cond e stages.Metaclasses (cond f stages.FunctionSets (cond g stages.Symbols stages.Kept))))))
     ≡ stages.Kept
 no_kind true b c d e f g is = absurd cc
 no_kind false true c d e f g is = absurd cc
@@ -321,7 +144,7 @@ no_kind false false false false false true g is = absurd cc
 no_kind false false false false false false true is = absurd cc
 no_kind false false false false false false false is = refl
 
-kept_stage : (name : List ℕ) → is_among name layout_names ≡ false → stage_of_name name ≡ stages.Kept
+pub kept_stage : (name : List ℕ) → is_among name layout_names ≡ false → stage_of_name name ≡ stages.Kept
 unfolding stage_of_name
 kept_stage name is =
     no_kind (bytes_eq (codes "ENTP") name) (bytes_eq (codes "OBJS") name) (bytes_eq (codes "CPDF") name) (bytes_eq (codes "CPPG") name)
@@ -333,7 +156,7 @@ good_plain a b ia ib = ap (λ x. not (x || b)) ia ∙ ap (λ x. not (false || x)
 kept_good : (name : List ℕ) (flags : ℕ) → length name ≡ 4 → name ≢ end_name → flags < 2 ^ 16 → is_unknown_mandatory name flags ≡ false
     → is_good_block (block_name (named_by name flags)) (short_at (named_by name flags) 1) ≡ true
 kept_good name flags long other less known =
-    ap (λ n. is_good_block n (flags % 4294967296 % 65536)) (resized-same name long)
+    ap (λ n. is_good_block n (flags % 4294967296 % 65536)) (resized-same 4 0 name long)
     ∙ ap (λ f. is_good_block name f) (short_number flags less)
     ∙ good_plain (bytes_eq end_name name) (is_unknown_mandatory name flags) (differs end_name name other) known
 
@@ -343,8 +166,17 @@ by_block : (block : Block) (flags : ℕ) → IsSpellable block → flags < 2 ^ 1
 unfolding resized stage_of_name
 by_block (blocks.Entry code m e debug tail) flags is less known stage closes =
     with_block stage stages.EntryHead (codes "ENTP") flags (entry_line code m e debug tail ∷ []) closes (known_name _) refl (record {
-      stand =
-          (record { taken = refl; sized = refl; named = refl; no_label = refl; no_address = numbers_address debug tail; no_offset = numbers_offset debug tail }, tt);
+      stand = (
+        record {
+          taken = refl;
+          sized = refl;
+          named = refl;
+          no_label = refl;
+          no_address = numbers_address debug tail;
+          no_offset = numbers_offset debug tail;
+        },
+        tt,
+      );
       closes = refl;
     })
 by_block (blocks.Objects metaclass own objects) flags is less known stage closes =
@@ -356,16 +188,19 @@ by_block (blocks.Objects metaclass own objects) flags is less known stage closes
         record { taken = refl; sized = refl; named = refl; no_label = refl; no_address = refl; no_offset = refl },
         subst (λ s. StandFrom s (flat_map static_lines objects)) (sym same) all.stand,
       );
-      closes = ap (λ s. takes_block (stage_through s (flat_map static_lines objects))) same ∙ ap takes_block all.ends ∙ objects_close own objects;
+      closes = ap (λ s. takes_block (stage_through s (flat_map static_lines objects))) same ∙ ap takes_block all.ends
+          ∙ objects_close own objects;
     })
 by_block (blocks.PoolDef pool count size) flags is less known stage closes =
-    with_block stage stages.PoolHead (codes "CPDF") flags (parsed_line of.Pool (Number pool ∷ Number count ∷ Number size ∷ []) ∷ []) closes (known_name _) refl (record {
+    with_block stage stages.PoolHead (codes "CPDF") flags (parsed_line of.Pool (Number pool ∷ Number count ∷ Number size ∷ []) ∷ []) closes
+    (known_name _) refl (record {
       stand = (record { taken = refl; sized = refl; named = refl; no_label = refl; no_address = refl; no_offset = refl }, tt);
       closes = refl;
     })
 by_block (blocks.Page pool index mask bytes) flags is less known stage closes =
-    let page = page_bytes_lines bytes in
-    with_block stage stages.PageHead (codes "CPPG") flags (parsed_line of.Page (Number pool ∷ Number index ∷ Number mask ∷ []) ∷ bytes_lines bytes) closes (known_name _) refl (record {
+    let page = bytes_lines_stand stages.Page refl bytes in
+    with_block stage stages.PageHead (codes "CPPG") flags
+    (parsed_line of.Page (Number pool ∷ Number index ∷ Number mask ∷ []) ∷ bytes_lines bytes) closes (known_name _) refl (record {
       stand = (record { taken = refl; sized = refl; named = refl; no_label = refl; no_address = refl; no_offset = refl }, page.stand);
       closes = ap takes_block page.ends;
     })
@@ -380,17 +215,19 @@ by_block (blocks.Symbols symbols) flags is less known stage closes =
     (well stages.Symbols stages.Symbols (flat_map symbol_lines symbols) (symbols_stand symbols) refl)
 by_block (blocks.Opaque name bytes) flags is less known stage closes =
     with_block stage stages.Kept name flags (bytes_lines bytes) closes (kept_good name flags is.0 is.1.not_end less known)
-    (ap stage_of_name (resized-same name is.0) ∙ kept_stage name is.1.no_layout)
-    (well stages.Kept stages.Kept (bytes_lines bytes) (kept_bytes_lines bytes) refl)
+    (ap stage_of_name (resized-same 4 0 name is.0) ∙ kept_stage name is.1.no_layout)
+    (well stages.Kept stages.Kept (bytes_lines bytes) (bytes_lines_stand stages.Kept refl bytes) refl)
 
-pub block_stands : (placed : PlacedBlock) → IsGood placed → (stage : Stage) → takes_block stage ≡ true → StandWell stage (block_lines placed)
+pub block_stands : (placed : PlacedBlock) → IsGood placed → (stage : Stage) → takes_block stage ≡ true
+    → StandWell stage (block_lines placed)
 block_stands placed good stage closes = by_block placed.block placed.flags good.spellable good.flags good.known stage closes
 
 blocks_stand : (placed : List PlacedBlock) → AllByRecursion IsGood placed → (stage : Stage) → takes_block stage ≡ true
     → StandWell stage (flat_map block_lines placed)
 blocks_stand [] good stage closes = record { stand = tt; closes = closes }
 blocks_stand (block ∷ placed) good stage closes =
-    StandWell-both stage (block_lines block) (flat_map block_lines placed) (block_stands block good.0 stage closes) (blocks_stand placed good.1)
+    StandWell-both stage (block_lines block) (flat_map block_lines placed) (block_stands block good.0 stage closes)
+    (blocks_stand placed good.1)
 
 -- the lines of a valid image's listing
 pub listed_stand : (image : ImageValue) → IsValid image → StandFrom stages.Image (listed_lines image)
@@ -402,7 +239,7 @@ listed_stand image valid =
       StandFrom-append stages.Between (flat_map block_lines image.blocks) (end_line image.eof_flags ∷ []) all.stand (
         record {
           taken = all.closes;
-          sized = no_end_size last (Number image.eof_flags ∷ []);
+          sized = not_resized last of.End (Number image.eof_flags ∷ []) (λ n. refl);
           named = refl;
           no_label = refl;
           no_address = refl;

@@ -18,7 +18,8 @@ refused-at labels size count items at item is less = ap (refused_from labels siz
 abbrev pub Comes : Labels → ℕ → ℕ → List Item → Option AsmRefusal → Type 0
 Comes labels size count items due = (whole : ℕ) × (size ≡ near whole) × (refused_from labels whole count items ≡ due)
 
-pub comes_on : (labels : Labels) (size count : ℕ) (items : List Item) (at : ℕ) (due : Option AsmRefusal) (item : Item) (behind : List Item) (measure headers next : ℕ)
+pub comes_on : (labels : Labels) (size count : ℕ) (items : List Item) (at : ℕ) (due : Option AsmRefusal) (item : Item) (behind : List Item)
+    (measure headers next : ℕ)
     → item ≡ get_or items at item → at < length items → behind ≡ drop (at + 1) items
     → measure ≡ near (block_size labels item behind item.keyword) → next ≡ near (size + measure) → headers ≡ header_count item.keyword
     → ((whole : ℕ) → next ≡ near whole → None ≡ value_why labels item behind whole (count + headers))
@@ -41,7 +42,8 @@ comes_on labels size count items at due item behind measure headers next is less
     )
 
 -- a line that breaks one
-pub comes_to : (labels : Labels) (size count : ℕ) (items : List Item) (at : ℕ) (due : Option AsmRefusal) (item : Item) (behind : List Item) (measure headers next : ℕ) (why : AsmWhy)
+pub comes_to : (labels : Labels) (size count : ℕ) (items : List Item) (at : ℕ) (due : Option AsmRefusal) (item : Item) (behind : List Item)
+    (measure headers next : ℕ) (why : AsmWhy)
     → item ≡ get_or items at item → at < length items → behind ≡ drop (at + 1) items
     → measure ≡ near (block_size labels item behind item.keyword) → next ≡ near (size + measure) → headers ≡ header_count item.keyword
     → ((whole : ℕ) → next ≡ near whole → Some why ≡ value_why labels item behind whole (count + headers))

@@ -13,10 +13,13 @@ use Rattle.t3_asm.specs.Values.{content_text}
 pub drop-at : {X : Type 0} (xs : List X) (i : ℕ) (x : X) → x ≡ get_or xs i x → i < length xs → drop i xs ≡ x ∷ drop (i + 1) xs
 drop-at xs i x is less = drop_more xs i x less ∙ ap (λ f. f ∷ drop (i + 1) xs) (sym is)
 
-pub entries_of-at : {A : Type 0} (level : Level) (begins : Keyword → Bool) (entry : Item → List Item → A) (items : List Item) (i : ℕ) (item : Item)
+pub entries_of-at : {A : Type 0} (level : Level) (begins : Keyword → Bool) (entry : Item → List Item → A) (items : List Item) (i : ℕ)
+    (item : Item)
     → item ≡ get_or items i item → i < length items
     → entries_of level begins entry (drop i items)
-    ≡ cond (ends level item.keyword) [] (cond (begins item.keyword) (entry item (drop (i + 1) items) ∷ entries_of level begins entry (drop (i + 1) items)) (entries_of level begins entry (drop (i + 1) items)))
+    ≡ cond (ends level item.keyword) [] (cond (begins item.keyword)
+    (entry item (drop (i + 1) items) ∷ entries_of level begins entry (drop (i + 1) items))
+    (entries_of level begins entry (drop (i + 1) items)))
 entries_of-at level begins entry items i item is less = let one = drop-at items i item is less in rw one refl
 
 pub contents_of-at : (level : Level) (labels : Labels) (items : List Item) (i : ℕ) (item : Item)
@@ -25,7 +28,8 @@ pub contents_of-at : (level : Level) (labels : Labels) (items : List Item) (i : 
     ≡ cond (ends level item.keyword) [] (content_text labels item ++ contents_of level labels (drop (i + 1) items))
 contents_of-at level labels items i item is less = let one = drop-at items i item is less in rw one refl
 
-pub entries_ended : {A : Type 0} (level : Level) (begins : Keyword → Bool) (entry : Item → List Item → A) (items : List Item) (i : ℕ) (item : Item)
+pub entries_ended : {A : Type 0} (level : Level) (begins : Keyword → Bool) (entry : Item → List Item → A) (items : List Item) (i : ℕ)
+    (item : Item)
     → item ≡ get_or items i item → i < length items → ends level item.keyword ≡ true
     → entries_of level begins entry (drop i items) ≡ []
 entries_ended level begins entry items i item is less ended =
@@ -43,7 +47,8 @@ contents_ended level labels items i item is less ended =
     contents_of-at level labels items i item is less
     ∙ ap (λ b. cond b [] (content_text labels item ++ contents_of level labels (drop (i + 1) items))) ended
 
-pub contents_past : (level : Level) (labels : Labels) (items : List Item) (i : ℕ) → length items ≤ i → contents_of level labels (drop i items) ≡ []
+pub contents_past : (level : Level) (labels : Labels) (items : List Item) (i : ℕ) → length items ≤ i
+    → contents_of level labels (drop i items) ≡ []
 contents_past level labels items i past = ap (contents_of level labels) (drop_all i items past)
 
 -- ---- numbers and texts one after the other
@@ -73,7 +78,8 @@ pub six_more : {T E : Type 0} (answer : Result T E) (old a b c d e new p q r s t
     → IfOk answer (λ _. new ≡ old ++ (p ++ (q ++ (r ++ (s ++ (t ++ u))))))
 six_more (Ok x) old a b c d e new p q r s t u ia ib ic id ie last =
     last ∙ ap (λ o. o ++ u) (ie ∙ ap (λ o. o ++ t) (id ∙ ap (λ o. o ++ s) (ic ∙ ap (λ o. o ++ r) (ib ∙ ap (λ o. o ++ q) ia))))
-    ∙ append_assoc (old ++ p ++ q ++ r ++ s) t u ∙ append_assoc (old ++ p ++ q ++ r) s (t ++ u) ∙ append_assoc (old ++ p ++ q) r (s ++ (t ++ u))
+    ∙ append_assoc (old ++ p ++ q ++ r ++ s) t u ∙ append_assoc (old ++ p ++ q ++ r) s (t ++ u)
+    ∙ append_assoc (old ++ p ++ q) r (s ++ (t ++ u))
     ∙ append_assoc (old ++ p) q (r ++ (s ++ (t ++ u))) ∙ append_assoc old p (q ++ (r ++ (s ++ (t ++ u))))
 six_more (Err x) old a b c d e new p q r s t u ia ib ic id ie last = tt
 

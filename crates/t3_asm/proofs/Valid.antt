@@ -45,7 +45,9 @@ is_head stages.Symbols = true
 is_head stage = false
 
 no_kind : (a b c d e f g : Bool)
-    → is_head (cond a stages.EntryHead (cond b stages.ObjectsHead (cond c stages.PoolHead (cond d stages.PageHead (cond e stages.Metaclasses (cond f stages.FunctionSets (cond g stages.Symbols stages.Kept))))))) ≡ false
+    → is_head (cond a stages.EntryHead (cond b stages.ObjectsHead
+    (cond c stages.PoolHead (cond d stages.PageHead
+    (cond e stages.Metaclasses (cond f stages.FunctionSets (cond g stages.Symbols stages.Kept))))))) ≡ false
     → (a || (b || (c || (d || (e || (f || (g || false))))))) ≡ false
 no_kind true b c d e f g is = absurd cc
 no_kind false true c d e f g is = absurd cc
@@ -72,7 +74,8 @@ not_true : (b : Bool) → not b ≡ true → b ≡ false
 not_true true is = absurd cc
 not_true false is = refl
 
-good_name : (arguments : List Argument) (flags : ℕ) → is_good_block (block_name arguments) flags ≡ true → HasGoodName (block_name arguments) flags
+good_name : (arguments : List Argument) (flags : ℕ) → is_good_block (block_name arguments) flags ≡ true
+    → HasGoodName (block_name arguments) flags
 good_name arguments flags is =
     let name = block_name arguments in
     let parts = or_false (bytes_eq end_name name) (is_unknown_mandatory name flags) (not_true _ is) in
@@ -94,27 +97,37 @@ objects_good labels size count [] follow sound good = (lit< tt, lit< tt, lit< tt
 objects_good labels size count (head ∷ items) follow sound good =
     let flags = short_at head.arguments 1 in
     let parts = refused_from-None labels size count head items good in
-    let here : takes stages.ObjectsHead head.keyword ≡ true = subst (λ s. takes s head.keyword ≡ true) follow.0 (stands head sound.0.stands) in
+    let here : takes stages.ObjectsHead head.keyword ≡ true = subst (λ s. takes s head.keyword ≡ true) follow.0
+    (stands head sound.0.stands) in
     let is : head.keyword ≡ of.Objects = objects_keyword head.keyword here in
     let next : stage_behind head.place.stage head.keyword head.arguments ≡ stages.Objects flags =
     ap (λ k. stage_behind head.place.stage k head.arguments) is in
     let same : statics_of labels (head ∷ items) ≡ statics_of labels items =
-    ap (λ k. cond (ends_block k) [] (cond (is_object k) (static_of labels head items ∷ statics_of labels items) (statics_of labels items))) is in
-    let roomy : is_many (length (statics_of labels items)) ≡ false = sym (ap (λ k. is_crowded labels head items k) is) ∙ parts.first.roomy in
+    ap (λ k. cond (ends_block k) [] (cond (is_object k) (static_of labels head items ∷ statics_of labels items)
+    (statics_of labels items))) is in
+    let roomy : is_many (length (statics_of labels items)) ≡ false = sym (ap (λ k. is_crowded labels head items k) is)
+    ∙ parts.first.roomy in
     subst (λ all. IsSpellable (blocks.Objects (short_at head.arguments 0) flags all)) (sym same) (
       short_fits head.arguments 0,
       short_fits head.arguments 1,
       few _ roomy,
-      statics_good labels flags (size + block_size labels head items head.keyword) (count + header_count head.keyword) (stages.Objects flags) items refl
+      statics_good labels flags (size + block_size labels head items head.keyword) (count + header_count head.keyword)
+          (stages.Objects flags) items refl
           (subst (λ s. Follow s items) next follow.1) sound.1 parts.others,
     )
 
-spelled_by : (labels : Labels) (size count : ℕ) (name : List ℕ) (flags : ℕ) (behind : List Item) (stage : Stage) → stage_of_name name ≡ stage
+spelled_by : (labels : Labels) (size count : ℕ) (name : List ℕ) (flags : ℕ) (behind : List Item) (stage : Stage)
+    → stage_of_name name ≡ stage
     → HasGoodName name flags → Follow stage behind → AllByRecursion IsSound behind → refused_from labels size count behind ≡ None
     → is_crowded_block labels behind stage ≡ false → IsSpellable (block_by labels name behind stage)
 spelled_by labels size count name flags behind stages.EntryHead is named follow sound good roomy =
-    let head = head_arguments behind in
-    (omega arith, short_fits head 1, short_fits head 2, refl, (short_fits head 3, (short_fits head 4, (short_fits head 5, (short_fits head 6, tt)))))
+    let head = head_arguments behind in (
+      omega arith,
+      short_fits head 1,
+      short_fits head 2,
+      refl,
+      (short_fits head 3, (short_fits head 4, (short_fits head 5, (short_fits head 6, tt)))),
+    )
 spelled_by labels size count name flags behind stages.PoolHead is named follow sound good roomy =
     let head = head_arguments behind in (short_fits head 0, number_fits head 1, number_fits head 2)
 spelled_by labels size count name flags behind stages.PageHead is named follow sound good roomy =
@@ -156,8 +169,10 @@ named item is =
     (and_true (has_method item) _ b.1).1
 
 -- a header's line passes no limit
-within_limits : (labels : Labels) (item : Item) (items : List Item) (size count : ℕ) (keyword : Keyword) → item.keyword ≡ keyword → ends_block keyword ≡ true
-    → (ends_block item.keyword && passes_limits (size + block_size labels item items item.keyword) (count + header_count item.keyword)) ≡ false
+within_limits : (labels : Labels) (item : Item) (items : List Item) (size count : ℕ) (keyword : Keyword) → item.keyword ≡ keyword
+    → ends_block keyword ≡ true
+    → (ends_block item.keyword && passes_limits (size + block_size labels item items item.keyword) (count + header_count item.keyword))
+    ≡ false
     → (size + block_size labels item items keyword ≤ image_limit) × (count + 1 ≤ header_limit)
 within_limits labels item items size count keyword is ends within =
     let here : passes_limits (size + block_size labels item items keyword) (count + 1) ≡ false =
@@ -184,7 +199,8 @@ good_block labels size count item items is sound follow others_sound first other
     let limits = within_limits labels item items size count of.Block is refl first.within in
     record {
       spellable =
-          spelled_by labels (size + block_size labels item items item.keyword) (count + header_count item.keyword) name flags items stage refl says
+          spelled_by labels (size + block_size labels item items item.keyword)
+          (count + header_count item.keyword) name flags items stage refl says
           (subst (λ s. Follow s items) next follow) others_sound others roomy;
       size = omega (arith, limits.0, length-placed labels item items);
       flags = short_fits item.arguments 1;
@@ -217,22 +233,26 @@ abbrev end_lines : List Item → ℕ
 end_lines [] = 0
 end_lines (item ∷ items) = cond (is_end_line item.keyword) 1 0 + end_lines items
 
-blocks_size : Labels → List Item → ℕ
-blocks_size labels items = length (flat_map block_text (blocks_of labels items))
-
 -- blocks and ends fit the image behind what was there
 record Fits (size count blocks headers ends : ℕ) : Type 0 where
   bytes : size + blocks + 10 * ends ≤ image_limit
   few_headers : count + headers + ends ≤ header_limit
 
 fits_by : (labels : Labels) (item : Item) (items : List Item) (size count : ℕ) (keyword : Keyword) → item.keyword ≡ keyword
-    → Fits (size + block_size labels item items keyword) (count + header_count keyword) (length (flat_map block_text (blocks_of labels items)))
+    → Fits (size + block_size labels item items keyword) (count + header_count keyword)
+    (length (flat_map block_text (blocks_of labels items)))
     (length (blocks_of labels items)) (end_lines items)
-    → Fits size count (length (flat_map block_text (cond (is_block keyword) (placed_of labels item items ∷ blocks_of labels items) (blocks_of labels items))))
+    → Fits size count (length (flat_map block_text
+    (cond (is_block keyword) (placed_of labels item items ∷ blocks_of labels items) (blocks_of labels items))))
     (length (cond (is_block keyword) (placed_of labels item items ∷ blocks_of labels items) (blocks_of labels items)))
     (cond (is_end_line keyword) 1 0 + end_lines items)
 fits_by labels item items size count of.Block is fits = record {
-  bytes = omega (arith, fits.bytes, length-append (block_text (placed_of labels item items)) (flat_map block_text (blocks_of labels items)));
+  bytes = omega (
+    arith,
+    fits.bytes,
+    length-append (block_text (placed_of labels item items))
+        (flat_map block_text (blocks_of labels items)),
+  );
   few_headers = omega (arith, fits.few_headers);
 }
 fits_by labels item items size count of.End is fits =
@@ -242,7 +262,8 @@ fits_by labels item items size count keyword is fits =
 
 -- what has come so far is within the limits, at a line that begins no block as before it
 so_far : (labels : Labels) (item : Item) (items : List Item) (size count : ℕ) (keyword : Keyword) → item.keyword ≡ keyword
-    → (ends_block item.keyword && passes_limits (size + block_size labels item items item.keyword) (count + header_count item.keyword)) ≡ false
+    → (ends_block item.keyword && passes_limits (size + block_size labels item items item.keyword) (count + header_count item.keyword))
+    ≡ false
     → size ≤ image_limit → count ≤ header_limit
     → (size + block_size labels item items keyword ≤ image_limit) × (count + header_count keyword ≤ header_limit)
 so_far labels item items size count of.Block is within small few = within_limits labels item items size count of.Block is refl within
@@ -294,7 +315,7 @@ length-end flags =
       length-little_endian 2 flags,
     )
 
-length-text : (head : Head) (blocks : List PlacedBlock) (flags : ℕ) → IsHead head
+pub length-text : (head : Head) (blocks : List PlacedBlock) (flags : ℕ) → IsHead head
     → length (text (record { head = head; blocks = blocks; eof_flags = flags })) ≡ 69 + length (flat_map block_text blocks) + 10
 unfolding text prefix_text
 length-text head blocks flags is =
@@ -329,5 +350,11 @@ image_valid items whole good =
       blocks = blocks_good labels head_size 0 stages.Image items whole.read.follow whole.read.sound good;
       eof_flags = short_fits (arguments_in (newest items)) 0;
       count = omega (arith, fits.few_headers, ended);
-      size = omega (arith, fits.bytes, ended, length-text (head_in (slice_get items 0)) (blocks_of labels items) flags (first_head (slice_get items 0)));
+      size = omega (
+        arith,
+        fits.bytes,
+        ended,
+        length-text (head_in (slice_get items 0)) (blocks_of labels items) flags
+            (first_head (slice_get items 0)),
+      );
     }

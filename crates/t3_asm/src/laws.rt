@@ -1,5 +1,5 @@
-//! What holds of each source.
-ghost use Rattle.std.specs.Prelude.{◌≡◌, ℕ, ◌⊎◌, List, [], Ok, Some, map};
+//! What holds of each source and of each listing.
+ghost use Rattle.std.specs.Prelude.{◌≡◌, ℕ, ◌-◌, ◌^◌, ◌<◌, ◌⊎◌, List, [], length, Ok, Err, Some, map};
 ghost use Rattle.t3_asm_line.specs.Line.{line_of};
 ghost use Rattle.t3_asm_line.specs.Lines.{lines_of};
 ghost use Rattle.t3_image_read.specs.ImageText.{ImageValue};
@@ -8,10 +8,18 @@ ghost use Rattle.t3_asm.specs.Forms.{formed};
 ghost use Rattle.t3_asm.specs.HasBytes.{HasBytes};
 ghost use Rattle.t3_asm.specs.Listing.{listed_lines, listing};
 ghost use Rattle.t3_asm.specs.Places.{items_behind};
+ghost use Rattle.t3_asm.specs.Refusals.{refusal};
 ghost use Rattle.t3_asm.specs.Source.{Satisfies, IsBadLine};
 ghost use Rattle.t3_asm.specs.declared.refusal.AsmWhy.{AsmWhy as AnyWhy};
+ghost use Rattle.t3_asm.specs.declared.refusal.AsmWhy.TheVariants as whys;
 
+use crate::listing::list;
+use crate::refusal::{AsmRefusal, AsmWhy};
+use crate::source::assemble;
+use std::alloc::Global;
 use t3_asm_line::lines_read;
+use t3_holder::NoMemory;
+use t3_image_read::Image;
 
 /// A text says exactly one image, or has exactly one bad line with one reason, and never both. The
 /// image is valid.
@@ -44,4 +52,29 @@ pub fn listing_formed()
         → formed (listing image) ≡ Ok (items_behind 1 [] (listed_lines image)) }
 {
     listed_lines_read();
+}
+
+/// The listing of a valid image, whose names and texts are bytes, is a source of exactly that image. Its
+/// lines can be counted.
+pub fn listing_satisfies()
+    ensures satisfied { (image : ImageValue) → IsValid image → HasBytes image
+        → Satisfies (listing image) image }
+    ensures few_lines { (image : ImageValue) → IsValid image → HasBytes image
+        → length (lines_of (listing image)) < 2 ^ 32 - 1 }
+{
+    listed_lines_read();
+    listing_formed();
+}
+
+/// What is listed assembles to the same image, as far as there is memory.
+pub fn list_assembles(alloc: Global, image: &Image) -> Result<Image, AsmRefusal>
+    ensures { (result ≡ Ok image.now) ⊎ (result ≡ Err (refusal 0 whys.NoMemory)) }
+{
+    match list(alloc, image) {
+        Ok(source) => assemble(alloc, &source),
+        Err(NoMemory) => Err(AsmRefusal {
+            line: 0,
+            why: AsmWhy::NoMemory,
+        }),
+    }
 }

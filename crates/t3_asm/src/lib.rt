@@ -22,6 +22,8 @@ mod item;
 mod labels;
 mod laws;
 mod level;
+#[cfg(test)]
+mod limit_tests;
 mod lines;
 mod listing;
 mod lists;
@@ -35,7 +37,7 @@ mod stage;
 mod tests;
 mod values;
 
-pub use laws::{listed_lines_read, listing_formed, one_source};
+pub use laws::{list_assembles, listed_lines_read, listing_formed, listing_satisfies, one_source};
 pub use listing::list;
 pub use refusal::{AsmRefusal, AsmWhy};
 pub use source::assemble;

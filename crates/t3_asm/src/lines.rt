@@ -1,7 +1,9 @@
 //! The lines of a listing.
-ghost use Rattle.std.specs.Prelude.{◌≡◌, ◌∷◌, ◌++◌, [], length, map};
-ghost use Rattle.std.specs.List.{flat_map};
+ghost use Rattle.std.specs.Prelude.{◌≡◌, ◌∷◌, ◌++◌, [], length, map, IfOk};
+ghost use Rattle.std.specs.List.{AllByRecursion, flat_map};
+ghost use Rattle.t3_holder.specs.NumberText.{AreBytes};
 ghost use Rattle.t3_asm_line.specs.Appending.{argument_of};
+ghost use Rattle.t3_asm_line.specs.declared.argument.Argument.TheVariants.{Text};
 ghost use Rattle.t3_asm_line.specs.Keywords.{fields_of};
 ghost use Rattle.t3_asm_line.specs.Line.{parsed_line};
 ghost use Rattle.t3_asm.specs.Inner.Listed.{Lists};
@@ -18,16 +20,20 @@ const PIECE: usize = 32;
 
 /// What a listing has lines of.
 pub(crate) trait Lines {
-    ghost use Rattle.std.specs.Prelude.{ℕ, List};
+    ghost use Rattle.std.specs.Prelude.{ℕ, List, IfOk};
     ghost use Rattle.t3_asm_line.specs.declared.line.ParsedLine.{ParsedLine};
     ghost use Rattle.t3_asm.specs.Inner.Listed.{Lists};
 
     /// Its lines, in a list whose entries have this size.
     ghost lines: { ℕ → Self → List ParsedLine };
 
-    /// Appends them.
+    /// Its names and its texts are bytes.
+    ghost has_bytes: { Self → Type 0 };
+
+    /// Appends the lines.
     fn append(&self, alloc: Global, size: u16, out: &mut Vec<u8>) -> Result<(), NoMemory>
-        ensures { Lists out.old.items out.new.items (lines size self.now) result };
+        ensures lines { Lists out.old.items out.new.items (lines size self.now) result }
+        ensures bytes { IfOk result (λ _. has_bytes self.now) };
 }
 
 /// Appends the lines of each.
@@ -37,12 +43,21 @@ pub(crate) fn append_all<L: Lines>(
     items: &[L],
     out: &mut Vec<u8>,
 ) -> Result<(), NoMemory>
-    ensures { Lists out.old.items out.new.items (flat_map (L.lines size) items.now) result }
+    ensures lines { Lists out.old.items out.new.items (flat_map (L.lines size) items.now) result }
+    ensures bytes { IfOk result (λ _. AllByRecursion L.has_bytes items.now) }
 {
     for item in items {
         item.append(alloc, size, out)?;
     }
     Ok(())
+}
+
+/// A text of a line.
+pub(crate) fn text(bytes: &[u8]) -> Listed<'_>
+    ensures spelled { argument_of result ≡ Text bytes.now }
+    ensures bytes { AreBytes bytes.now }
+{
+    Listed::Text(bytes)
 }
 
 /// Appends a line.
@@ -61,7 +76,8 @@ pub(crate) fn append(
 
 /// Appends lines of 32 bytes, the last shorter.
 pub(crate) fn append_bytes(alloc: Global, bytes: &[u8], out: &mut Vec<u8>) -> Result<(), NoMemory>
-    ensures { Lists out.old.items out.new.items (bytes_lines bytes.now) result }
+    ensures lines { Lists out.old.items out.new.items (bytes_lines bytes.now) result }
+    ensures bytes { AreBytes bytes.now }
 {
     let mut rest = bytes;
     while !rest.is_empty() {
@@ -73,9 +89,12 @@ pub(crate) fn append_bytes(alloc: Global, bytes: &[u8], out: &mut Vec<u8>) -> Re
 }
 
 impl Lines for Static {
+    ghost use Rattle.t3_asm.specs.HasBytes.{StaticHasBytes};
     ghost use Rattle.t3_asm.specs.Listing.{static_lines};
 
     ghost lines = { λ _. static_lines };
+
+    ghost has_bytes = { StaticHasBytes };
 
     fn append(&self, alloc: Global, _size: u16, out: &mut Vec<u8>) -> Result<(), NoMemory> {
         append(alloc, Keyword::Object, &[Listed::Number(self.number)], out)?;
@@ -84,15 +103,18 @@ impl Lines for Static {
 }
 
 impl Lines for Meta {
+    ghost use Rattle.t3_asm.specs.HasBytes.{MetaHasBytes};
     ghost use Rattle.t3_asm.specs.Listing.{meta_lines};
 
     ghost lines = { λ _. meta_lines };
 
+    ghost has_bytes = { MetaHasBytes };
+
     fn append(&self, alloc: Global, _size: u16, out: &mut Vec<u8>) -> Result<(), NoMemory> {
         let arguments = [
-            Listed::Text(&self.name.0),
+            text(&self.name.0),
             Listed::Number(u32::from(self.property_size)),
-            Listed::Text(&self.tail.0),
+            text(&self.tail.0),
         ];
         append(alloc, Keyword::Metaclass, &arguments, out)?;
         append_all(alloc, self.property_size, &self.props.0, out)
@@ -100,40 +122,49 @@ impl Lines for Meta {
 }
 
 impl Lines for PropEntry {
+    ghost use Rattle.t3_asm.specs.HasBytes.{PropHasBytes};
     ghost use Rattle.t3_asm.specs.Listing.{prop_lines};
 
     ghost lines = { prop_lines };
 
+    ghost has_bytes = { PropHasBytes };
+
     fn append(&self, alloc: Global, size: u16, out: &mut Vec<u8>) -> Result<(), NoMemory> {
-        let number = u32::from(self.number);
+        let arguments = [Listed::Number(u32::from(self.number)), text(&self.extra.0)];
         if size == 2 {
-            return append(alloc, Keyword::Prop, &[Listed::Number(number)], out);
+            append(alloc, Keyword::Prop, &arguments[..1], out)
+        } else {
+            append(alloc, Keyword::PropBytes, &arguments, out)
         }
-        let arguments = [Listed::Number(number), Listed::Text(&self.extra.0)];
-        append(alloc, Keyword::PropBytes, &arguments, out)
     }
 }
 
 impl Lines for Bytes {
+    ghost use Rattle.t3_holder.specs.NumberText.{AreBytes};
     ghost use Rattle.t3_asm.specs.Listing.{name_lines};
 
     ghost lines = { λ _. name_lines };
 
+    ghost has_bytes = { AreBytes };
+
     fn append(&self, alloc: Global, _size: u16, out: &mut Vec<u8>) -> Result<(), NoMemory> {
-        append(alloc, Keyword::FunctionSet, &[Listed::Text(&self.0)], out)
+        append(alloc, Keyword::FunctionSet, &[text(&self.0)], out)
     }
 }
 
 impl Lines for Symbol {
+    ghost use Rattle.t3_asm.specs.HasBytes.{SymbolHasBytes};
     ghost use Rattle.t3_asm.specs.Listing.{symbol_lines};
 
     ghost lines = { λ _. symbol_lines };
+
+    ghost has_bytes = { SymbolHasBytes };
 
     fn append(&self, alloc: Global, _size: u16, out: &mut Vec<u8>) -> Result<(), NoMemory> {
         let arguments = [
             Listed::Number(u32::from(self.raw.tag)),
             Listed::Number(self.raw.bits),
-            Listed::Text(&self.name.0),
+            text(&self.name.0),
         ];
         append(alloc, Keyword::Symbol, &arguments, out)
     }
@@ -141,8 +172,10 @@ impl Lines for Symbol {
 
 /// Appends the line of the header.
 pub(crate) fn append_head(alloc: Global, head: &Head, out: &mut Vec<u8>) -> Result<(), NoMemory>
-    ensures { Lists out.old.items out.new.items (head_line head.now ∷ []) result }
+    ensures lines { Lists out.old.items out.new.items (head_line head.now ∷ []) result }
+    ensures reserved { AreBytes head.now.reserved }
+    ensures stamp { AreBytes head.now.stamp }
 {
-    let arguments = [Listed::Text(&head.reserved), Listed::Text(&head.stamp)];
+    let arguments = [text(&head.reserved), text(&head.stamp)];
     append(alloc, Keyword::ImageHead, &arguments, out)
 }

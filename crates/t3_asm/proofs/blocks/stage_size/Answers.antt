@@ -9,7 +9,8 @@ use Rattle.t3_asm.proofs.blocks.stage_size.Goals as goal
 
 pub returns-in-EntryHead : goal.returns-in-EntryHead
 returns-in-EntryHead c labels name =
-    sized_at labels name c.args.behind.now c.args.stage stages.EntryHead _ c.in-EntryHead.is (omega (arith, ap length c.text_at.ensures, ap (λ h. length (text_at h 7)) c.head_arguments-head.ensures))
+    sized_at labels name c.args.behind.now c.args.stage stages.EntryHead _ c.in-EntryHead.is
+    (omega (arith, ap length c.text_at.ensures, ap (λ h. length (text_at h 7)) c.head_arguments-head.ensures))
 
 pub returns-in-PoolHead : goal.returns-in-PoolHead
 returns-in-PoolHead c labels name =
@@ -28,15 +29,18 @@ returns-in-ObjectsHead c labels name =
 
 pub returns-in-Metaclasses : goal.returns-in-Metaclasses
 returns-in-Metaclasses c labels name =
-    sized_at labels name c.args.behind.now c.args.stage stages.Metaclasses _ c.in-Metaclasses.is (omega (arith, c.entries_size-in-Metaclasses.ensures labels))
+    sized_at labels name c.args.behind.now c.args.stage stages.Metaclasses _ c.in-Metaclasses.is
+    (omega (arith, c.entries_size-in-Metaclasses.ensures labels))
 
 pub returns-in-FunctionSets : goal.returns-in-FunctionSets
 returns-in-FunctionSets c labels name =
-    sized_at labels name c.args.behind.now c.args.stage stages.FunctionSets _ c.in-FunctionSets.is (omega (arith, c.entries_size-in-FunctionSets.ensures labels))
+    sized_at labels name c.args.behind.now c.args.stage stages.FunctionSets _ c.in-FunctionSets.is
+    (omega (arith, c.entries_size-in-FunctionSets.ensures labels))
 
 pub returns-in-Symbols : goal.returns-in-Symbols
 returns-in-Symbols c labels name =
-    sized_at labels name c.args.behind.now c.args.stage stages.Symbols _ c.in-Symbols.is (omega (arith, c.entries_size-in-Symbols.ensures labels))
+    sized_at labels name c.args.behind.now c.args.stage stages.Symbols _ c.in-Symbols.is
+    (omega (arith, c.entries_size-in-Symbols.ensures labels))
 
 pub returns-in_default : goal.returns-in_default
 returns-in_default c labels name =

@@ -8,4 +8,5 @@ loop-at-preserved c =
 
 pub returns : goal.returns
 returns c =
-    bytes_whole c.loop-at.out.items c.args.out.now.items c.args.width c.loop-at._at c.loop-at.rest c.args.number c.loop-at-test.false c.loop-at.invariant
+    bytes_whole c.loop-at.out.items c.args.out.now.items c.args.width c.loop-at._at c.loop-at.rest c.args.number c.loop-at-test.false
+    c.loop-at.invariant

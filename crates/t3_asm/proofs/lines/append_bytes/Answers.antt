@@ -9,7 +9,7 @@ loop-rest-preserved c =
     c.split_at.result.1.now c.min.result (some_left _ (sym c.is_empty.ensures ∙ c.loop-rest-test.true)) c.min.ensures
     c.split_at.ensures.front c.split_at.ensures.back c.in_ok-append.ensures loop.invariant
 
-pub returns : goal.returns
-returns c =
+pub returns-clause-lines : goal.returns-clause-lines
+returns-clause-lines c =
     pieces_whole c.loop-rest.out.items c.args.out.now.items c.args.bytes.now c.loop-rest.rest.now
     (eqb-true _ _ (sym c.is_empty.ensures ∙ c.loop-rest-test.false)) c.loop-rest.invariant

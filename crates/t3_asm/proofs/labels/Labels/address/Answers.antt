@@ -6,8 +6,10 @@ use Rattle.t3_asm.proofs.labels.Labels.address.Goals as goal
 
 pub returns-in-Some : goal.returns-in-Some
 returns-in-Some c =
-    get-kept nat_list_cmp_total (λ v. v.items) c.args.label.now _ _ c.in-Some.ensures.value ∙ ap (λ m. map.get m c.args.label.now) c.self.view_is
+    get-kept nat_list_cmp_total (λ v. v.items) c.args.label.now _ _ c.in-Some.ensures.value
+    ∙ ap (λ m. map.get m c.args.label.now) c.self.view_is
 
 pub returns-in-None : goal.returns-in-None
 returns-in-None c =
-    get-kept nat_list_cmp_total (λ v. v.items) c.args.label.now _ _ c.in-None.ensures.value ∙ ap (λ m. map.get m c.args.label.now) c.self.view_is
+    get-kept nat_list_cmp_total (λ v. v.items) c.args.label.now _ _ c.in-None.ensures.value
+    ∙ ap (λ m. map.get m c.args.label.now) c.self.view_is

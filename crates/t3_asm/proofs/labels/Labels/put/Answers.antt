@@ -12,5 +12,6 @@ returns-clause-ok c =
     let before = c.self.view_is in
     let is = c.in_ok-label.ensures.items in
     ap (λ es. map.from_entries (kept_entries (λ v. v.items) es)) c.in_ok-insert.ensures.entries
-    ∙ kept-insert nat_list_cmp_total (slice_cmp-IsAntisymmetric nat_cmp-IsAntisymmetric) (λ v. v.items) c.self.inside.addresses.entries label c.args.address
+    ∙ kept-insert nat_list_cmp_total (slice_cmp-IsAntisymmetric nat_cmp-IsAntisymmetric)
+    (λ v. v.items) c.self.inside.addresses.entries label c.args.address
     ∙ cc
