@@ -28,3 +28,5 @@ pub mod Ticks
 pub mod Validity
 pub mod Callers
 pub mod Given
+pub mod Ancestors
+pub mod FirstBroken
