@@ -29,3 +29,5 @@ pub mod Validity
 pub mod Callers
 pub mod Given
 pub mod Added
+pub mod Ancestors
+pub mod FirstBroken

@@ -2,4 +2,5 @@ pub mod Limits
 pub mod Value
 pub mod Store
 pub mod Whole
+pub mod Broken
 pub mod Inner

@@ -25,6 +25,7 @@
 //! back, whatever is made, changed and undone. [`Store::kind`] says so where a search needs it.
 #![tactic(auto)]
 
+mod broken;
 mod entries;
 mod kind;
 mod limits;
@@ -41,6 +42,7 @@ mod tests;
 mod unit_rows;
 mod writing;
 
+pub use broken::Broken;
 pub use kind::Kind;
 pub use limits::{StoreLimits, StoreRefusal};
 pub use new_object::NewObject;

@@ -1,11 +1,14 @@
-ghost use Rattle.std.specs.Prelude.{◌≡◌, ◌+◌, ◌<◌, ◌≤◌, ◌^◌, ◌↔◌, ◌||◌, Some, None, Err, IsTrue, IsSome, IfOk, OnOk, OnErr, is_some, nat_lt, option_map, option_and_then, map};
+ghost use Rattle.std.specs.Prelude.{◌≡◌, ◌+◌, ◌<◌, ◌≤◌, ◌^◌, ◌↔◌, ◌||◌, Some, None, Err, IsTrue, IsSome, IfOk, OnOk, OnErr, MatchOption, is_some, nat_lt, option_map, option_and_then, map};
 ghost use Rattle.std.specs.List.Sorted.{IsStrictlyIncreasing};
 ghost use Rattle.std.specs.FinMap as finite;
 ghost use Rattle.std.specs.FinMap.{get, insert, len, entries};
 ghost use Rattle.t3_store.specs.Value.{is_past, is_past_units, key_units, with_cell, IsTableWithout, HasFittingLength, text_of, items_in, length_of, entries_in, holder_at, kind_of, supers_of, is_class_at, props_at, units_of, units_in, new_value, IsNextAbove};
+ghost use Rattle.t3_store.specs.Broken.{LacksSuper, IsOwnAncestor, IsNever, IsLeast, IsFirstBroken};
+ghost use Rattle.t3_store.specs.Whole.{IsWhole, supers_in};
 ghost use Rattle.t3_store.specs.Inner.Shapes.{values, AreWithin};
 ghost use Rattle.t3_undo.specs.Objects.{adjust};
 
+use crate::broken::{Broken, is_own_ancestor, lacks_super};
 use crate::kind::Kind;
 use crate::limits::StoreRefusal;
 use crate::new_object::NewObject;
@@ -109,6 +112,54 @@ impl Persistent {
             return None;
         }
         objects.after(number)
+    }
+
+    /// The object with the least number of which a superclass isn't a tads-object here. If there is none, the
+    /// object with the least number that is its own ancestor. `None` exactly where neither is, and then nothing
+    /// is broken for a store that has these objects.
+    pub fn first_broken(&self, alloc: Global) -> Result<Option<(u32, Broken)>, NoMemory>
+        ensures first { IfOk result (λ broken. IsFirstBroken (supers_in self.now) broken) }
+        ensures whole { IfOk result (λ broken. (broken ≡ None) ↔ IsWhole (supers_in self.now)) }
+    {
+        if let Some(number) = self.first_lacking() {
+            return Ok(Some((number, Broken::Missing)));
+        }
+        match self.first_own_ancestor(alloc)? {
+            Some(number) => Ok(Some((number, Broken::Cycle))),
+            None => Ok(None),
+        }
+    }
+
+    /// The least number of an object of which a superclass isn't a tads-object here.
+    fn first_lacking(&self) -> Option<u32>
+        ensures { MatchOption result (IsNever (LacksSuper (supers_in self.now)))
+            (λ number. IsLeast (LacksSuper (supers_in self.now)) number) }
+    {
+        let _ = &self.alloc;
+        let mut number = 0;
+        while let Some(next) = self.after(number) {
+            if lacks_super(self, next) {
+                return Some(next);
+            }
+            number = next;
+        }
+        None
+    }
+
+    /// The least number of an object that is its own ancestor.
+    fn first_own_ancestor(&self, alloc: Global) -> Result<Option<u32>, NoMemory>
+        ensures { IfOk result (λ found. MatchOption found (IsNever (IsOwnAncestor (supers_in self.now)))
+            (λ number. IsLeast (IsOwnAncestor (supers_in self.now)) number)) }
+    {
+        let _ = &self.alloc;
+        let mut number = 0;
+        while let Some(next) = self.after(number) {
+            if is_own_ancestor(alloc, self, next)? {
+                return Ok(Some(next));
+            }
+            number = next;
+        }
+        Ok(None)
     }
 
     /// An equal map.

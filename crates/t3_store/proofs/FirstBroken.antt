@@ -1,0 +1,96 @@
+-- What is broken is found by rising number, and where nothing is, superclasses are whole. Other crates may use these.
+use Rattle.std.proofs.Common.{◌≡◌, ◌∙◌, ap, sym, subst, refl, ℕ, zero, suc, ◌<◌, ◌≤◌, true, ⊎_elim, List, [], ◌∷◌, Option, None, Some, true≢false, arith}
+use Rattle.std.specs.Prelude.{Contains, IsSome, is_some, option_and_then}
+use Rattle.std.specs.FinMap.{get}
+use Rattle.std.proofs.lemmas.Bool.{cases_lt}
+use Rattle.t3_tadsobj.specs.Order.{SupersAt, IsWalk}
+use Rattle.t3_tadsobj.proofs.OrderMembers.{each}
+use Rattle.t3_store.specs.Value.{Objects, supers_of, IsNextAbove}
+use Rattle.t3_store.specs.Whole.{AreThere, IsWhole, supers_in}
+use Rattle.t3_store.specs.Broken.{LacksSuper, IsOwnAncestor, IsNever, IsLeast, IsFirstBroken}
+use Rattle.t3_store.specs.declared.broken.Broken.{Broken}
+use Rattle.t3_store.specs.declared.broken.Broken.TheVariants.{Missing, Cycle}
+use Rattle.t3_store.proofs.WholeWritten.{alike}
+
+-- what isn't there has no superclass
+pub apart-none : (objects : Objects) (n : ℕ) → get objects n ≡ None → supers_in objects n ≡ None
+apart-none objects n none = ap (λ o. option_and_then supers_of o) none
+
+pub lacks-there : (at : SupersAt) (n : ℕ) → at n ≡ None → LacksSuper at n → ⊥
+lacks-there at n none lacks = absurd (cc (none, lacks.step.are))
+
+pub own-there : (at : SupersAt) (n : ℕ) → at n ≡ None → IsOwnAncestor at n → ⊥
+own-there at n none walk = first walk.0 n walk.1
+  where
+    first : (path : List ℕ) (above : ℕ) → IsWalk at n path above → ⊥
+    first [] above walk = absurd (cc (none, walk.are))
+    first (x ∷ path) above walk = absurd (cc (none, walk.0.are))
+
+-- a property of objects, by rising number
+pub none-below : (objects : Objects) (P : ℕ → Type 0) → ((q : ℕ) → get objects q ≡ None → P q → ⊥) → get objects 0 ≡ None
+    → (smaller : ℕ) → smaller ≤ 0 → P smaller → ⊥
+none-below objects P there zero_none smaller least holds =
+    there smaller (subst (λ (k : ℕ). get objects k ≡ None) (omega (arith, least)) zero_none) holds
+
+between : (objects : Objects) (P : ℕ → Type 0) (n next : ℕ) → ((q : ℕ) → get objects q ≡ None → P q → ⊥)
+    → IsNextAbove objects n (Some next) → ((smaller : ℕ) → smaller ≤ n → P smaller → ⊥)
+    → (smaller : ℕ) → smaller < next → P smaller → ⊥
+between objects P n next there above none smaller less holds =
+    ⊎_elim
+    (λ past. there smaller (above.2 smaller past less) holds)
+    (λ before. none smaller before holds)
+    (cases_lt n smaller)
+
+pub least-found : (objects : Objects) (P : ℕ → Type 0) (n next : ℕ) → ((q : ℕ) → get objects q ≡ None → P q → ⊥)
+    → IsNextAbove objects n (Some next) → ((smaller : ℕ) → smaller ≤ n → P smaller → ⊥) → P next → IsLeast P next
+least-found objects P n next there above none holds = (holds, between objects P n next there above none)
+
+pub none-further : (objects : Objects) (P : ℕ → Type 0) (n next : ℕ) → ((q : ℕ) → get objects q ≡ None → P q → ⊥)
+    → IsNextAbove objects n (Some next) → ((smaller : ℕ) → smaller ≤ n → P smaller → ⊥) → (P next → ⊥)
+    → (smaller : ℕ) → smaller ≤ next → P smaller → ⊥
+none-further objects P n next there above none not smaller least holds =
+    ⊎_elim
+    (λ less. between objects P n next there above none smaller less holds)
+    (λ far. not (subst P (omega (arith, least, far)) holds))
+    (cases_lt smaller next)
+
+pub none-left : (objects : Objects) (P : ℕ → Type 0) (n : ℕ) → ((q : ℕ) → get objects q ≡ None → P q → ⊥)
+    → IsNextAbove objects n None → ((smaller : ℕ) → smaller ≤ n → P smaller → ⊥) → IsNever P
+none-left objects P n there above none q holds =
+    ⊎_elim (λ past. there q (above q past) holds) (λ before. none q before holds) (cases_lt n q)
+
+-- nothing is broken exactly where superclasses are whole
+some-there : (at : SupersAt) (n : ℕ) (o : Option (List ℕ)) → at n ≡ o → (o ≡ None → ⊥) → is_some (at n) ≡ true
+some-there at n None e not = absurd (not refl)
+some-there at n (Some supers) e not = ap is_some e
+
+pub none-lack : (at : SupersAt) → IsNever (LacksSuper at) → (n : ℕ) (supers : List ℕ) → at n ≡ Some supers → AreThere at supers
+none-lack at never n supers are =
+    each (λ above. IsSome (at above)) supers (λ above among. some-there at above (at above) refl
+    (λ none. never n (record { above = above; step = record { supers = supers; are = are; among = among }; missing = none })))
+
+pub whole-unbroken : (at : SupersAt) → IsFirstBroken at None → IsWhole at
+whole-unbroken at none = record { there = none-lack at none.0; acyclic = none.1 }
+
+there-contains : (at : SupersAt) (supers : List ℕ) (above : ℕ) → AreThere at supers → Contains supers above → is_some (at above) ≡ true
+there-contains at [] above all has = absurd (omega (arith, has.1))
+there-contains at (x ∷ supers) above all (zero, less, is) = subst (λ (k : ℕ). is_some (at k) ≡ true) is all.0
+there-contains at (x ∷ supers) above all (suc k, less, is) = there-contains at supers above all.1 (k, omega arith, is)
+
+pub whole-lacks-none : (at : SupersAt) (n : ℕ) → IsWhole at → LacksSuper at n → ⊥
+whole-lacks-none at n whole lacks =
+    true≢false (sym (there-contains at lacks.step.supers lacks.above (whole.there n lacks.step.supers lacks.step.are) lacks.step.among)
+    ∙ ap is_some lacks.missing)
+
+pub unbroken-whole : (at : SupersAt) (result : Option (ℕ × Broken)) → IsFirstBroken at result → IsWhole at → result ≡ None
+unbroken-whole at None is whole = refl
+unbroken-whole at (Some (n, Missing)) is whole = absurd (whole-lacks-none at n whole is.0)
+unbroken-whole at (Some (n, Cycle)) is whole = absurd (whole.acyclic n is.1.0)
+
+pub broken-whole : (at : SupersAt) (result : Option (ℕ × Broken)) → IsFirstBroken at result
+    → ((result ≡ None → IsWhole at) × (IsWhole at → result ≡ None))
+broken-whole at result is = (λ none. whole-unbroken at (subst (IsFirstBroken at) none is), unbroken-whole at result is)
+
+-- superclasses that are the same are as whole
+pub whole-alike : (at more : SupersAt) → ((number : ℕ) → at number ≡ more number) → IsWhole at → IsWhole more
+whole-alike at more same whole = subst IsWhole (alike at more same) whole
