@@ -206,11 +206,11 @@ data_decides of number rows blocks kinds n same are none distinct table first =
       from_on = omega arith;
       before = omega arith;
       broken = λ limits. (
-            first.0,
-            first.1,
-            subst (λ ss. IsFirst (IsNoObject blocks) ss first.0) are
-                (subst (λ k. IsFirst (λ s. (object : ImageObject) → ¬ IsObjectOf k s object) (map of rows) first.0) kind first.2),
-          );
+        first.0,
+        first.1,
+        subst (λ ss. IsFirst (IsNoObject blocks) ss first.0) are
+            (subst (λ k. IsFirst (λ s. (object : ImageObject) → ¬ IsObjectOf k s object) (map of rows) first.0) kind first.2),
+      );
       kept = both_kept of number rows blocks same are none distinct;
     }
 

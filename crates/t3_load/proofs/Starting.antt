@@ -125,17 +125,22 @@ from_first objects first distinct persistent n supers e = by_value (get first n)
     by_value (Some value) held e =
         let among = persistent.only n value held in
         let found : object_of objects n ≡ Some among.object =
-        ap (object_of objects) (sym among.numbered) ∙ object_found objects among.object distinct among.among in
-        (among.object, among.among, among.numbered, among.half,
-        ap (option_and_then (λ (x : ImageObject). supers_of (value_of x))) found ∙ ap supers_of among.is ∙ e)
+        ap (object_of objects) (sym among.numbered) ∙ object_found objects among.object distinct among.among in (
+          among.object,
+          among.among,
+          among.numbered,
+          among.half,
+          ap (option_and_then (λ (x : ImageObject). supers_of (value_of x))) found ∙ ap supers_of among.is ∙ e,
+        )
 
 walk_up : (objects : List ImageObject) (first : Objects) → IsDistinct nat_eq (map (λ (o : ImageObject). o.number) objects)
     → IsHalf false objects first → (n above : ℕ) (path : List ℕ) → IsWalk (supers_in first) n path above → IsWalk (supers_by objects) n path above
 walk_up objects first distinct persistent n above [] step =
     record { supers = step.supers; are = (from_first objects first distinct persistent n step.supers step.are).4; among = step.among }
-walk_up objects first distinct persistent n above (next ∷ path) walk =
-    (record { supers = walk.0.supers; are = (from_first objects first distinct persistent n walk.0.supers walk.0.are).4; among = walk.0.among },
-    walk_up objects first distinct persistent next above path walk.1)
+walk_up objects first distinct persistent n above (next ∷ path) walk = (
+  record { supers = walk.0.supers; are = (from_first objects first distinct persistent n walk.0.supers walk.0.are).4; among = walk.0.among },
+  walk_up objects first distinct persistent next above path walk.1,
+)
 
 pub persistent_whole : (objects : List ImageObject) (first : Objects) → IsDistinct nat_eq (map (λ (o : ImageObject). o.number) objects)
     → IsHalf false objects first → first_by (has_transient_super objects) objects ≡ None → IsWhole (supers_by objects) → IsWhole (supers_in first)

@@ -75,7 +75,10 @@ impl ImageObjects {
         ensures objects { result.items ≡ self }
         ensures distinct { IsDistinct nat_eq (map (λ object. object.number) self) }
     {
-        let ImageObjects { numbers: _, objects } = self;
+        let ImageObjects {
+            numbers: _,
+            objects,
+        } = self;
         objects
     }
 }
@@ -163,7 +166,10 @@ fn is_object_number(number: u32) -> bool
 }
 
 /// The numbers of the objects.
-fn distinct_numbers(alloc: Global, statics: &[StaticObject<'_>]) -> Result<Tried<ObjectNumbers>, NoMemory>
+fn distinct_numbers(
+    alloc: Global,
+    statics: &[StaticObject<'_>],
+) -> Result<Tried<ObjectNumbers>, NoMemory>
     ensures { IfOk result (TakesNumbers (λ set. set.keys) (map (λ static. static.number) statics.now)) }
 {
     let mut numbers = IndexSet::with_hasher(alloc, BuildHasherDefault::new());

@@ -9,7 +9,7 @@ ghost use Rattle.t3_load.specs.Inner.Deciding.{Decides};
 use crate::objects::{ImageObject, ImageObjects};
 use crate::refusal::LoadRefusal;
 use std::alloc::Global;
-use t3_store::NewObject;
+use t3_store::{NewObject, is_own_ancestor};
 use t3_tadsobj::Supers;
 
 /// Whether each superclass is there: rule 10.
@@ -25,13 +25,17 @@ pub(crate) fn check_there(objects: &ImageObjects) -> Result<(), LoadRefusal>
     Ok(())
 }
 
-/// Whether no object is its own ancestor: rule 11. Each superclass must be there.
+/// Whether no object is its own ancestor: rule 11.
 pub(crate) fn check_acyclic(alloc: Global, objects: &ImageObjects) -> Result<(), LoadRefusal>
-    requires { first_by (lacks_super objects.now) objects.now ≡ None }
     ensures acyclic { OnOk result (IsAcyclic (supers_by objects.now)) }
     ensures decides { (blocks : List AnyBlock) → AreObjectsIn blocks objects.now → Decides blocks 11 12 result }
 {
-    Err(LoadRefusal::NoMemory)
+    for object in objects.as_slice() {
+        if is_own_ancestor(alloc, objects, object.number)? {
+            return Err(LoadRefusal::SuperCycle(object.number));
+        }
+    }
+    Ok(())
 }
 
 /// Whether persistent objects have persistent superclasses: rule 12.
