@@ -20,10 +20,15 @@ build/t3_page: $(SOURCES)
 	cd crates/t3_page && rm -f out/t3_page && { rt run < stdin || true; } && test -x out/t3_page
 	cp crates/t3_page/out/t3_page $@
 
-# A first look, within a minute: built without its proofs, and run once.
+# A first look, within a minute: built once, without its proofs, to assemble a source and to run the image of it.
 demo: examples/answer.t3
 	@echo 'This build is not proved: make proves the program and builds it.'
-	@cd crates/t3 && rt try --data answer.t3=../../examples/answer.t3 -- run answer.t3 2>/dev/null
+	@rm -rf build/demo && mkdir -p build/demo
+	@cp examples/answer.t3s build/demo/asm && printf 'asm\n{}\nanswer.t3\n' > build/demo/asm.args
+	@cp examples/answer.t3 build/demo/run && printf 'run\n{}\n' > build/demo/run.args
+	@cd crates/t3 && rt try --cases ../../build/demo > ../../build/demo.out 2>&1
+	@sed -n -e 's/^== asm$$/$$ t3 asm answer.t3s answer.t3/p' -e 's/^== run$$/$$ t3 run answer.t3/p' \
+		-e '/^ok bytes=/p' -e '/^[0-9]*$$/p' build/demo.out
 
 examples/answer.t3: examples/make.sh
 	sh examples/make.sh

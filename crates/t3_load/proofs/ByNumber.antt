@@ -1,5 +1,5 @@
 -- Objects by their numbers, of which no two are the same.
-use Rattle.std.proofs.Common.{◌≡◌, ℕ, zero, suc, ◌<◌, ◌≤◌, Bool, true, false, List, [], ◌∷◌, Option, None, Some, map, nat_eq, fold, max, refl, sym, ap, ◌∙◌, cond, arith}
+use Rattle.std.proofs.Common.{◌≡◌, ℕ, zero, suc, ◌<◌, ◌≤◌, Bool, true, false, List, [], ◌∷◌, Option, None, Some, nat_eq, fold, max, refl, sym, ap, ◌∙◌, cond, arith}
 use Rattle.std.specs.Prelude.{Contains, IsSome, option_map, is_some}
 use Rattle.std.specs.List.{All, AllByRecursion, IsDistinct}
 use Rattle.std.specs.FinMap.{get}
@@ -8,19 +8,20 @@ use Rattle.std.proofs.lemmas.List.Elements.{All-head, All-tail, Contains-append_
 use Rattle.t3_store.specs.Value.{Value, Objects}
 use Rattle.t3_store.specs.Store.{AreBelow, either}
 use Rattle.t3_store.specs.Whole.{AreApart}
+use Rattle.t3_load.specs.ImageObjects.{object_numbers}
 use Rattle.t3_load.specs.declared.objects.ImageObject.{ImageObject}
 use Rattle.t3_load.specs.ImageObjects.{value_of, object_of, IsHalf}
 use Rattle.t3_load.specs.Loading.{next_above}
 use Rattle.t3_load.proofs.Halving.{contains_map}
 
 apart_of : (n : ℕ) (objects : List ImageObject) (b : ImageObject)
-    → AllByRecursion (λ y. nat_eq n y ≡ false) (map (λ (o : ImageObject). o.number) objects) → Contains objects b → nat_eq n b.number ≡ false
+    → AllByRecursion (λ y. nat_eq n y ≡ false) (object_numbers objects) → Contains objects b → nat_eq n b.number ≡ false
 apart_of n [] b all there = absurd (omega (arith, there.1))
 apart_of n (o ∷ objects) b all (zero, less, is) = ap (λ (x : ImageObject). nat_eq n x.number) (sym is) ∙ all.0
 apart_of n (o ∷ objects) b all (suc k, less, is) = apart_of n objects b all.1 (k, omega (arith, less), is)
 
 -- two of one number are the same
-pub one_of_number : (objects : List ImageObject) (a b : ImageObject) → IsDistinct nat_eq (map (λ (o : ImageObject). o.number) objects)
+pub one_of_number : (objects : List ImageObject) (a b : ImageObject) → IsDistinct nat_eq (object_numbers objects)
     → Contains objects a → Contains objects b → a.number ≡ b.number → a ≡ b
 unfolding IsDistinct
 one_of_number [] a b distinct at_a at_b same = absurd (omega (arith, at_a.1))
@@ -61,7 +62,7 @@ none_of (o ∷ objects) object (suc k, less, is) e =
     none_of objects object (k, omega (arith, less), is) (behind o objects object.number (nat_eq object.number o.number) e)
 
 -- one that is among them is that of its number
-pub object_found : (objects : List ImageObject) (object : ImageObject) → IsDistinct nat_eq (map (λ (o : ImageObject). o.number) objects)
+pub object_found : (objects : List ImageObject) (object : ImageObject) → IsDistinct nat_eq (object_numbers objects)
     → Contains objects object → object_of objects object.number ≡ Some object
 object_found objects object distinct there = by_found (object_of objects object.number) refl
   where
@@ -90,7 +91,7 @@ bounded (n ∷ numbers) from bound less all =
 
 -- an object of a half has its number, which is below the next one
 pub half_below : (transient : Bool) (objects : List ImageObject) (half : Objects) → IsHalf transient objects half
-    → AreBelow (next_above (map (λ (o : ImageObject). o.number) objects)) half
+    → AreBelow (next_above (object_numbers objects)) half
 half_below transient objects half is n beyond = by_value (get half n) refl
   where
     by_value : (o : Option Value) → get half n ≡ o → o ≡ None
@@ -101,12 +102,12 @@ half_below transient objects half is n beyond = by_value (get half n) refl
           arith,
           beyond,
           among.numbered,
-          at_most (map (λ (o : ImageObject). o.number) objects) among.object.number 0
+          at_most (object_numbers objects) among.object.number 0
               (contains_map (λ (o : ImageObject). o.number) objects among.object among.among),
         ))
 
 -- no number is in both halves
-pub halves_apart : (objects : List ImageObject) (first passing : Objects) → IsDistinct nat_eq (map (λ (o : ImageObject). o.number) objects)
+pub halves_apart : (objects : List ImageObject) (first passing : Objects) → IsDistinct nat_eq (object_numbers objects)
     → IsHalf false objects first → IsHalf true objects passing → AreApart first passing
 halves_apart objects first passing distinct persistent transient n some = by_values (get first n) refl (get passing n) refl some
   where
@@ -120,7 +121,7 @@ halves_apart objects first passing distinct persistent transient n some = by_val
         let half : false ≡ true = sym one.half ∙ ap (λ (o : ImageObject). o.transient) same ∙ two.half in
         absurd cc
 
-absent : (objects : List ImageObject) → IsDistinct nat_eq (map (λ (o : ImageObject). o.number) objects) → (n : ℕ) (t : Bool) (half : Objects)
+absent : (objects : List ImageObject) → IsDistinct nat_eq (object_numbers objects) → (n : ℕ) (t : Bool) (half : Objects)
     → IsHalf t objects half → object_of objects n ≡ None → get half n ≡ None
 absent objects distinct n t half is none = by_value (get half n) refl
   where
@@ -132,7 +133,7 @@ absent objects distinct n t half is none = by_value (get half n) refl
         ap (object_of objects) (sym among.numbered) ∙ object_found objects among.object distinct among.among in
         absurd cc
 
-not_first : (objects : List ImageObject) (first passing : Objects) → IsDistinct nat_eq (map (λ (o : ImageObject). o.number) objects)
+not_first : (objects : List ImageObject) (first passing : Objects) → IsDistinct nat_eq (object_numbers objects)
     → IsHalf false objects first → IsHalf true objects passing → (n : ℕ) (value : Value) (p : Option Value) → get first n ≡ p
     → get passing n ≡ Some value → get first n ≡ None
 not_first objects first passing distinct persistent transient n value None e there = e
@@ -140,7 +141,7 @@ not_first objects first passing distinct persistent transient n value (Some othe
     let gone = halves_apart objects first passing distinct persistent transient n (ap is_some e) in absurd cc
 
 -- what stands under a number in the two halves is the object of that number
-pub either_half : (objects : List ImageObject) (first passing : Objects) → IsDistinct nat_eq (map (λ (o : ImageObject). o.number) objects)
+pub either_half : (objects : List ImageObject) (first passing : Objects) → IsDistinct nat_eq (object_numbers objects)
     → IsHalf false objects first → IsHalf true objects passing → (n : ℕ)
     → either (get first n) (get passing n) ≡ option_map value_of (object_of objects n)
 either_half objects first passing distinct persistent transient n = by_object (object_of objects n) refl

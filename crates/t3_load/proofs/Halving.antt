@@ -15,6 +15,7 @@ use Rattle.t3_store.specs.Value.{Value, Objects, units_of, units_in, is_past}
 use Rattle.t3_store.specs.declared.limits.StoreRefusal.{StoreRefusal}
 use Rattle.t3_store.specs.declared.limits.StoreRefusal.TheVariants as store
 use Rattle.t3_store.proofs.Added.{added_here, added_there, added_len, added_units, none_units}
+use Rattle.t3_load.specs.ImageObjects.{object_numbers}
 use Rattle.t3_load.specs.declared.objects.ImageObject.{ImageObject}
 use Rattle.t3_load.specs.ImageObjects.{value_of, units_together, IsAmong, IsHalf}
 use Rattle.t3_load.specs.Inner.Halves.{IsMade, AreMade, AreHalves, refusal_by_store}
@@ -36,13 +37,13 @@ flips x y true false p q = sym (eq-eqb y x (sym (eqb-true x y p))) ∙ q
 flips x y false true p q = sym p ∙ eq-eqb x y (sym (eqb-true y x q))
 
 -- the number of the next of them isn't that of one before it
-pub new_number : (objects sorted : List ImageObject) (i : ℕ) (object : ImageObject) → IsDistinct nat_eq (map (λ (o : ImageObject). o.number) objects)
+pub new_number : (objects sorted : List ImageObject) (i : ℕ) (object : ImageObject) → IsDistinct nat_eq (object_numbers objects)
     → IsPermutation objects sorted → i < length sorted → object ≡ get_or sorted i object
-    → ¬ Contains (map (λ (o : ImageObject). o.number) (take i sorted)) object.number
+    → ¬ Contains (object_numbers (take i sorted)) object.number
 new_number objects sorted i object distinct moved less is there =
-    let numbers = map (λ (o : ImageObject). o.number) sorted in
+    let numbers = object_numbers sorted in
     let apart : IsDistinct nat_eq numbers =
-    IsDistinct-IsPermutation nat_eq (λ x y. flips x y (nat_eq x y) (nat_eq y x) refl refl) (map (λ (o : ImageObject). o.number) objects) numbers
+    IsDistinct-IsPermutation nat_eq (λ x y. flips x y (nat_eq x y) (nat_eq y x) refl refl) (object_numbers objects) numbers
     (IsPermutation-map (λ (o : ImageObject). o.number) objects sorted moved) distinct in
     let here : get_or numbers i object.number ≡ object.number =
     get_or-map (λ (o : ImageObject). o.number) sorted i object object.number less ∙ ap (λ (o : ImageObject). o.number) (sym is) in
@@ -52,14 +53,14 @@ new_number objects sorted i object distinct moved less is there =
 
 -- no object of the half has it
 pub fresh : (transient : Bool) (done : List ImageObject) (half : Objects) (n : ℕ) → IsHalf transient done half
-    → ¬ Contains (map (λ (o : ImageObject). o.number) done) n → get half n ≡ None
+    → ¬ Contains (object_numbers done) n → get half n ≡ None
 fresh transient done half n is none = by_value (get half n) refl
   where
     by_value : (o : Option Value) → get half n ≡ o → o ≡ None
     by_value None e = refl
     by_value (Some value) e =
         let among = is.only n value e in
-        absurd (none (subst (λ m. Contains (map (λ (o : ImageObject). o.number) done) m) among.numbered
+        absurd (none (subst (λ m. Contains (object_numbers done) m) among.numbered
         (contains_map (λ (o : ImageObject). o.number) done among.object among.among)))
 
 -- an object more in its half
@@ -194,7 +195,7 @@ no_halves first passing none gone = record {
 -- the next of the objects in the order of their numbers, behind those that are done
 pub record IsNext (objects done : List ImageObject) (object : ImageObject) : Type 0 where
   pub made : IsMade object
-  pub new : ¬ Contains (map (λ (o : ImageObject). o.number) done) object.number
+  pub new : ¬ Contains (object_numbers done) object.number
   pub count : length done + 1 ≤ length objects
   pub units : units_together done + units_of (value_of object) ≤ units_together objects
 
@@ -202,7 +203,7 @@ map_same : (os : List ImageObject) → map (λ (o : ImageObject). o) os ≡ os
 map_same [] = refl
 map_same (o ∷ os) = ap (λ rest. o ∷ rest) (map_same os)
 
-pub next_of : (objects sorted done : List ImageObject) (object : ImageObject) → IsDistinct nat_eq (map (λ (o : ImageObject). o.number) objects)
+pub next_of : (objects sorted done : List ImageObject) (object : ImageObject) → IsDistinct nat_eq (object_numbers objects)
     → AreMade objects → IsPermutation objects sorted → map (λ (o : ImageObject). o) done ≡ take (length done) sorted
     → (length done < length sorted) × (object ≡ get_or sorted (length done) object) → IsNext objects done object
 next_of objects sorted done object distinct made moved so_far turn =
@@ -212,7 +213,7 @@ next_of objects sorted done object distinct made moved so_far turn =
       made = All-contains IsMade sorted object (All-permutation IsMade objects sorted moved made)
           (subst (Contains sorted) (sym turn.1) (Contains-get_or sorted (length done) object turn.0));
       new = λ there. new_number objects sorted (length done) object distinct moved turn.0 turn.1
-          (subst (λ os. Contains (map (λ (o : ImageObject). o.number) os) object.number) front there);
+          (subst (λ os. Contains (object_numbers os) object.number) front there);
       count = omega (arith, turn.0, length_permutation objects sorted moved);
       units = omega (
         arith,

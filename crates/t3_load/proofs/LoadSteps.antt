@@ -1,5 +1,5 @@
 -- How the rules that are kept one after the other make a program of an image, or its refusal.
-use Rattle.std.proofs.Common.{◌≡◌, ℕ, zero, suc, ◌<◌, ◌^◌, ◌⊎◌, Bool, true, false, List, [], ◌∷◌, Option, Result, Ok, Err, map, nat_eq, sym, ap, ◌∙◌, subst, inl, inr, arith}
+use Rattle.std.proofs.Common.{◌≡◌, ℕ, zero, suc, ◌<◌, ◌^◌, ◌⊎◌, Bool, true, false, List, [], ◌∷◌, Option, Result, Ok, Err, nat_eq, sym, ap, ◌∙◌, subst, inl, inr, arith}
 use Rattle.std.specs.Prelude.{IsTrue, None, Contains}
 use Rattle.std.specs.Result.{IsErrAnd}
 use Rattle.std.specs.List.{IsDistinct}
@@ -9,6 +9,7 @@ use Rattle.t3_store.specs.Value.{Objects}
 use Rattle.t3_store.specs.Store.{AreLimits, AreBelow}
 use Rattle.t3_store.specs.Whole.{IsWhole, IsAcyclic, supers_among}
 use Rattle.t3_store.specs.declared.limits.StoreLimits.{StoreLimits}
+use Rattle.t3_load.specs.ImageObjects.{object_numbers}
 use Rattle.t3_load.specs.declared.objects.ImageObject.{ImageObject}
 use Rattle.t3_load.specs.declared.kinds.MetaKind.{MetaKind}
 use Rattle.t3_load.specs.declared.refusal.LoadRefusal.{LoadRefusal}
@@ -67,15 +68,15 @@ half_sound blocks objects transient half are is n value held =
 
 -- a store can be begun with the halves of such objects
 pub can_start : (blocks : List PlacedBlock) (objects : List ImageObject) (limits : StoreLimits) (first passing : Objects) (next : ℕ)
-    → AreLimits limits → AreObjectsIn blocks objects → AreMade objects → IsDistinct nat_eq (map (λ (o : ImageObject). o.number) objects)
+    → AreLimits limits → AreObjectsIn blocks objects → AreMade objects → IsDistinct nat_eq (object_numbers objects)
     → first_by (lacks_super objects) objects ≡ None → IsAcyclic (supers_by objects) → first_by (has_transient_super objects) objects ≡ None
-    → is_past limits objects ≡ false → AreHalves objects first passing → next ≡ next_above (map (λ (o : ImageObject). o.number) objects)
+    → is_past limits objects ≡ false → AreHalves objects first passing → next ≡ next_above (object_numbers objects)
     → CanStart limits first passing next
 can_start blocks objects limits first passing next limited are made distinct there acyclic persistent room halves next_is =
     let whole = all_whole objects there acyclic in
     let within = within_limits limits objects room in
     let both : supers_among first passing ≡ supers_by objects = λ i n. among_both objects first passing distinct halves.persistent halves.transient n i in
-    let below = bounded (map (λ (o : ImageObject). o.number) objects) 0 (2 ^ 31) (omega arith)
+    let below = bounded (object_numbers objects) 0 (2 ^ 31) (omega arith)
     (All-map (λ n. n < 2 ^ 31) (λ (o : ImageObject). o.number) objects (λ k d less. (made k d less).below)) in
     record {
       limits_are = limited;

@@ -2,17 +2,20 @@
 use Rattle.std.proofs.Common.{◌≡◌, ℕ, zero, suc, ◌+◌, ◌<◌, ◌≤◌, if◌then◌else◌, position, nat_lt, Bool, true, false, List, [], ◌∷◌, ◌++◌, Option, None, Some, not, length, map, take, drop, get_or, nat_eq, option_map, slice_get, refl, sym, ap, ◌∙◌, subst, arith}
 use Rattle.std.specs.Prelude.{option_and_then, is_some, IfSome}
 use Rattle.std.specs.Borrow.{Bor}
-use Rattle.std.specs.List.{IsDistinct, AllByRecursion, find, position_or_len}
+use Rattle.std.specs.List.{IsDistinct, AllByRecursion, position_or_len}
 use Rattle.t3_blocks.specs.declared.items.Meta.{Meta}
 use Rattle.t3_image_read.specs.declared.image.PlacedBlock.{PlacedBlock}
 use Rattle.t3_store.specs.declared.limits.StoreLimits.{StoreLimits}
+use Rattle.t3_load.specs.Rules.{first_bad}
+use Rattle.t3_load.specs.Statics.{static_numbers}
+use Rattle.t3_load.specs.ImageObjects.{object_numbers}
 use Rattle.t3_load.specs.declared.kinds.KindEntry.{KindEntry}
 use Rattle.t3_load.specs.declared.kinds.MetaKind.{MetaKind}
 use Rattle.t3_load.specs.declared.objects.ImageObject.{ImageObject}
 use Rattle.t3_load.specs.Names.{metas_in}
 use Rattle.t3_load.specs.Kinds.{kind_entry_of, kind_named, numbers_of}
 use Rattle.t3_load.specs.Statics.{StaticValue, statics_in, kind_at, IsObjectOf, AreObjectsOf}
-use Rattle.t3_load.specs.Rules.{Breaks, KeepsRules, IsFirst, IsFirstTwice, IsNoObject, AreObjectsIn, is_object_number}
+use Rattle.t3_load.specs.Rules.{Breaks, KeepsRules, IsFirst, IsFirstTwice, IsNoObject, AreObjectsIn}
 use Rattle.t3_load.specs.Inner.Objects.{entry_kind_at, HasNumbers}
 use Rattle.t3_load.specs.Inner.Deciding.{IsFirstBroken}
 use Rattle.t3_load.specs.declared.refusal.LoadRefusal.TheVariants.{ObjectTwice, ObjectData}
@@ -24,19 +27,19 @@ use Rattle.t3_load.proofs.Firsts.{none_first, not_twice, parts_at}
 
 -- rule 7 is kept
 pub numbers_kept : (blocks : List PlacedBlock)
-    → option_map (λ (s : StaticValue). s.number) (find (λ (s : StaticValue). not (is_object_number s.number)) (statics_in blocks)) ≡ None
+    → first_bad (statics_in blocks) ≡ None
     → (limits : StoreLimits) → KeepsRules blocks limits 7 8
 numbers_kept blocks none limits =
     kept_one blocks limits 7 (λ why of broken.
-    let found : option_map (λ (s : StaticValue). s.number) (find (λ (s : StaticValue). not (is_object_number s.number)) (statics_in blocks)) ≡ Some of.0 =
+    let found : first_bad (statics_in blocks) ≡ Some of.0 =
     subst (λ w. Breaks blocks limits w) of.1 broken in absurd cc)
 
 -- rule 8 is kept
-pub distinct_kept : (blocks : List PlacedBlock) → IsDistinct nat_eq (map (λ (s : StaticValue). s.number) (statics_in blocks))
+pub distinct_kept : (blocks : List PlacedBlock) → IsDistinct nat_eq (static_numbers (statics_in blocks))
     → (limits : StoreLimits) → KeepsRules blocks limits 8 9
 distinct_kept blocks distinct limits =
     kept_one blocks limits 8 (λ why of broken.
-    let twice : IsFirstTwice (map (λ (s : StaticValue). s.number) (statics_in blocks)) of.0 = subst (λ w. Breaks blocks limits w) of.1 broken in
+    let twice : IsFirstTwice (static_numbers (statics_in blocks)) of.0 = subst (λ w. Breaks blocks limits w) of.1 broken in
     not_twice twice.before twice.after of.0 (subst (IsDistinct nat_eq) twice.is distinct) twice.twice)
 
 all_are : (kind : ℕ → Option MetaKind) (statics : List StaticValue) (objects : List ImageObject) → AreObjectsOf kind statics objects
@@ -105,7 +108,7 @@ kind_of_entry (meta ∷ metas) (entry ∷ kinds) is (suc index) = kind_of_entry 
 
 -- objects have the numbers of those that stand there
 pub same_numbers : (kind : ℕ → Option MetaKind) (statics : List StaticValue) (objects : List ImageObject) → AreObjectsOf kind statics objects
-    → map (λ (s : StaticValue). s.number) statics ≡ map (λ (o : ImageObject). o.number) objects
+    → static_numbers statics ≡ object_numbers objects
 same_numbers kind [] [] are = refl
 same_numbers kind [] (o ∷ objects) are = absurd are
 same_numbers kind (s ∷ statics) [] are = absurd are
@@ -113,17 +116,17 @@ same_numbers kind (s ∷ statics) (o ∷ objects) are = λ i. sym are.0.number i
 
 -- the object of a number stands at the place of the number
 at_number : (objects : List ImageObject) (n : ℕ)
-    → slice_get objects (position_or_len (λ k. nat_eq n k) (map (λ (o : ImageObject). o.number) objects)) ≡ object_of objects n
+    → slice_get objects (position_or_len (λ k. nat_eq n k) (object_numbers objects)) ≡ object_of objects n
 at_number [] n = refl
 at_number (o ∷ objects) n = by_test (nat_eq n o.number) (at_number objects n)
   where
     by_test : (b : Bool)
-        → slice_get objects (position_or_len (λ k. nat_eq n k) (map (λ (o : ImageObject). o.number) objects)) ≡ object_of objects n
-        → slice_get (o ∷ objects) (if not b then 1 + position_or_len (λ k. nat_eq n k) (map (λ (o : ImageObject). o.number) objects) else 0)
+        → slice_get objects (position_or_len (λ k. nat_eq n k) (object_numbers objects)) ≡ object_of objects n
+        → slice_get (o ∷ objects) (if not b then 1 + position_or_len (λ k. nat_eq n k) (object_numbers objects) else 0)
         ≡ (if b then Some o else object_of objects n)
     by_test true rest = refl
     by_test false rest =
-        let place = position_or_len (λ k. nat_eq n k) (map (λ (o : ImageObject). o.number) objects) in
+        let place = position_or_len (λ k. nat_eq n k) (object_numbers objects) in
         let next : 1 + place ≡ suc place = omega arith in
         ap (slice_get (o ∷ objects)) next ∙ rest
 
@@ -137,10 +140,10 @@ place_or_none : (objects : List ImageObject) (place : ℕ) (b : Bool) → nat_lt
 place_or_none objects place true is = refl
 place_or_none objects place false is = sym (no_further objects place (omega (arith, ltb-false place (length objects) is)))
 
-pub by_position : (objects : List ImageObject) (n : ℕ) (keys : List ℕ) → keys ≡ map (λ (o : ImageObject). o.number) objects
+pub by_position : (objects : List ImageObject) (n : ℕ) (keys : List ℕ) → keys ≡ object_numbers objects
     → option_and_then (λ i. slice_get objects i) (position (λ k. nat_eq n k) keys) ≡ object_of objects n
 by_position objects n keys are =
-    let numbers = map (λ (o : ImageObject). o.number) objects in
+    let numbers = object_numbers objects in
     let place = position_or_len (λ k. nat_eq n k) numbers in
     ap (λ ks. option_and_then (λ i. slice_get objects i) (position (λ k. nat_eq n k) ks)) are
     ∙ place_or_none objects place (nat_lt place (length numbers)) (ap (λ len. nat_lt place len) (sym (length-map objects (λ (o : ImageObject). o.number))))
@@ -161,7 +164,7 @@ found_at (Some object) objects i there is = sym (at_place objects i object.now (
 
 -- the numbers of those that stand there
 numbers_of_rows : {Placed : Type 0} (of : Placed → StaticValue) (number : Placed → ℕ) (rows : List Placed) (statics : List StaticValue)
-    → ((row : Placed) → (of row).number ≡ number row) → map of rows ≡ statics → map number rows ≡ map (λ (s : StaticValue). s.number) statics
+    → ((row : Placed) → (of row).number ≡ number row) → map of rows ≡ statics → map number rows ≡ static_numbers statics
 numbers_of_rows of number [] statics same are = ap (map (λ (s : StaticValue). s.number)) are
 numbers_of_rows of number (row ∷ rows) [] same are = absurd cc
 numbers_of_rows of number (row ∷ rows) (s ∷ statics) same are =
@@ -172,30 +175,30 @@ numbers_of_rows of number (row ∷ rows) (s ∷ statics) same are =
 -- rule 8 is broken, and rule 7 kept
 pub twice_decides : {Placed : Type 0} (of : Placed → StaticValue) (number : Placed → ℕ) (rows : List Placed) (blocks : List PlacedBlock) (n : ℕ)
     → ((row : Placed) → (of row).number ≡ number row) → map of rows ≡ statics_in blocks
-    → option_map (λ (s : StaticValue). s.number) (find (λ (s : StaticValue). not (is_object_number s.number)) (map of rows)) ≡ None
+    → first_bad (map of rows) ≡ None
     → IsFirstTwice (map number rows) n → IsFirstBroken blocks 7 10 (ObjectTwice n)
 twice_decides of number rows blocks n same are none twice = record {
   from_on = omega arith;
   before = omega arith;
   broken = λ limits. subst (λ ns. IsFirstTwice ns n) (numbers_of_rows of number rows (statics_in blocks) same are) twice;
-  kept = numbers_kept blocks (ap (λ ss. option_map (λ (s : StaticValue). s.number) (find (λ (s : StaticValue). not (is_object_number s.number)) ss)) (sym are) ∙ none);
+  kept = numbers_kept blocks (ap (λ ss. first_bad ss) (sym are) ∙ none);
 }
 
 -- rules 7 and 8 are kept
 both_kept : {Placed : Type 0} (of : Placed → StaticValue) (number : Placed → ℕ) (rows : List Placed) (blocks : List PlacedBlock)
     → ((row : Placed) → (of row).number ≡ number row) → map of rows ≡ statics_in blocks
-    → option_map (λ (s : StaticValue). s.number) (find (λ (s : StaticValue). not (is_object_number s.number)) (map of rows)) ≡ None
+    → first_bad (map of rows) ≡ None
     → IsDistinct nat_eq (map number rows) → (limits : StoreLimits) → KeepsRules blocks limits 7 9
 both_kept of number rows blocks same are none distinct limits =
     kept_both blocks limits 7 8 9
-    (numbers_kept blocks (ap (λ ss. option_map (λ (s : StaticValue). s.number) (find (λ (s : StaticValue). not (is_object_number s.number)) ss)) (sym are) ∙ none) limits)
+    (numbers_kept blocks (ap (λ ss. first_bad ss) (sym are) ∙ none) limits)
     (distinct_kept blocks (subst (IsDistinct nat_eq) (numbers_of_rows of number rows (statics_in blocks) same are) distinct) limits)
 
 -- rule 9 is broken, and rules 7 and 8 are kept
 pub data_decides : {Placed : Type 0} (of : Placed → StaticValue) (number : Placed → ℕ) (rows : List Placed) (blocks : List PlacedBlock)
     (kinds : List KindEntry) (n : ℕ)
     → ((row : Placed) → (of row).number ≡ number row) → map of rows ≡ statics_in blocks
-    → option_map (λ (s : StaticValue). s.number) (find (λ (s : StaticValue). not (is_object_number s.number)) (map of rows)) ≡ None
+    → first_bad (map of rows) ≡ None
     → IsDistinct nat_eq (map number rows) → map kind_entry_of (metas_in blocks) ≡ map Some kinds
     → (static : StaticValue) × (static.number ≡ n)
     × IsFirst (λ s. (object : ImageObject) → ¬ IsObjectOf (entry_kind_at kinds) s object) (map of rows) static
@@ -226,7 +229,7 @@ are_in of rows blocks kinds objects are table made =
 pub objects_decide : {Placed : Type 0} (of : Placed → StaticValue) (number : Placed → ℕ) (rows : List Placed) (blocks : List PlacedBlock)
     (objects : List ImageObject)
     → ((row : Placed) → (of row).number ≡ number row) → map of rows ≡ statics_in blocks
-    → option_map (λ (s : StaticValue). s.number) (find (λ (s : StaticValue). not (is_object_number s.number)) (map of rows)) ≡ None
+    → first_bad (map of rows) ≡ None
     → IsDistinct nat_eq (map number rows) → AreObjectsIn blocks objects → (limits : StoreLimits) → KeepsRules blocks limits 7 10
 objects_decide of number rows blocks objects same are none distinct made limits =
     kept_both blocks limits 7 9 10 (both_kept of number rows blocks same are none distinct limits) (objects_kept blocks objects made limits)

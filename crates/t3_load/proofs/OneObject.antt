@@ -6,6 +6,7 @@ use Rattle.std.specs.List.{find}
 use Rattle.std.proofs.lemmas.Bool.{ltb-true}
 use Rattle.std.proofs.lemmas.List.Elements.{All-nil, All-cons}
 use Rattle.t3_store.specs.Value.{HasFittingLength, new_value}
+use Rattle.t3_load.specs.Rules.{first_bad}
 use Rattle.t3_load.specs.Rules.{is_object_number}
 use Rattle.t3_load.specs.Inner.Halves.{IsMade, AreMade}
 use Rattle.t3_blocks.proofs.Lists.{number_split, split_same}
@@ -175,14 +176,14 @@ number_within n e = by_test (nat_lt 0 n) refl (nat_lt n (2 ^ 31)) refl e
 
 -- the objects of an image of which none has a bad number
 pub are_made : (kind : ℕ → Option MetaKind) (statics : List StaticValue) (objects : List ImageObject) → AreObjectsOf kind statics objects
-    → option_map (λ (s : StaticValue). s.number) (find (λ (s : StaticValue). not (is_object_number s.number)) statics) ≡ None → AreMade objects
+    → first_bad statics ≡ None → AreMade objects
 are_made kind [] [] are none = All-nil IsMade
 are_made kind [] (o ∷ objects) are none = absurd are
 are_made kind (s ∷ statics) [] are none = absurd are
 are_made kind (s ∷ statics) (o ∷ objects) are none =
     by_test (λ none. are_made kind statics objects are.1 none) (not (is_object_number s.number)) refl none
   where
-    by_test : (option_map (λ (x : StaticValue). x.number) (find (λ (x : StaticValue). not (is_object_number x.number)) statics) ≡ None → AreMade objects)
+    by_test : (first_bad statics ≡ None → AreMade objects)
         → (b : Bool) → not (is_object_number s.number) ≡ b
         → option_map (λ (x : StaticValue). x.number) (cond b (Some s) (find (λ (x : StaticValue). not (is_object_number x.number)) statics)) ≡ None
         → AreMade (o ∷ objects)

@@ -1,5 +1,5 @@
 -- What a store asks for that is begun with the objects of an image.
-use Rattle.std.proofs.Common.{◌≡◌, ℕ, zero, suc, ◌≤◌, Bool, true, false, ◌||◌, ◌&&◌, not, List, [], ◌∷◌, Option, None, Some, length, map, nat_eq, nat_lt, refl, sym, ap, ◌∙◌, subst, cond, arith}
+use Rattle.std.proofs.Common.{◌≡◌, ℕ, zero, suc, ◌≤◌, Bool, true, false, ◌||◌, ◌&&◌, not, List, [], ◌∷◌, Option, None, Some, length, nat_eq, nat_lt, refl, sym, ap, ◌∙◌, subst, cond, arith}
 use Rattle.std.specs.Prelude.{Contains, IsSome, option_and_then, option_map, is_none, is_some}
 use Rattle.std.specs.List.{AllByRecursion, IsDistinct, list_any, find}
 use Rattle.std.specs.FinMap.{get}
@@ -8,6 +8,7 @@ use Rattle.t3_tadsobj.specs.Order.{IsWalk}
 use Rattle.t3_store.specs.Value.{Value, Objects, supers_of}
 use Rattle.t3_store.specs.Whole.{IsWhole, IsAcyclic, AreThere, supers_in, supers_among}
 use Rattle.t3_store.specs.declared.limits.StoreLimits.{StoreLimits}
+use Rattle.t3_load.specs.ImageObjects.{object_numbers}
 use Rattle.t3_load.specs.declared.objects.ImageObject.{ImageObject}
 use Rattle.t3_load.specs.ImageObjects.{value_of, object_of, supers_by, superclasses, or_none, flag_or_false, lacks_super, is_transient_at, has_transient_super, is_past, IsHalf, units_together}
 use Rattle.t3_load.specs.Rules.{first_by}
@@ -75,7 +76,7 @@ all_whole objects none acyclic = record {
 -- ---- those of the two halves
 
 -- the superclasses among the halves are those of all objects
-pub among_both : (objects : List ImageObject) (first passing : Objects) → IsDistinct nat_eq (map (λ (o : ImageObject). o.number) objects)
+pub among_both : (objects : List ImageObject) (first passing : Objects) → IsDistinct nat_eq (object_numbers objects)
     → IsHalf false objects first → IsHalf true objects passing → (n : ℕ) → supers_among first passing n ≡ supers_by objects n
 among_both objects first passing distinct persistent transient n =
     ap (option_and_then supers_of) (either_half objects first passing distinct persistent transient n) ∙ through (object_of objects n)
@@ -85,7 +86,7 @@ among_both objects first passing distinct persistent transient n =
     through (Some object) = refl
 
 -- a superclass of a persistent object is persistent
-persistent_supers : (objects : List ImageObject) (first : Objects) (object : ImageObject) → IsDistinct nat_eq (map (λ (o : ImageObject). o.number) objects)
+persistent_supers : (objects : List ImageObject) (first : Objects) (object : ImageObject) → IsDistinct nat_eq (object_numbers objects)
     → IsHalf false objects first → first_by (has_transient_super objects) objects ≡ None → Contains objects object → object.transient ≡ false
     → AreThere (supers_by objects) (superclasses object) → AreThere (supers_in first) (superclasses object)
 persistent_supers objects first object distinct persistent none among own there =
@@ -114,7 +115,7 @@ persistent_supers objects first object distinct persistent none among own there 
         (in_first n (object_of objects n) refl there.0 flags.0, both numbers there.1 flags.1)
 
 -- a superclass list among the persistent ones is that among all
-from_first : (objects : List ImageObject) (first : Objects) → IsDistinct nat_eq (map (λ (o : ImageObject). o.number) objects)
+from_first : (objects : List ImageObject) (first : Objects) → IsDistinct nat_eq (object_numbers objects)
     → IsHalf false objects first → (n : ℕ) (supers : List ℕ) → supers_in first n ≡ Some supers
     → (object : ImageObject) × Contains objects object × (object.number ≡ n) × (object.transient ≡ false) × (supers_by objects n ≡ Some supers)
 from_first objects first distinct persistent n supers e = by_value (get first n) refl e
@@ -133,7 +134,7 @@ from_first objects first distinct persistent n supers e = by_value (get first n)
           ap (option_and_then (λ (x : ImageObject). supers_of (value_of x))) found ∙ ap supers_of among.is ∙ e,
         )
 
-walk_up : (objects : List ImageObject) (first : Objects) → IsDistinct nat_eq (map (λ (o : ImageObject). o.number) objects)
+walk_up : (objects : List ImageObject) (first : Objects) → IsDistinct nat_eq (object_numbers objects)
     → IsHalf false objects first → (n above : ℕ) (path : List ℕ) → IsWalk (supers_in first) n path above → IsWalk (supers_by objects) n path above
 walk_up objects first distinct persistent n above [] step =
     record { supers = step.supers; are = (from_first objects first distinct persistent n step.supers step.are).4; among = step.among }
@@ -142,7 +143,7 @@ walk_up objects first distinct persistent n above (next ∷ path) walk = (
   walk_up objects first distinct persistent next above path walk.1,
 )
 
-pub persistent_whole : (objects : List ImageObject) (first : Objects) → IsDistinct nat_eq (map (λ (o : ImageObject). o.number) objects)
+pub persistent_whole : (objects : List ImageObject) (first : Objects) → IsDistinct nat_eq (object_numbers objects)
     → IsHalf false objects first → first_by (has_transient_super objects) objects ≡ None → IsWhole (supers_by objects) → IsWhole (supers_in first)
 persistent_whole objects first distinct persistent none whole = record {
   there = λ n supers e.

@@ -1,5 +1,5 @@
 -- Objects of an image among each other: their superclasses, and how much they are together.
-use Rattle.std.specs.Prelude.{◌||◌, nat_lt, length, ◌≡◌, ℕ, ◌&&◌, Bool, false, not, List, [], Option, None, Some, is_none, nat_eq, option_and_then, sum_by, Contains}
+use Rattle.std.specs.Prelude.{map, ◌||◌, nat_lt, length, ◌≡◌, ℕ, ◌&&◌, Bool, false, not, List, [], Option, None, Some, is_none, nat_eq, option_and_then, sum_by, Contains}
 use Rattle.std.specs.List.{find, list_any}
 use Rattle.std.specs.FinMap.{get}
 use Rattle.t3_tadsobj.specs.Order.{SupersAt, IsAncestor}
@@ -9,6 +9,10 @@ use Rattle.t3_load.specs.declared.objects.ImageObject.{ImageObject}
 
 abbrev pub value_of : ImageObject → Value
 value_of object = new_value object.object
+
+-- their numbers
+abbrev pub object_numbers : List ImageObject → List ℕ
+object_numbers objects = map (λ object. object.number) objects
 
 -- the object of a number
 abbrev pub object_of : List ImageObject → ℕ → Option ImageObject

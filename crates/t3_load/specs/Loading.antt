@@ -7,6 +7,7 @@ use Rattle.t3_store.specs.Value.{Value, Objects, units_in, new_value}
 use Rattle.t3_store.specs.Store.{AreLimits, AreBelow}
 use Rattle.t3_store.specs.Whole.{IsWhole, AreApart, supers_in, supers_among}
 use Rattle.t3_store.specs.declared.new_object.NewObject.{NewObject}
+use Rattle.t3_load.specs.Statics.{static_numbers}
 use Rattle.t3_load.specs.declared.kinds.MetaKind.{MetaKind}
 use Rattle.t3_load.specs.Layout.{BeginsObject}
 use Rattle.std.specs.FinMap.{get, len}
@@ -79,7 +80,7 @@ pub record LoadsAs (blocks : List PlacedBlock) (fingerprint : List ℕ) (limits 
   pub are : AreObjectsIn blocks objects
   pub first : IsHalf false objects program.first
   pub passing : IsHalf true objects program.passing
-  pub next : program.next ≡ next_above (map (λ static. static.number) (statics_in blocks))
+  pub next : program.next ≡ next_above (static_numbers (statics_in blocks))
   pub fingerprint_is : program.fingerprint ≡ fingerprint
   pub limits_are : program.limits ≡ limits
 

@@ -1,10 +1,11 @@
 -- The rules that an image keeps of which a program can be made, in their order.
-use Rattle.std.specs.Prelude.{◌≡◌, ◌≢◌, ℕ, ◌<◌, ◌≤◌, ◌^◌, ◌&&◌, Bool, not, nat_lt, IsTrue, List, [], ◌∷◌, ◌++◌, Option, Some, map, length, option_map, nat_eq, Contains}
+use Rattle.std.specs.Prelude.{◌≡◌, ◌≢◌, ℕ, ◌<◌, ◌≤◌, ◌^◌, ◌&&◌, Bool, not, nat_lt, IsTrue, List, [], ◌∷◌, ◌++◌, Option, Some, length, option_map, nat_eq, Contains}
 use Rattle.std.specs.List.{find, list_any, AllByRecursion, IsDistinct}
 use Rattle.t3_image_read.specs.declared.image.PlacedBlock.{PlacedBlock}
 use Rattle.t3_pools.specs.Building.{Refuses as PoolsRefuse}
 use Rattle.t3_pools.specs.declared.refusal.PoolRefusal.TheVariants as pools
 use Rattle.t3_store.specs.declared.limits.StoreLimits.{StoreLimits}
+use Rattle.t3_load.specs.Statics.{static_numbers}
 use Rattle.t3_load.specs.declared.refusal.LoadRefusal.{LoadRefusal}
 use Rattle.t3_load.specs.declared.refusal.LoadRefusal.TheVariants.{NoEntry, TwoEntries, HeaderSizes, Pool, Metaclass, FunctionSet, ObjectNumber, ObjectTwice, ObjectData, SuperMissing, SuperCycle, TransientSuper, Full, NoMemory}
 use Rattle.t3_load.specs.declared.objects.ImageObject.{ImageObject}
@@ -35,6 +36,10 @@ pub record IsFirstTwice (numbers : List ℕ) (number : ℕ) : Type 0 where
 abbrev pub is_object_number : ℕ → Bool
 is_object_number number = nat_lt 0 number && nat_lt number (2 ^ 31)
 
+-- the first number that is none of an object
+abbrev pub first_bad : List StaticValue → Option ℕ
+first_bad statics = option_map (λ static. static.number) (find (λ static. not (is_object_number static.number)) statics)
+
 -- the objects of an image, of which each is one as its bytes say
 abbrev pub AreObjectsIn : List PlacedBlock → List ImageObject → Type 0
 AreObjectsIn blocks objects = AreObjectsOf (kind_at (metas_in blocks)) (statics_in blocks) objects
@@ -61,9 +66,8 @@ Breaks blocks limits HeaderSizes = IsTrue (list_any (λ entry. not (has_sizes en
 Breaks blocks limits (Pool why) = (why ≢ pools.NoMemory) × PoolsRefuse why blocks
 Breaks blocks limits (Metaclass index) = unknown_from kind_entry_of 0 (metas_in blocks) ≡ Some index
 Breaks blocks limits (FunctionSet index) = unknown_from set_named 0 (names_in blocks) ≡ Some index
-Breaks blocks limits (ObjectNumber number) =
-    option_map (λ static. static.number) (find (λ static. not (is_object_number static.number)) (statics_in blocks)) ≡ Some number
-Breaks blocks limits (ObjectTwice number) = IsFirstTwice (map (λ static. static.number) (statics_in blocks)) number
+Breaks blocks limits (ObjectNumber number) = first_bad (statics_in blocks) ≡ Some number
+Breaks blocks limits (ObjectTwice number) = IsFirstTwice (static_numbers (statics_in blocks)) number
 Breaks blocks limits (ObjectData number) =
     (static : StaticValue) × (static.number ≡ number) × IsFirst (IsNoObject blocks) (statics_in blocks) static
 Breaks blocks limits (SuperMissing number) = OfObjects blocks (λ objects. first_by (lacks_super objects) objects ≡ Some number)

@@ -35,6 +35,10 @@ statics_of _ = []
 abbrev pub statics_in : List PlacedBlock → List StaticValue
 statics_in blocks = flat_map (λ placed. statics_of placed.block) blocks
 
+-- their numbers
+abbrev pub static_numbers : List StaticValue → List ℕ
+static_numbers statics = map (λ static. static.number) statics
+
 -- the metaclass of an index in an image's table
 abbrev pub kind_at : List Meta → ℕ → Option MetaKind
 kind_at metas index = option_and_then (λ meta. kind_named meta.name) (slice_get metas index)

@@ -1,6 +1,6 @@
 //! The objects of a program, in two halves.
 ghost use Rattle.std.specs.Prelude.{◌≡◌, ◌≤◌, IfOk, IfErr, length, map};
-ghost use Rattle.t3_load.specs.ImageObjects.{units_together, is_past};
+ghost use Rattle.t3_load.specs.ImageObjects.{object_numbers, units_together, is_past};
 ghost use Rattle.t3_load.specs.Loading.{next_above};
 ghost use Rattle.t3_load.specs.declared.refusal.LoadRefusal.TheVariants as refusals;
 ghost use Rattle.t3_load.specs.Inner.Halves.{AreMade, AreHalves};
@@ -38,7 +38,7 @@ pub(crate) fn is_past(objects: &[ImageObject], limits: StoreLimits) -> bool
 /// One past the greatest number, at least 1.
 pub(crate) fn next_number(objects: &[ImageObject]) -> u32
     requires { AreMade objects.now }
-    ensures { result ≡ next_above (map (λ object. object.number) objects.now) }
+    ensures { result ≡ next_above (object_numbers objects.now) }
 {
     let mut greatest = 0;
     for object in objects {

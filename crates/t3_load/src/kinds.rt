@@ -93,7 +93,7 @@ impl Model for Kinds {
 impl Kinds {
     /// The metaclasses of all `MCLD` blocks, in order. `Unknown` exactly where a name, without its version, is that of
     /// none, with the index of the first such name.
-    pub fn of(alloc: Global, image: &Image) -> Result<Kinds, NameRefusal>
+    pub(crate) fn of(alloc: Global, image: &Image) -> Result<Kinds, NameRefusal>
         ensures { IsTable (λ kinds. kinds) kind_entry_of (metas_in image.now.blocks) result }
     {
         Ok(Kinds(entries(alloc, &MetaListing, &image.blocks.0)?))

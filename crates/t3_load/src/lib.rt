@@ -1,13 +1,13 @@
-//! What a program is made of: the tables that an image's blocks name, and its static objects.
+//! Makes a program of an image: its pools, its tables of metaclasses, function sets and symbols, and its objects.
 //!
-//! An image may have several blocks of metaclasses, of function sets and of symbols. Those of a kind are taken as
-//! one list, in the order of the image:
+//! An image that breaks a rule is refused by the first that it breaks, in the order of [`LoadRefusal`]. Several
+//! blocks of metaclasses, of function sets or of symbols are taken as one list, in the order of the image:
 //!
 //! ```text
-//! let kinds = Kinds::of(alloc, &image)?;      // "tads-object/030005" is `MetaKind::Tads`
-//! let sets = Sets::of(alloc, &image)?;        // Err(NameRefusal::Unknown(1)): the second name means no set
-//! let symbols = SymbolTable::of(alloc, &image)?;
-//! symbols.raw(b"mainWindow");                 // the first symbol of that name
+//! let program = load(alloc, &image, fingerprint, limits)?;    // Err(LoadRefusal::Metaclass(1)): the second
+//!                                                             // metaclass of the image isn't known
+//! program.symbols.raw(b"mainWindow");                         // the first symbol of that name
+//! Store::start(alloc, limits, program.first, program.passing, program.next)?
 //! ```
 #![tactic(auto)]
 
@@ -15,6 +15,8 @@ mod entry;
 mod halves;
 mod kinds;
 mod listing;
+#[cfg(test)]
+mod load_tests;
 mod names;
 mod objects;
 mod program;
@@ -26,11 +28,12 @@ mod statics;
 mod supers;
 mod symbols;
 #[cfg(test)]
+mod test_images;
+#[cfg(test)]
 mod tests;
 
 pub use kinds::{KindEntry, Kinds, MetaKind, PropNumbers};
 pub use program::{Program, load};
-pub use refusal::{LoadRefusal, NameRefusal};
+pub use refusal::LoadRefusal;
 pub use sets::{SetKind, Sets};
-pub use statics::static_object;
 pub use symbols::SymbolTable;

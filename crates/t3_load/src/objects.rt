@@ -3,8 +3,8 @@ ghost use Rattle.std.specs.Prelude.{◌≡◌, IfOk, map, nat_eq, not, option_ma
 ghost use Rattle.std.specs.List.{find, IsDistinct};
 ghost use Rattle.t3_load.specs.Names.{metas_in};
 ghost use Rattle.t3_load.specs.Kinds.{kind_entry_of};
-ghost use Rattle.t3_load.specs.ImageObjects.{object_of};
-ghost use Rattle.t3_load.specs.Rules.{AreObjectsIn, is_object_number};
+ghost use Rattle.t3_load.specs.ImageObjects.{object_numbers, object_of};
+ghost use Rattle.t3_load.specs.Rules.{AreObjectsIn, first_bad, is_object_number};
 ghost use Rattle.t3_load.specs.Statics.{statics_in};
 ghost use Rattle.t3_load.specs.Inner.Deciding.{Decides};
 ghost use Rattle.t3_load.specs.Inner.Halves.{AreMade};
@@ -65,7 +65,7 @@ impl ImageObjects {
     /// The objects in order.
     pub(crate) fn as_slice(&self) -> &[ImageObject]
         ensures objects { result.now ≡ self.now }
-        ensures distinct { IsDistinct nat_eq (map (λ object. object.number) self.now) }
+        ensures distinct { IsDistinct nat_eq (object_numbers self.now) }
     {
         &self.objects
     }
@@ -73,7 +73,7 @@ impl ImageObjects {
     /// The objects themselves, in order.
     pub(crate) fn into_vec(self) -> Vec<ImageObject>
         ensures objects { result.items ≡ self }
-        ensures distinct { IsDistinct nat_eq (map (λ object. object.number) self) }
+        ensures distinct { IsDistinct nat_eq (object_numbers self) }
     {
         let ImageObjects {
             numbers: _,
@@ -84,13 +84,12 @@ impl ImageObjects {
 }
 
 impl Supers for ImageObjects {
-    ghost use Rattle.std.specs.Prelude.{map};
-    ghost use Rattle.t3_load.specs.ImageObjects.{supers_by};
+    ghost use Rattle.t3_load.specs.ImageObjects.{object_numbers, supers_by};
     ghost use Rattle.t3_load.specs.Inner.Numbers.{has_number};
 
     ghost supers_at = { supers_by };
 
-    ghost numbers = { λ objects. map (λ object. object.number) objects };
+    ghost numbers = { object_numbers };
 
     fn supers(&self, number: u32) -> Option<&[u32]> {
         match &self.object(number)?.object {
@@ -148,8 +147,7 @@ enum Tried<T> {
 
 /// The first number that is none of an object.
 fn bad_number(statics: &[StaticObject<'_>]) -> Option<u32>
-    ensures { result ≡ option_map (λ static. static.number)
-        (find (λ static. not (is_object_number static.number)) (map static_of statics.now)) }
+    ensures { result ≡ first_bad (map static_of statics.now) }
 {
     for placed in statics {
         if !is_object_number(placed.number) {

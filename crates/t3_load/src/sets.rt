@@ -55,7 +55,7 @@ impl Model for Sets {
 impl Sets {
     /// The function sets of all `FNSD` blocks, in order. `Unknown` exactly where a name, without its version, is that of
     /// none, with the index of the first such name.
-    pub fn of(alloc: Global, image: &Image) -> Result<Sets, NameRefusal>
+    pub(crate) fn of(alloc: Global, image: &Image) -> Result<Sets, NameRefusal>
         ensures { IsTable (λ sets. sets) set_named (names_in image.now.blocks) result }
     {
         Ok(Sets(entries(alloc, &SetListing, &image.blocks.0)?))

@@ -24,7 +24,7 @@ type Seen = IndexSet<u16, BuildHasherDefault<DefaultHasher>>;
 /// The object of a metaclass with which bytes begin; what comes behind it isn't looked at. `None` exactly where they
 /// begin with none: the layout isn't there whole, a holder of it means nothing, a property's number is 0 or stands
 /// twice, a string isn't UTF-8, or objects of the metaclass don't stand in images.
-pub fn static_object(
+pub(crate) fn static_object(
     alloc: Global,
     kind: MetaKind,
     bytes: &[u8],

@@ -32,7 +32,7 @@ impl Model for SymbolTable {
 
 impl SymbolTable {
     /// The symbols of all `SYMD` blocks. Of those with one name the first counts.
-    pub fn of(alloc: Global, image: &Image) -> Result<SymbolTable, NoMemory>
+    pub(crate) fn of(alloc: Global, image: &Image) -> Result<SymbolTable, NoMemory>
         ensures { IfOk result (λ table. (name : List ℕ)
             → raw_of table name ≡ raw_of (symbols_in image.now.blocks) name) }
     {

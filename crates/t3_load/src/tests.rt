@@ -1,5 +1,7 @@
 //! Names, symbols and static objects, on small worked cases.
 use super::*;
+use crate::refusal::NameRefusal;
+use crate::statics::static_object;
 use std::alloc::{AllocError, Global};
 use std::test::Fail;
 use t3_holder::{Holder, Raw};
@@ -8,7 +10,7 @@ use t3_store::NewObject;
 use t3_tadsobj::PropValue;
 
 /// An image of these blocks.
-fn image(alloc: Global, blocks: &[Vec<u8>]) -> Result<Image, Fail> {
+pub(crate) fn image(alloc: Global, blocks: &[Vec<u8>]) -> Result<Image, Fail> {
     let mut bytes = Vec::new(alloc);
     bytes.extend_from_slice(b"T3-image\r\n\x1a\x01\x00")?;
     bytes.extend_from_slice(&[0; 56])?;
@@ -22,7 +24,7 @@ fn image(alloc: Global, blocks: &[Vec<u8>]) -> Result<Image, Fail> {
 }
 
 /// A number as two bytes.
-fn two(number: usize) -> [u8; 2] {
+pub(crate) fn two(number: usize) -> [u8; 2] {
     u16::try_from(number).unwrap_or(0).to_le_bytes()
 }
 
@@ -38,7 +40,7 @@ fn block(alloc: Global, name: &[u8], count: usize, items: &[u8]) -> Result<Vec<u
 }
 
 /// The metaclasses of these names, each with the two properties 3 and 1.
-fn metas(alloc: Global, names: &[&[u8]]) -> Result<Vec<u8>, AllocError> {
+pub(crate) fn metas(alloc: Global, names: &[&[u8]]) -> Result<Vec<u8>, AllocError> {
     let mut items = Vec::new(alloc);
     for name in names {
         let mut entry = named(alloc, name)?;
@@ -50,7 +52,7 @@ fn metas(alloc: Global, names: &[&[u8]]) -> Result<Vec<u8>, AllocError> {
 }
 
 /// The function sets of these names.
-fn sets(alloc: Global, names: &[&[u8]]) -> Result<Vec<u8>, AllocError> {
+pub(crate) fn sets(alloc: Global, names: &[&[u8]]) -> Result<Vec<u8>, AllocError> {
     let mut items = Vec::new(alloc);
     for name in names {
         items.extend_from_slice(&named(alloc, name)?)?;

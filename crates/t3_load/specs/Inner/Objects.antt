@@ -1,7 +1,8 @@
 -- The code's rows of objects as the lists that definitions speak of, and what the functions answer that make them.
-use Rattle.std.specs.Prelude.{◌≡◌, ℕ, List, Option, None, Some, map, nat_eq, option_map, slice_get}
+use Rattle.std.specs.Prelude.{◌≡◌, ℕ, List, Option, None, Some, nat_eq, option_map, slice_get}
 use Rattle.std.specs.List.{IsDistinct}
 use Rattle.std.specs.Global.{Vec}
+use Rattle.t3_load.specs.ImageObjects.{object_numbers}
 use Rattle.t3_load.specs.declared.standing.StaticObject.{StaticObject}
 use Rattle.t3_load.specs.declared.objects.ImageObject.{ImageObject}
 use Rattle.t3_load.specs.declared.objects.Tried.{Tried}
@@ -21,7 +22,7 @@ static_of static = record {
 
 -- these are the numbers of the objects, no two the same
 pub record HasNumbers (numbers : List ℕ) (objects : List ImageObject) : Type 0 where
-  pub are : numbers ≡ map (λ object. object.number) objects
+  pub are : numbers ≡ object_numbers objects
   pub distinct : IsDistinct nat_eq numbers
 
 -- the metaclass of an index in a table

@@ -1,9 +1,9 @@
-use Rattle.std.proofs.Common.{◌≡◌, ℕ, List, Option, None, map, not, nat_eq, option_map, refl, sym, ap, ◌∙◌, subst, inr}
-use Rattle.std.specs.List.{find, IsDistinct}
+use Rattle.std.proofs.Common.{◌≡◌, ℕ, List, Option, None, map, nat_eq, refl, sym, ap, ◌∙◌, subst, inr}
+use Rattle.std.specs.List.{IsDistinct}
+use Rattle.t3_load.specs.Rules.{first_bad}
 use Rattle.t3_load.specs.declared.standing.StaticObject.{StaticObject}
-use Rattle.t3_load.specs.Statics.{StaticValue}
 use Rattle.t3_load.specs.declared.objects.Tried.TheVariants as tried
-use Rattle.t3_load.specs.Rules.{is_object_number, IsFirstTwice}
+use Rattle.t3_load.specs.Rules.{IsFirstTwice}
 use Rattle.t3_load.specs.Inner.Objects.{static_of, entry_kind_at, TakesNumbers, TakesObjects}
 use Rattle.t3_load.proofs.ObjectRules.{twice_decides, data_decides, are_in, objects_decide, have_numbers}
 use Rattle.t3_load.proofs.OneObject.{are_made}
@@ -17,11 +17,11 @@ same static = refl
 
 -- none has a bad number
 no_bad : (rows : List StaticObject) (view : List StaticObject) (found : Option ℕ) → view ≡ rows
-    → found ≡ option_map (λ (s : StaticValue). s.number) (find (λ (s : StaticValue). not (is_object_number s.number)) (map static_of view))
+    → found ≡ first_bad (map static_of view)
     → found ≡ None
-    → option_map (λ (s : StaticValue). s.number) (find (λ (s : StaticValue). not (is_object_number s.number)) (map static_of rows)) ≡ None
+    → first_bad (map static_of rows) ≡ None
 no_bad rows view found are sought none =
-    ap (λ rs. option_map (λ (s : StaticValue). s.number) (find (λ (s : StaticValue). not (is_object_number s.number)) (map static_of rs))) (sym are)
+    ap (λ rs. first_bad (map static_of rs)) (sym are)
     ∙ sym sought ∙ none
 
 pub returns-in-Bad-clause-decides : goal.returns-in-Bad-clause-decides

@@ -1,4 +1,5 @@
-use Rattle.std.proofs.Common.{◌≡◌, ◌∙◌, ◌∷◌, [], ℕ, List, Err, true, false, refl, sym, ap, subst, inr, map}
+use Rattle.std.proofs.Common.{◌≡◌, ◌∙◌, ◌∷◌, [], ℕ, List, Err, true, false, refl, sym, ap, subst, inr}
+use Rattle.t3_load.specs.ImageObjects.{object_numbers}
 use Rattle.t3_load.specs.declared.objects.ImageObject.{ImageObject}
 use Rattle.t3_load.specs.Rules.{KeepsRules, AreObjectsIn}
 use Rattle.t3_load.specs.Inner.Deciding.{Decides}
@@ -123,7 +124,7 @@ invariant_of-result c =
     let again : c.deref-2.result.now ≡ c.args.image.now.blocks = c.deref-2.ensures.value ∙ ap (λ x. x.blocks) c.image-inside.view_is ∙ ap (λ x. x.blocks) c.image.view_is in
     let are = subst (λ b. AreObjectsIn b c.in_ok-objects.objects) again c.in_ok-objects.ensures.objects in
     let room : is_past c.args.limits c.in_ok-objects.objects ≡ false = ap (is_past c.args.limits) (sym c.as_slice.ensures.objects) ∙ sym c.is_past.ensures ∙ c.if-is_past.false in
-    let next = c.next_number-next.ensures ∙ ap (λ os. next_above (map (λ (o : ImageObject). o.number) os)) c.as_slice-2.ensures.objects in
+    let next = c.next_number-next.ensures ∙ ap (λ os. next_above (object_numbers os)) c.as_slice-2.ensures.objects in
     can_start c.args.image.now.blocks c.in_ok-objects.objects c.args.limits c.in_ok-first.field-0.first c.in_ok-first.field-0.passing c.next_number-next.result c.requires are
     c.in_ok-objects.ensures.made c.as_slice.ensures.distinct c.in_ok-check_there.ensures.there c.in_ok-check_acyclic.ensures.acyclic
     c.in_ok-check_persistent.ensures.persistent room c.in_ok-first.ensures.halves next
@@ -142,7 +143,7 @@ returns c =
     let k12 = kept_both c.args.image.now.blocks c.args.limits 1 11 12 k11 (c.in_ok-check_acyclic.ensures.decides c.args.image.now.blocks are c.args.limits) in
     let k13 = kept_both c.args.image.now.blocks c.args.limits 1 12 13 k12 (c.in_ok-check_persistent.ensures.decides c.args.image.now.blocks are c.args.limits) in
     let room : is_past c.args.limits c.in_ok-objects.objects ≡ false = ap (is_past c.args.limits) (sym c.as_slice.ensures.objects) ∙ sym c.is_past.ensures ∙ c.if-is_past.false in
-    let next = c.next_number-next.ensures ∙ ap (λ os. next_above (map (λ (o : ImageObject). o.number) os)) c.as_slice-2.ensures.objects in
+    let next = c.next_number-next.ensures ∙ ap (λ os. next_above (object_numbers os)) c.as_slice-2.ensures.objects in
     let k14 = kept_both c.args.image.now.blocks c.args.limits 1 13 14 k13 (room_kept c.args.image.now.blocks c.in_ok-objects.objects c.args.limits are room) in (
       k14,
       record {
