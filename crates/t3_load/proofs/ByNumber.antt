@@ -48,7 +48,8 @@ object_is (o ∷ objects) n object e = by_test (object_is objects n object) (nat
         ((0, omega arith, is), sym (eqb-true n o.number same ∙ ap (λ (x : ImageObject). x.number) is))
     by_test rest false differ e = let found = rest e in (Contains-append_right (o ∷ []) objects object found.0, found.1)
 
-behind : (o : ImageObject) (objects : List ImageObject) (n : ℕ) (b : Bool) → cond b (Some o) (object_of objects n) ≡ None → object_of objects n ≡ None
+behind : (o : ImageObject) (objects : List ImageObject) (n : ℕ) (b : Bool) → cond b (Some o) (object_of objects n) ≡ None
+    → object_of objects n ≡ None
 behind o objects n true e = absurd cc
 behind o objects n false e = e
 
@@ -152,10 +153,19 @@ either_half objects first passing distinct persistent transient n = by_object (o
         ap (λ p. either p (get passing n)) (persistent.holds n (value_of object)
         (record { object = object; among = is.0; numbered = is.1; half = own; is = refl }))
     by_half object is true own =
-        let there = transient.holds n (value_of object) (record { object = object; among = is.0; numbered = is.1; half = own; is = refl }) in
-        ap (λ p. either p (get passing n)) (not_first objects first passing distinct persistent transient n (value_of object) (get first n) refl there) ∙ there
+        let there = transient.holds n (value_of object) (record {
+          object = object;
+          among = is.0;
+          numbered = is.1;
+          half = own;
+          is =
+              refl;
+        }) in
+        ap (λ p. either p (get passing n))
+        (not_first objects first passing distinct persistent transient n (value_of object) (get first n) refl there) ∙ there
 
     by_object : (o : Option ImageObject) → object_of objects n ≡ o → either (get first n) (get passing n) ≡ option_map value_of o
     by_object None e =
-        ap (λ p. either p (get passing n)) (absent objects distinct n false first persistent e) ∙ absent objects distinct n true passing transient e
+        ap (λ p. either p (get passing n)) (absent objects distinct n false first persistent e)
+        ∙ absent objects distinct n true passing transient e
     by_object (Some object) e = by_half object (object_is objects n object e) object.transient refl

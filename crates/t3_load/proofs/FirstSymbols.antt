@@ -85,16 +85,19 @@ raw_of-firsts symbols name = raw_of-firsts_after [] symbols name
 
 -- a new name comes last
 insert_listed : (entries : List (Vec ℕ × Raw)) (key : Vec ℕ) (raw : Raw) → raw_of (listed entries) key.items ≡ None
-    → listed (insert_entry (λ a b. bytes_eq a.items b.items) entries key raw) ≡ listed entries ++ record { raw = raw; name = key.items } ∷ []
+    → listed (insert_entry
+    (λ a b. bytes_eq a.items b.items) entries key raw) ≡ listed entries ++ record { raw = raw; name = key.items } ∷ []
 insert_listed [] key raw none = refl
 insert_listed (entry ∷ entries) key raw none =
     here (bytes_eq key.items entry.0.items) (λ absent. insert_listed entries key raw absent) none
   where
     here : (b : Bool)
         → (raw_of (listed entries) key.items ≡ None
-        → listed (insert_entry (λ a b. bytes_eq a.items b.items) entries key raw) ≡ listed entries ++ record { raw = raw; name = key.items } ∷ [])
+        → listed (insert_entry
+        (λ a b. bytes_eq a.items b.items) entries key raw) ≡ listed entries ++ record { raw = raw; name = key.items } ∷ [])
         → option_map (λ (symbol : Symbol). symbol.raw)
-        (cond b (Some (record { raw = entry.1; name = entry.0.items })) (find (λ symbol. bytes_eq key.items symbol.name) (listed entries))) ≡ None
+        (cond b (Some (record { raw = entry.1; name = entry.0.items }))
+        (find (λ symbol. bytes_eq key.items symbol.name) (listed entries))) ≡ None
         → listed (cond b ((entry.0, raw) ∷ entries) (entry ∷ insert_entry (λ a b. bytes_eq a.items b.items) entries key raw))
         ≡ listed (entry ∷ entries) ++ record { raw = raw; name = key.items } ∷ []
     here true further absent = absurd cc
@@ -108,7 +111,8 @@ listed-insert entries new key raw name symbol found inserted sought absent key_i
     let last : is_some (raw_of (listed entries) symbol.name) ≡ false =
     ap (λ n. is_some (raw_of (listed entries) n)) (sym name_is) ∙ ap is_some (sym sought) ∙ absent in
     let same : (record { raw = raw; name = key.items }) ≡ symbol = λ i. record { raw = raw_is i; name = (key_is ∙ name_is) i } in
-    ap listed inserted ∙ insert_listed entries key raw none ∙ ap (λ s. listed entries ++ s ∷ []) same ∙ sym (ap (λ b. cond b (listed entries) (listed entries ++ symbol ∷ [])) last)
+    ap listed inserted ∙ insert_listed entries key raw none ∙ ap (λ s. listed entries ++ s ∷ []) same
+    ∙ sym (ap (λ b. cond b (listed entries) (listed entries ++ symbol ∷ [])) last)
   where
     as_none : (o : Option Raw) → is_some o ≡ false → o ≡ None
     as_none None is = refl

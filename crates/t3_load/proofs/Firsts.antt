@@ -14,7 +14,8 @@ parts_at (y ∷ xs) zero d x less is = ap (λ z. z ∷ xs) is
 parts_at (y ∷ xs) (suc i) d x less is = ap (λ rest. y ∷ rest) (parts_at xs i d x (omega arith) is)
 
 -- of items that all keep a rule none is the first that breaks it
-pub none_first : {X : Type 0} (Broken : X → Type 0) (items : List X) → AllByRecursion (λ item. ¬ Broken item) items → (first : X) → ¬ IsFirst Broken items first
+pub none_first : {X : Type 0} (Broken : X → Type 0) (items : List X) → AllByRecursion (λ item. ¬ Broken item) items → (first : X)
+    → ¬ IsFirst Broken items first
 none_first {X = X} Broken items all first is =
     at_place is.before items all is.is
   where
@@ -29,14 +30,16 @@ pub among : (n : ℕ) (ns : List ℕ) → list_any (λ y. nat_eq n y) ns ≡ tru
 among n [] e = absurd cc
 among n (m ∷ ns) e = by_test (among n ns) (nat_eq n m) refl e
   where
-    by_test : (list_any (λ y. nat_eq n y) ns ≡ true → Contains ns n) → (b : Bool) → nat_eq n m ≡ b → (b || list_any (λ y. nat_eq n y) ns) ≡ true
+    by_test : (list_any (λ y. nat_eq n y) ns ≡ true → Contains ns n) → (b : Bool) → nat_eq n m ≡ b
+        → (b || list_any (λ y. nat_eq n y) ns) ≡ true
         → Contains (m ∷ ns) n
     by_test rest true t e = (0, omega arith, sym (eqb-true n m t))
     by_test rest false t e = Contains-append_right (m ∷ []) ns n (rest e)
 
 -- a number that is among those before it, which are distinct
 pub first_twice : {X : Type 0} (number : X → ℕ) (xs : List X) (i : ℕ) (d : X) (keys : List ℕ) (added : Bool) → i < length xs
-    → keys ≡ map number (take i xs) → IsDistinct nat_eq keys → added ≡ not (list_any (λ y. nat_eq (number (get_or xs i d)) y) keys) → added ≡ false
+    → keys ≡ map number (take i xs) → IsDistinct nat_eq keys → added ≡ not (list_any (λ y. nat_eq (number (get_or xs i d)) y) keys)
+    → added ≡ false
     → IsFirstTwice (map number xs) (number (get_or xs i d))
 first_twice number xs i d keys added less keys_are distinct is absent =
     let n = number (get_or xs i d) in

@@ -47,7 +47,8 @@ new_number objects sorted i object distinct moved less is there =
     (IsPermutation-map (λ (o : ImageObject). o.number) objects sorted moved) distinct in
     let here : get_or numbers i object.number ≡ object.number =
     get_or-map (λ (o : ImageObject). o.number) sorted i object object.number less ∙ ap (λ (o : ImageObject). o.number) (sym is) in
-    let parts = parts_at numbers i object.number object.number (omega (arith, less, length-map sorted (λ (o : ImageObject). o.number))) here in
+    let parts = parts_at numbers i object.number object.number
+    (omega (arith, less, length-map sorted (λ (o : ImageObject). o.number))) here in
     not_twice (take i numbers) (drop (suc i) numbers) object.number (subst (IsDistinct nat_eq) parts apart)
     (subst (λ ns. Contains ns object.number) (sym (take-map (λ (o : ImageObject). o.number) i sorted)) there)
 
@@ -90,7 +91,8 @@ half_more transient done half new object is none own inserted = record {
         ap (λ m. get m n) inserted ∙ ap (get (insert half object.number (value_of object))) (sym number)
         ∙ added_here half object.number (value_of object) ∙ ap Some (ap value_of same ∙ among.is)
 
-    only : (n : ℕ) (value : Value) → (b : Bool) → nat_eq n object.number ≡ b → get new n ≡ Some value → IsAmong transient (done ++ object ∷ []) n value
+    only : (n : ℕ) (value : Value) → (b : Bool) → nat_eq n object.number ≡ b → get new n ≡ Some value
+        → IsAmong transient (done ++ object ∷ []) n value
     only n value true same e =
         let number : n ≡ object.number = eqb-true n object.number same in
         let here : Some (value_of object) ≡ Some value =
@@ -99,7 +101,8 @@ half_more transient done half new object is none own inserted = record {
         record { object = object; among = Contains-push done object; numbered = sym number; half = own; is = cc here }
     only n value false differ e =
         let apart : n ≡ object.number → ⊥ = λ same. let eq = eq-eqb n object.number same in absurd cc in
-        let there = is.only n value (sym (added_there half object.number n (value_of object) apart) ∙ sym (ap (λ m. get m n) inserted) ∙ e) in
+        let there = is.only n value (sym (added_there half object.number n (value_of object) apart) ∙ sym (ap (λ m. get m n) inserted)
+        ∙ e) in
         record {
           object = there.object;
           among = Contains-append_left done (object ∷ []) there.object there.among;
@@ -244,7 +247,8 @@ not_past objects done object first passing half next halves which few units =
     within a b p q = ap (λ x. x || nat_lt 4194304 b) (le-ltb 1048576 a p) ∙ le-ltb 4194304 b q
 
 -- so the store isn't full
-pub not_full : (why : StoreRefusal) (b : Bool) (r : Result (Unit {0}) StoreRefusal) → (r ≡ Err store.Full) ↔ IsTrue b → b ≡ false → r ≡ Err why
+pub not_full : (why : StoreRefusal) (b : Bool) (r : Result (Unit {0}) StoreRefusal) → (r ≡ Err store.Full) ↔ IsTrue b → b ≡ false
+    → r ≡ Err why
     → refusal_by_store why ≡ refusals.NoMemory
 not_full store.Full b r full past is = let t : IsTrue b = full.0 is in absurd cc
 not_full store.NoMemory b r full past is = refl

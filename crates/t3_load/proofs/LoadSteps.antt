@@ -27,7 +27,8 @@ use Rattle.t3_load.proofs.ByNumber.{half_below, halves_apart, bounded}
 use Rattle.t3_load.proofs.Starting.{all_whole, among_both, persistent_whole, within_limits}
 
 -- a refusal behind rules that are kept
-pub refuses : (r : Result ProgramValue LoadRefusal) (blocks : List PlacedBlock) (fingerprint : List ℕ) (limits : StoreLimits) (from until : ℕ)
+pub refuses : (r : Result ProgramValue LoadRefusal) (blocks : List PlacedBlock) (fingerprint : List ℕ) (limits : StoreLimits)
+    (from until : ℕ)
     (why : LoadRefusal) → KeepsRules blocks limits 1 from → (why ≡ NoMemory) ⊎ IsFirstBroken blocks from until why
     → IsErrAnd r (λ found. found ≡ why) → Loads blocks fingerprint limits r
 refuses (Ok program) blocks fingerprint limits from until why kept decided is = absurd is
@@ -75,7 +76,8 @@ pub can_start : (blocks : List PlacedBlock) (objects : List ImageObject) (limits
 can_start blocks objects limits first passing next limited are made distinct there acyclic persistent room halves next_is =
     let whole = all_whole objects there acyclic in
     let within = within_limits limits objects room in
-    let both : supers_among first passing ≡ supers_by objects = λ i n. among_both objects first passing distinct halves.persistent halves.transient n i in
+    let both : supers_among first passing ≡ supers_by objects =
+    λ i n. among_both objects first passing distinct halves.persistent halves.transient n i in
     let below = bounded (object_numbers objects) 0 (2 ^ 31) (omega arith)
     (All-map (λ n. n < 2 ^ 31) (λ (o : ImageObject). o.number) objects (λ k d less. (made k d less).below)) in
     record {

@@ -55,7 +55,8 @@ objects_kept blocks objects are limits =
     kept_one blocks limits 9 (λ why of broken.
     let first : (static : StaticValue) × (static.number ≡ of.0) × IsFirst (IsNoObject blocks) (statics_in blocks) static =
     subst (λ w. Breaks blocks limits w) of.1 broken in
-    none_first (IsNoObject blocks) (statics_in blocks) (all_are (kind_at (metas_in blocks)) (statics_in blocks) objects are) first.0 first.2)
+    none_first (IsNoObject blocks) (statics_in blocks)
+    (all_are (kind_at (metas_in blocks)) (statics_in blocks) objects are) first.0 first.2)
 
 -- the first that gives no object
 pub first_without : {Placed : Type 0} (of : Placed → StaticValue) (kind : ℕ → Option MetaKind) (statics : List Placed) (i : ℕ) (d : Placed)
@@ -65,15 +66,18 @@ pub first_without : {Placed : Type 0} (of : Placed → StaticValue) (kind : ℕ 
 first_without of kind statics i d objects less are none = record {
   before = map of (take i statics);
   after = drop (suc i) (map of statics);
-  is = parts_at (map of statics) i (of d) (of (get_or statics i d)) (omega (arith, less, length-map statics of)) (get_or-map of statics i d (of d) less)
+  is = parts_at (map of statics) i (of d) (of (get_or statics i d)) (omega (arith, less, length-map statics of))
+      (get_or-map of statics i d (of d) less)
       ∙ ap (λ before. before ++ of (get_or statics i d) ∷ drop (suc i) (map of statics)) (take-map of i statics);
   kept = all_are kind (map of (take i statics)) objects are;
   broken = none;
 }
 
 -- one object more
-pub are_more : (kind : ℕ → Option MetaKind) (statics : List StaticValue) (objects : List ImageObject) (static : StaticValue) (object : ImageObject)
-    → AreObjectsOf kind statics objects → IsObjectOf kind static object → AreObjectsOf kind (statics ++ static ∷ []) (objects ++ object ∷ [])
+pub are_more : (kind : ℕ
+    → Option MetaKind) (statics : List StaticValue) (objects : List ImageObject) (static : StaticValue) (object : ImageObject)
+    → AreObjectsOf kind statics objects → IsObjectOf kind static object
+    → AreObjectsOf kind (statics ++ static ∷ []) (objects ++ object ∷ [])
 are_more kind [] [] static object are is = (is, tt)
 are_more kind [] (o ∷ objects) static object are is = absurd are
 are_more kind (s ∷ statics) [] static object are is = absurd are
@@ -82,7 +86,8 @@ are_more kind (s ∷ statics) (o ∷ objects) static object are is = (are.0, are
 -- one object more of those that stand there
 pub are_next : {Placed : Type 0} (of : Placed → StaticValue) (kind : ℕ → Option MetaKind) (statics : List Placed) (i : ℕ) (d : Placed)
     (objects new : List ImageObject) (object : ImageObject) → i < length statics → AreObjectsOf kind (map of (take i statics)) objects
-    → IsObjectOf kind (of (get_or statics i d)) object → new ≡ objects ++ object ∷ [] → AreObjectsOf kind (map of (take (i + 1) statics)) new
+    → IsObjectOf kind (of (get_or statics i d)) object → new ≡ objects ++ object ∷ []
+    → AreObjectsOf kind (map of (take (i + 1) statics)) new
 are_next of kind statics i d objects new object less are is pushed =
     let front : map of (take (i + 1) statics) ≡ map of (take i statics) ++ of (get_or statics i d) ∷ [] =
     ap (map of) (take_more statics i d less) ∙ map-append of (take i statics) (get_or statics i d ∷ []) in
@@ -107,7 +112,8 @@ kind_of_entry (meta ∷ metas) (entry ∷ kinds) is zero =
 kind_of_entry (meta ∷ metas) (entry ∷ kinds) is (suc index) = kind_of_entry metas kinds (cc is) index
 
 -- objects have the numbers of those that stand there
-pub same_numbers : (kind : ℕ → Option MetaKind) (statics : List StaticValue) (objects : List ImageObject) → AreObjectsOf kind statics objects
+pub same_numbers : (kind : ℕ → Option MetaKind) (statics : List StaticValue) (objects : List ImageObject)
+    → AreObjectsOf kind statics objects
     → static_numbers statics ≡ object_numbers objects
 same_numbers kind [] [] are = refl
 same_numbers kind [] (o ∷ objects) are = absurd are
@@ -146,7 +152,8 @@ by_position objects n keys are =
     let numbers = object_numbers objects in
     let place = position_or_len (λ k. nat_eq n k) numbers in
     ap (λ ks. option_and_then (λ i. slice_get objects i) (position (λ k. nat_eq n k) ks)) are
-    ∙ place_or_none objects place (nat_lt place (length numbers)) (ap (λ len. nat_lt place len) (sym (length-map objects (λ (o : ImageObject). o.number))))
+    ∙ place_or_none objects place (nat_lt place (length numbers))
+    (ap (λ len. nat_lt place len) (sym (length-map objects (λ (o : ImageObject). o.number))))
     ∙ at_number objects n
 
 -- what was found at a place
@@ -173,7 +180,8 @@ numbers_of_rows of number (row ∷ rows) (s ∷ statics) same are =
     λ i. (sym (same row) ∙ ap (λ (x : StaticValue). x.number) here) i ∷ numbers_of_rows of number rows statics same rest i
 
 -- rule 8 is broken, and rule 7 kept
-pub twice_decides : {Placed : Type 0} (of : Placed → StaticValue) (number : Placed → ℕ) (rows : List Placed) (blocks : List PlacedBlock) (n : ℕ)
+pub twice_decides : {Placed : Type 0} (of : Placed → StaticValue) (number : Placed
+    → ℕ) (rows : List Placed) (blocks : List PlacedBlock) (n : ℕ)
     → ((row : Placed) → (of row).number ≡ number row) → map of rows ≡ statics_in blocks
     → first_bad (map of rows) ≡ None
     → IsFirstTwice (map number rows) n → IsFirstBroken blocks 7 10 (ObjectTwice n)

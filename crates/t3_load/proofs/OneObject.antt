@@ -53,7 +53,8 @@ one_vector bytes xs ys a b =
 -- ---- an object of a metaclass is of one form
 
 as_tads : (object : NewObject) (bytes : List ℕ) → BeginsObject kinds.Tads object bytes
-    → (supers : List ℕ) × (class : Bool) × (props : List PropValue) × (object ≡ new.Tads supers class props) × BeginsTads supers class props bytes
+    → (supers : List ℕ) × (class : Bool) × (props : List PropValue) × (object ≡ new.Tads supers class props)
+    × BeginsTads supers class props bytes
 as_tads (new.Tads supers class props) bytes begins = (supers, class, props, refl, begins)
 as_tads (new.Text text) bytes begins = absurd begins
 as_tads (new.List items) bytes begins = absurd begins
@@ -126,10 +127,12 @@ one_object kinds.Root x y bytes a b = absurd (root_not x bytes a)
 one_object kinds.Collection x y bytes a b = absurd (collection_not x bytes a)
 one_object kinds.Table x y bytes a b = absurd (table_not x bytes a)
 
-one_of : (kind : ℕ → Option MetaKind) (static : StaticValue) (x y : ImageObject) → IsObjectOf kind static x → IsObjectOf kind static y → x ≡ y
+one_of : (kind : ℕ → Option MetaKind) (static : StaticValue) (x y : ImageObject) → IsObjectOf kind static x → IsObjectOf kind static y
+    → x ≡ y
 one_of kind static x y a b =
     let metaclass : a.metaclass ≡ b.metaclass = cc (sym a.of ∙ b.of) in
-    let object = one_object b.metaclass x.object y.object static.bytes (subst (λ k. BeginsObject k x.object static.bytes) metaclass a.begins) b.begins in
+    let object = one_object b.metaclass x.object y.object static.bytes
+    (subst (λ k. BeginsObject k x.object static.bytes) metaclass a.begins) b.begins in
     let number = a.number ∙ sym b.number in
     let transient = a.transient ∙ sym b.transient in
     λ i. record { number = number i; transient = transient i; object = object i }
@@ -185,7 +188,8 @@ are_made kind (s ∷ statics) (o ∷ objects) are none =
   where
     by_test : (first_bad statics ≡ None → AreMade objects)
         → (b : Bool) → not (is_object_number s.number) ≡ b
-        → option_map (λ (x : StaticValue). x.number) (cond b (Some s) (find (λ (x : StaticValue). not (is_object_number x.number)) statics)) ≡ None
+        → option_map (λ (x : StaticValue). x.number)
+        (cond b (Some s) (find (λ (x : StaticValue). not (is_object_number x.number)) statics)) ≡ None
         → AreMade (o ∷ objects)
     by_test further true t none = absurd cc
     by_test further false t none =

@@ -5,7 +5,8 @@ use Rattle.t3_load.specs.Layout.{BeginsRow}
 use Rattle.t3_load.specs.Inner.Rows.{BeginsItem}
 
 -- one item more
-pub BeginsRow-push : {Item : Type 0} (width : ℕ) (Spells : Item → List ℕ → Type 0) (items : List Item) (item : Item) (bytes rest behind : List ℕ)
+pub BeginsRow-push : {Item : Type 0} (width : ℕ) (Spells : Item → List ℕ
+    → Type 0) (items : List Item) (item : Item) (bytes rest behind : List ℕ)
     → BeginsRow width Spells items bytes rest → BeginsItem width Spells item rest behind
     → BeginsRow width Spells (items ++ item ∷ []) bytes behind
 BeginsRow-push width Spells [] item bytes rest behind begins more =
@@ -36,5 +37,6 @@ same_row width Spells one (x ∷ xs) [] bytes rest other a b long = absurd (omeg
 same_row width Spells one (x ∷ xs) (y ∷ ys) bytes rest other a b long =
     let same = split_same a.0 b.0 a.1 b.1 (a.2 ∙ sym b.2) (sym a.4 ∙ b.4) in
     let here : x ≡ y = one x y b.0 (subst (λ f. Spells x f) same.0 a.3) b.3 in
-    let later = same_row width Spells one xs ys b.1 rest other (subst (λ f. BeginsRow width Spells xs f rest) same.1 a.5) b.5 (omega arith) in
+    let later = same_row width Spells one xs ys b.1 rest other (subst (λ f. BeginsRow width Spells xs f rest) same.1 a.5) b.5
+    (omega arith) in
     ((λ i. here i ∷ later.0 i), later.1)

@@ -16,7 +16,8 @@ use Rattle.t3_load.proofs.ByNumber.{one_of_number, object_is, object_found, eith
 
 -- ---- no object fails a test
 
-fails_all : (test : ImageObject → Bool) (objects : List ImageObject) (object : ImageObject) → first_by test objects ≡ None → Contains objects object
+fails_all : (test : ImageObject → Bool) (objects : List ImageObject) (object : ImageObject) → first_by test objects ≡ None
+    → Contains objects object
     → test object ≡ false
 fails_all test [] object none there = absurd (omega (arith, there.1))
 fails_all test (o ∷ objects) object none there =
@@ -55,7 +56,8 @@ record HasSupers (objects : List ImageObject) (n : ℕ) (supers : List ℕ) : Ty
 supers_known : (objects : List ImageObject) (n : ℕ) (supers : List ℕ) → supers_by objects n ≡ Some supers → HasSupers objects n supers
 supers_known objects n supers e = by_object (object_of objects n) refl e
   where
-    by_object : (o : Option ImageObject) → object_of objects n ≡ o → option_and_then (λ (x : ImageObject). supers_of (value_of x)) o ≡ Some supers
+    by_object : (o : Option ImageObject) → object_of objects n ≡ o
+        → option_and_then (λ (x : ImageObject). supers_of (value_of x)) o ≡ Some supers
         → HasSupers objects n supers
     by_object None found e = absurd cc
     by_object (Some object) found e = let is = object_is objects n object found in
@@ -68,7 +70,8 @@ all_whole objects none acyclic = record {
   there = λ n supers e.
       let known = supers_known objects n supers e in
       subst (AreThere (supers_by objects)) known.are
-      (fails_any (λ super. is_none (supers_by objects super)) (λ super. IsSome (supers_by objects super)) (λ super t. some_there (supers_by objects super) t)
+      (fails_any (λ super. is_none (supers_by objects super)) (λ super. IsSome (supers_by objects super))
+      (λ super t. some_there (supers_by objects super) t)
       (superclasses known.object) (fails_all (lacks_super objects) objects known.object none known.among));
   acyclic = acyclic;
 }
@@ -81,13 +84,15 @@ pub among_both : (objects : List ImageObject) (first passing : Objects) → IsDi
 among_both objects first passing distinct persistent transient n =
     ap (option_and_then supers_of) (either_half objects first passing distinct persistent transient n) ∙ through (object_of objects n)
   where
-    through : (o : Option ImageObject) → option_and_then supers_of (option_map value_of o) ≡ option_and_then (λ (x : ImageObject). supers_of (value_of x)) o
+    through : (o : Option ImageObject)
+        → option_and_then supers_of (option_map value_of o) ≡ option_and_then (λ (x : ImageObject). supers_of (value_of x)) o
     through None = refl
     through (Some object) = refl
 
 -- a superclass of a persistent object is persistent
 persistent_supers : (objects : List ImageObject) (first : Objects) (object : ImageObject) → IsDistinct nat_eq (object_numbers objects)
-    → IsHalf false objects first → first_by (has_transient_super objects) objects ≡ None → Contains objects object → object.transient ≡ false
+    → IsHalf false objects first → first_by (has_transient_super objects) objects ≡ None → Contains objects object
+    → object.transient ≡ false
     → AreThere (supers_by objects) (superclasses object) → AreThere (supers_in first) (superclasses object)
 persistent_supers objects first object distinct persistent none among own there =
     both (superclasses object) there
@@ -99,7 +104,8 @@ persistent_supers objects first object distinct persistent none among own there 
     not_transient true e f = absurd cc
     not_transient false e f = f
 
-    in_first : (n : ℕ) (o : Option ImageObject) → object_of objects n ≡ o → IsSome (option_and_then (λ (x : ImageObject). supers_of (value_of x)) o)
+    in_first : (n : ℕ) (o : Option ImageObject) → object_of objects n ≡ o
+        → IsSome (option_and_then (λ (x : ImageObject). supers_of (value_of x)) o)
         → flag_or_false o ≡ false → IsSome (supers_in first n)
     in_first n None e some flag = absurd cc
     in_first n (Some o) e some flag =
@@ -117,11 +123,13 @@ persistent_supers objects first object distinct persistent none among own there 
 -- a superclass list among the persistent ones is that among all
 from_first : (objects : List ImageObject) (first : Objects) → IsDistinct nat_eq (object_numbers objects)
     → IsHalf false objects first → (n : ℕ) (supers : List ℕ) → supers_in first n ≡ Some supers
-    → (object : ImageObject) × Contains objects object × (object.number ≡ n) × (object.transient ≡ false) × (supers_by objects n ≡ Some supers)
+    → (object : ImageObject) × Contains objects object × (object.number ≡ n) × (object.transient ≡ false)
+    × (supers_by objects n ≡ Some supers)
 from_first objects first distinct persistent n supers e = by_value (get first n) refl e
   where
     by_value : (o : Option Value) → get first n ≡ o → option_and_then supers_of o ≡ Some supers
-        → (object : ImageObject) × Contains objects object × (object.number ≡ n) × (object.transient ≡ false) × (supers_by objects n ≡ Some supers)
+        → (object : ImageObject) × Contains objects object × (object.number ≡ n) × (object.transient ≡ false)
+        × (supers_by objects n ≡ Some supers)
     by_value None held e = absurd cc
     by_value (Some value) held e =
         let among = persistent.only n value held in
@@ -135,23 +143,32 @@ from_first objects first distinct persistent n supers e = by_value (get first n)
         )
 
 walk_up : (objects : List ImageObject) (first : Objects) → IsDistinct nat_eq (object_numbers objects)
-    → IsHalf false objects first → (n above : ℕ) (path : List ℕ) → IsWalk (supers_in first) n path above → IsWalk (supers_by objects) n path above
+    → IsHalf false objects first → (n above : ℕ) (path : List ℕ) → IsWalk (supers_in first) n path above
+    → IsWalk (supers_by objects) n path above
 walk_up objects first distinct persistent n above [] step =
     record { supers = step.supers; are = (from_first objects first distinct persistent n step.supers step.are).4; among = step.among }
 walk_up objects first distinct persistent n above (next ∷ path) walk = (
-  record { supers = walk.0.supers; are = (from_first objects first distinct persistent n walk.0.supers walk.0.are).4; among = walk.0.among },
+  record {
+    supers = walk.0.supers;
+    are =
+        (from_first objects first distinct persistent n walk.0.supers walk.0.are).4;
+    among = walk.0.among;
+  },
   walk_up objects first distinct persistent next above path walk.1,
 )
 
 pub persistent_whole : (objects : List ImageObject) (first : Objects) → IsDistinct nat_eq (object_numbers objects)
-    → IsHalf false objects first → first_by (has_transient_super objects) objects ≡ None → IsWhole (supers_by objects) → IsWhole (supers_in first)
+    → IsHalf false objects first → first_by (has_transient_super objects) objects ≡ None → IsWhole (supers_by objects)
+    → IsWhole (supers_in first)
 persistent_whole objects first distinct persistent none whole = record {
   there = λ n supers e.
       let from = from_first objects first distinct persistent n supers e in
       let known = supers_known objects n supers from.4 in
-      let same : known.object ≡ from.0 = one_of_number objects known.object from.0 distinct known.among from.1 (known.numbered ∙ sym from.2) in
+      let same : known.object ≡ from.0 =
+      one_of_number objects known.object from.0 distinct known.among from.1 (known.numbered ∙ sym from.2) in
       subst (AreThere (supers_in first)) known.are
-      (persistent_supers objects first known.object distinct persistent none known.among (ap (λ (o : ImageObject). o.transient) same ∙ from.3)
+      (persistent_supers objects first known.object distinct persistent none known.among (ap (λ (o : ImageObject). o.transient) same
+      ∙ from.3)
       (subst (AreThere (supers_by objects)) (sym known.are) (whole.there n supers from.4)));
   acyclic = λ n ancestor. whole.acyclic n (ancestor.0, walk_up objects first distinct persistent n n ancestor.0 ancestor.1);
 }

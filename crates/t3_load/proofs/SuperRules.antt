@@ -44,7 +44,8 @@ pub there_kept : (blocks : List PlacedBlock) (objects : List ImageObject) → Ar
 there_kept blocks objects are none limits =
     kept_one blocks limits 10 (λ why of broken.
     let found : first_by (lacks_super objects) objects ≡ Some of.0 =
-    of_these blocks objects (λ os. first_by (lacks_super os) os ≡ Some of.0) are (subst (λ w. Breaks blocks limits w) of.1 broken) in absurd cc)
+    of_these blocks objects (λ os. first_by (lacks_super os) os ≡ Some of.0) are
+    (subst (λ w. Breaks blocks limits w) of.1 broken) in absurd cc)
 
 -- rule 12 is kept
 pub persistent_kept : (blocks : List PlacedBlock) (objects : List ImageObject) → AreObjectsIn blocks objects
@@ -52,10 +53,12 @@ pub persistent_kept : (blocks : List PlacedBlock) (objects : List ImageObject) �
 persistent_kept blocks objects are none limits =
     kept_one blocks limits 12 (λ why of broken.
     let found : first_by (has_transient_super objects) objects ≡ Some of.0 =
-    of_these blocks objects (λ os. first_by (has_transient_super os) os ≡ Some of.0) are (subst (λ w. Breaks blocks limits w) of.1 broken) in absurd cc)
+    of_these blocks objects (λ os. first_by (has_transient_super os) os ≡ Some of.0) are
+    (subst (λ w. Breaks blocks limits w) of.1 broken) in absurd cc)
 
 -- rule 11 is broken at an object behind others that aren't their own ancestors
-pub cycle_decides : (blocks : List PlacedBlock) (objects items : List ImageObject) (i : ℕ) (object : ImageObject) → items ≡ objects → i < length items
+pub cycle_decides : (blocks : List PlacedBlock) (objects items : List ImageObject) (i : ℕ) (object : ImageObject) → items ≡ objects
+    → i < length items
     → object ≡ get_or items i object → AllByRecursion (λ o. ¬ IsOwnAncestor objects o) (take i items) → IsOwnAncestor objects object
     → AreObjectsIn blocks objects → IsFirstBroken blocks 11 12 (SuperCycle object.number)
 cycle_decides blocks objects items i object same less is kept own are = record {
@@ -104,7 +107,8 @@ pub all_acyclic : (objects : List ImageObject) → AllByRecursion (λ o. ¬ IsOw
 all_acyclic objects all n ancestor =
     by_object (object_of objects n) refl (first_step (supers_by objects) n n ancestor.0 ancestor.1)
   where
-    by_object : (o : Option ImageObject) → object_of objects n ≡ o → IsSome (option_and_then (λ (x : ImageObject). supers_of (value_of x)) o) → ⊥
+    by_object : (o : Option ImageObject) → object_of objects n ≡ o
+        → IsSome (option_and_then (λ (x : ImageObject). supers_of (value_of x)) o) → ⊥
     by_object None e some = absurd cc
     by_object (Some object) e some =
         let is = object_is objects n object e in

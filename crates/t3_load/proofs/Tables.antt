@@ -57,7 +57,8 @@ same_length meaning items entries e =
     sym (length-map entries Some) ∙ ap length e ∙ length-map items meaning
 
 -- with those of a further block there are no more than all
-pub fits_with : {X Item Entry : Type 0} (f : X → List Item) (meaning : Item → Option Entry) (xs : List X) (i : ℕ) (x : X) (entries : List Entry)
+pub fits_with : {X Item Entry : Type 0} (f : X → List Item) (meaning : Item
+    → Option Entry) (xs : List X) (i : ℕ) (x : X) (entries : List Entry)
     (n : ℕ) → i < length xs → x ≡ get_or xs i x → map Some entries ≡ map meaning (flat_map f (take i xs)) → length (flat_map f xs) < n
     → length entries + length (f x) < n
 fits_with f meaning xs i x entries n less is known few =
@@ -106,10 +107,12 @@ table_step f meaning xs i x old new less is added known =
     let block : flat_map f (get_or xs i x ∷ []) ≡ f x = append-nil (f (get_or xs i x)) ∙ ap f (sym is) in
     let all : flat_map f (take (i + 1) xs) ≡ flat_map f (take i xs) ++ f x =
     ap (flat_map f) one ∙ flat_map-append f (take i xs) (get_or xs i x ∷ []) ∙ ap (λ b. flat_map f (take i xs) ++ b) block in
-    added ∙ ap (λ front. front ++ map meaning (f x)) known ∙ sym (map-append meaning (flat_map f (take i xs)) (f x)) ∙ sym (ap (map meaning) all)
+    added ∙ ap (λ front. front ++ map meaning (f x)) known ∙ sym (map-append meaning (flat_map f (take i xs)) (f x))
+    ∙ sym (ap (map meaning) all)
 
 -- and the first that means nothing is behind them
-pub unknown_step : {X Item Entry : Type 0} (f : X → List Item) (meaning : Item → Option Entry) (all : List Item) (xs : List X) (i : ℕ) (x : X)
+pub unknown_step : {X Item Entry : Type 0} (f : X → List Item) (meaning : Item
+    → Option Entry) (all : List Item) (xs : List X) (i : ℕ) (x : X)
     (old new : List Entry) → i < length xs → x ≡ get_or xs i x → map Some new ≡ map Some old ++ map meaning (f x)
     → unknown_from meaning 0 all ≡ unknown_from meaning (length old) (flat_map f (drop i xs))
     → unknown_from meaning 0 all ≡ unknown_from meaning (length new) (flat_map f (drop (i + 1) xs))
@@ -125,6 +128,7 @@ unknown_step f meaning all xs i x old new less is added first =
     let next : suc i ≡ i + 1 = omega arith in
     first ∙ ap (unknown_from meaning (length old)) (flat_map-drop f xs i x less is)
     ∙ position_from-append (λ item. is_none (meaning item)) (f x) rest (length old)
-    ∙ ap (λ found. option_or found (unknown_from meaning (length old + length (f x)) rest)) (none_unknown meaning (map Some old) new (f x) (length old) added)
+    ∙ ap (λ found. option_or found (unknown_from meaning (length old + length (f x)) rest))
+    (none_unknown meaning (map Some old) new (f x) (length old) added)
     ∙ ap (λ n. unknown_from meaning n rest) long
     ∙ ap (λ n. unknown_from meaning (length new) (flat_map f (drop n xs))) next

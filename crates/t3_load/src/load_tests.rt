@@ -1,6 +1,6 @@
 //! Which rule an image breaks first, and the program of one that breaks none.
-use crate::LoadRefusal;
 use crate::test_images::{GOOD, Parts, loaded, refusal, with};
+use crate::{LoadRefusal, Program};
 use std::test::Fail;
 use t3_holder::Holder;
 use t3_pools::PoolRefusal;
@@ -286,17 +286,27 @@ fn a_program_has_what_its_image_says(rt: HostRuntime) -> Result<(), Fail> {
     let Ok(program) = loaded(rt.alloc(), &parts)? else {
         return Err(Fail::from("a good image is refused"));
     };
-    assert_eq!(rt; program.entry, 5);
-    assert_eq!(rt; program.next, 31);
-    assert_eq!(rt; program.fingerprint, [7; 32]);
-    assert_eq!(rt; program.kinds.0.len(), 7);
-    assert_eq!(rt; program.sets.0.len(), 2);
-    assert_eq!(rt; program.first.get(1, &Cell::Prop(3)), Some(Holder::Int(7)));
-    assert_eq!(rt; program.first.is_class(1), true);
-    assert_eq!(rt; program.first.text(7), Some(b"ab".as_slice()));
-    assert_eq!(rt; program.first.after(2), Some(7));
-    assert_eq!(rt; program.first.after(9), None);
-    assert_eq!(rt; program.passing.after(0), Some(30));
-    assert_eq!(rt; program.passing.after(30), None);
+    let Program {
+        entry,
+        kinds,
+        sets,
+        first,
+        passing,
+        next,
+        fingerprint,
+        ..
+    } = program;
+    assert_eq!(rt; entry, 5);
+    assert_eq!(rt; next, 31);
+    assert_eq!(rt; fingerprint, [7; 32]);
+    assert_eq!(rt; kinds.0.len(), 7);
+    assert_eq!(rt; sets.0.len(), 2);
+    assert_eq!(rt; first.get(1, &Cell::Prop(3)), Some(Holder::Int(7)));
+    assert_eq!(rt; first.is_class(1), true);
+    assert_eq!(rt; first.text(7), Some(b"ab".as_slice()));
+    assert_eq!(rt; first.after(2), Some(7));
+    assert_eq!(rt; first.after(9), None);
+    assert_eq!(rt; passing.after(0), Some(30));
+    assert_eq!(rt; passing.after(30), None);
     Ok(())
 }

@@ -7,7 +7,8 @@ use Rattle.t3_load.proofs.listing.entries.Goals as goal
 
 pub append-requires : goal.append-requires
 append-requires g c =
-    let fits = fits_with (λ (placed : PlacedBlock). g.L.Listing.items c.args.listing.now placed.block) (g.L.Listing.meaning c.args.listing.now)
+    let fits = fits_with (λ (placed : PlacedBlock). g.L.Listing.items c.args.listing.now placed.block)
+    (g.L.Listing.meaning c.args.listing.now)
     c.args.blocks.now c.loop-placed.placed-index c.placed-item.result c.loop-placed.entries.items 4294967296 c.loop-placed-test.true c.placed-item.is
     c.loop-placed.invariant.0 c.requires in
     omega (arith, fits, ap length c.items.ensures)
@@ -33,6 +34,7 @@ loop-placed-preserved g c =
     let added = c.in_ok-append.ensures ∙ ap (λ found. map Some loop.entries.items ++ map meaning found) c.items.ensures in (
       table_step items meaning c.args.blocks.now loop.placed-index c.placed-item.result loop.entries.items c.append.new.entries.items
           c.loop-placed-test.true c.placed-item.is added loop.invariant.0,
-      unknown_step items meaning (flat_map items c.args.blocks.now) c.args.blocks.now loop.placed-index c.placed-item.result loop.entries.items
+      unknown_step items meaning
+          (flat_map items c.args.blocks.now) c.args.blocks.now loop.placed-index c.placed-item.result loop.entries.items
           c.append.new.entries.items c.loop-placed-test.true c.placed-item.is added loop.invariant.1,
     )
