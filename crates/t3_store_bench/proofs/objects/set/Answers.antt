@@ -1,0 +1,8 @@
+use Rattle.std.proofs.Common.{◌∙◌, ap, sym, Some}
+use Rattle.t3_holder.specs.declared.holder.Holder.TheVariants.{Int}
+use Rattle.t3_store.proofs.Callers.{prop-written}
+use Rattle.t3_store_bench.proofs.objects.set.Goals as goal
+
+pub write-requires-clause-can : goal.write-requires-clause-can
+write-requires-clause-can c =
+    prop-written (Some (Int c.args.value)) _ 1 (sym c.kind.ensures.kind ∙ c.in-Some-Tads.is ∙ ap Some c.in-Some-Tads.field-0-is)
