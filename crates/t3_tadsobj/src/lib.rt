@@ -13,6 +13,9 @@
 //! superclasses needs no list.
 #![tactic(auto)]
 
+#[cfg(test)]
+mod cycle_tests;
+mod cycles;
 mod object;
 mod order;
 #[cfg(test)]
@@ -21,6 +24,7 @@ mod props;
 #[cfg(test)]
 mod tests;
 
+pub use cycles::first_cyclic;
 pub use object::TadsObject;
 pub use order::{Supers, linear_order, one_order, order_along_chain, preorder_list};
 pub use props::{PropValue, Props};
