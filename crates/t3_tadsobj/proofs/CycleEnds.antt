@@ -8,10 +8,10 @@ use Rattle.t3_tadsobj.specs.declared.cycles.Task.{Task}
 use Rattle.t3_tadsobj.specs.declared.cycles.Task.TheVariants.{Look, Leave}
 use Rattle.t3_tadsobj.specs.declared.cycles.Component.{Component}
 use Rattle.t3_tadsobj.specs.Order.{SupersAt, IsSuperclass, IsWalk, IsAncestor}
-use Rattle.t3_tadsobj.specs.Inner.Walking.{Marked, EndsLast, IsLeft}
-use Rattle.t3_tadsobj.specs.Inner.Walks.{IsAt, IsInCycle, IsAbove, StartRising, IsWalking}
-use Rattle.t3_tadsobj.proofs.CycleLists.{at-some, at-less, at-left, at-right, at-cases}
-use Rattle.t3_tadsobj.proofs.CycleSteps.{contains-none, contains-first, starts-left, starts-last, rising-left, rising-last, top, onward}
+use Rattle.t3_tadsobj.specs.Inner.ComponentSteps.{Marked, EndsLast, IsLeft}
+use Rattle.t3_tadsobj.specs.Inner.ComponentWalk.{IsAt, IsInCycle, IsAbove, StartRising, IsWalking}
+use Rattle.t3_tadsobj.proofs.CycleLists.{at-cases, at-left, at-less, at-right, at-some, contains-first, contains-none, rising-last, rising-left, starts-last, starts-left}
+use Rattle.t3_tadsobj.proofs.CycleSteps.{top, onward}
 
 -- ---- a number that isn't the first of its component
 
@@ -190,7 +190,8 @@ ended-last at f g path new_path old cs mid p ends w = record {
     marks_new : (n : ℕ) → is_member n ≡ true → g n ≡ Some (Done last.cyclic)
     marks_new n has = ends.finished.marks n ∙ ap (λ b. cond b (Some (Done ends.last.cyclic)) (f n)) has
 
-    mark_cases : (n : ℕ) (x : Mark) → g n ≡ Some x → ((is_member n ≡ true) × (Done last.cyclic ≡ x)) ⊎ ((is_member n ≡ false) × (f n ≡ Some x))
+    mark_cases : (n : ℕ) (x : Mark) → g n ≡ Some x
+        → ((is_member n ≡ true) × (Done last.cyclic ≡ x)) ⊎ ((is_member n ≡ false) × (f n ≡ Some x))
     mark_cases n x is = by (is_member n) refl
       where
         by : (b : Bool) → is_member n ≡ b → ((is_member n ≡ true) × (Done last.cyclic ≡ x)) ⊎ ((is_member n ≡ false) × (f n ≡ Some x))
@@ -218,7 +219,7 @@ ended-last at f g path new_path old cs mid p ends w = record {
         (λ left. inr (record {
           stands = up.stands;
           is = left;
-          where' = ⊎_elim (λ later. inl later) (λ cycle. inr (in_cycle (at-less new_path up.stands x left) cycle)) up.where';
+          higher = ⊎_elim (λ later. inl later) (λ cycle. inr (in_cycle (at-less new_path up.stands x left) cycle)) up.higher;
         }))
         (λ right. inl (ends.last.cyclic, marks_new x right.1))
         (at-cases new_path members up.stands x (split up.stands x up.is))
@@ -258,7 +259,7 @@ ended-last at f g path new_path old cs mid p ends w = record {
         (λ cycle. let e : ends.last.start ≡ cycle.component.start
         = ap (λ (k : Component). k.start) (high_cycle q up.stands more cycle) in
         let begins = ends.starts in let starts = cycle.starts in omega arith)
-        up.where'
+        up.higher
 
     member_closed : (q n x : ℕ) → p ≤ q → IsAt path q n → IsSuperclass at n x → (c : Bool) × (g x ≡ Some (Done c))
     member_closed q n x more is step =
@@ -302,7 +303,7 @@ ended-last at f g path new_path old cs mid p ends w = record {
             (λ later. inr (up.stands, up.is, omega arith))
             (λ cycle. absurd (true≢false (sym cycle.cyclic
             ∙ sym (ap (λ (k : Component). k.cyclic) (high_cycle r up.stands (omega arith) cycle)) ∙ flag)))
-            up.where'
+            up.higher
 
         gives : (m x : ℕ) → IsFrom f path q m → IsSuperclass at m x → IsFrom f path (q + 1) x
         gives m x from step =

@@ -1,13 +1,14 @@
 -- The lists of a walk over components: places, and what merging and finishing take off.
 use Rattle.std.proofs.Common.{◌≡◌, ℕ, zero, suc, ◌<◌, ◌≤◌, true, cond, eqb, ◌⊎◌, inl, inr, ⊎_elim, Some, List, [], ◌∷◌, ◌++◌, length, sym, refl, ap, ◌∙◌, subst, arith, append_assoc}
-use Rattle.std.specs.List.{AllByRecursion, list_any}
+use Rattle.std.specs.List.{AllByRecursion, list_any, Contains}
 use Rattle.std.proofs.lemmas.List.{append-nil, length-append}
 use Rattle.t3_tadsobj.specs.declared.cycles.Mark.TheVariants.{Done}
 use Rattle.t3_tadsobj.specs.declared.cycles.Task.{Task}
 use Rattle.t3_tadsobj.specs.declared.cycles.Component.{Component}
-use Rattle.t3_tadsobj.specs.Inner.Walking.{Marked, IsMerged, IsFinished}
-use Rattle.t3_tadsobj.specs.Inner.Walks.{IsAt}
-use Rattle.t3_tadsobj.proofs.OrderMembers.{Has, Has-here, Has-there, Has-cases}
+use Rattle.t3_tadsobj.specs.Inner.ComponentSteps.{Marked, IsMerged, IsFinished}
+use Rattle.t3_tadsobj.specs.Inner.ComponentWalk.{IsAt, StartRising, AreRising, place_of, limit_of}
+use Rattle.t3_tadsobj.proofs.OrderMembers.{Has, Has-here, Has-there, Has-cases, both, left_of, right_of, each}
+use Rattle.std.proofs.lemmas.List.Elements.{Contains-append_right}
 
 -- ---- places
 
@@ -20,9 +21,6 @@ pub at-left : (xs ys : List ℕ) (p n : ℕ) → IsAt xs p n → IsAt (xs ++ ys)
 at-left [] ys p n is = absurd cc
 at-left (x ∷ xs) ys zero n is = is
 at-left (x ∷ xs) ys (suc p) n is = at-left xs ys p n is
-
-pub at-one : (xs : List ℕ) (p n m : ℕ) → IsAt xs p n → IsAt xs p m → n ≡ m
-at-one xs p n m is also = cc
 
 pub at-has : (xs : List ℕ) (p n : ℕ) → IsAt xs p n → Has xs n
 at-has [] p n is = absurd cc
@@ -53,21 +51,91 @@ pub at-push : (xs : List ℕ) (x : ℕ) → IsAt (xs ++ x ∷ []) (length xs) x
 at-push [] x = refl
 at-push (y ∷ xs) x = at-push xs x
 
+-- ---- members
+
+pub contains-cons : {X : Type 0} (x : X) (xs : List X) (y : X) → Contains (x ∷ xs) y → (x ≡ y) ⊎ Contains xs y
+contains-cons x xs y (zero, less, is) = inl is
+contains-cons x xs y (suc k, less, is) = inr (k, omega arith, is)
+
+pub contains-none : {X : Type 0} (y : X) → Contains [] y → ⊥
+contains-none y (k, less, is) = omega arith
+
+pub contains-first : {X : Type 0} (x : X) (xs : List X) → Contains (x ∷ xs) x
+contains-first x xs = (0, omega arith, refl)
+
+pub all-holds : {X : Type 0} (P : X → Type 0) (xs : List X) (x : X) → AllByRecursion P xs → Contains xs x → P x
+all-holds P [] x all among = absurd (contains-none x among)
+all-holds P (y ∷ xs) x all among =
+    ⊎_elim (λ same. subst P same all.0) (λ later. all-holds P xs x all.1 later) (contains-cons y xs x among)
+
+-- ---- rising places
+
+pub rising-append : (a b : List Task) → AreRising a → AreRising b
+    → ((t u : Task) → Contains a t → Contains b u → place_of t < limit_of u) → AreRising (a ++ b)
+rising-append [] b left right between = right
+rising-append (t ∷ a) b left right between = (
+  both (λ u. place_of t < limit_of u) a b left.0
+      (each (λ u. place_of t < limit_of u) b (λ u among. between t u (contains-first t a) among)),
+  rising-append a b left.1 right (λ x u among also. between x u (Contains-append_right (t ∷ []) a x among) also),
+)
+
+pub rising-left : (a b : List Task) → AreRising (a ++ b) → AreRising a
+rising-left [] b r = tt
+rising-left (t ∷ a) b r = (left_of (λ u. place_of t < limit_of u) a b r.0, rising-left a b r.1)
+
+pub rising-without : (a : List Task) (t : Task) (b : List Task) → AreRising (a ++ t ∷ b) → AreRising (a ++ b)
+rising-without [] t b r = r.1
+rising-without (x ∷ a) t b r = (
+  both (λ u. place_of x < limit_of u) a b
+      (left_of (λ u. place_of x < limit_of u) a (t ∷ b) r.0)
+      (right_of (λ u. place_of x < limit_of u) a (t ∷ b) r.0).1,
+  rising-without a t b r.1,
+)
+
+pub rising-last : (mid : List Task) (t u : Task) → AreRising (mid ++ t ∷ []) → Contains mid u → place_of u < limit_of t
+rising-last [] t u r among = absurd (contains-none u among)
+rising-last (x ∷ mid) t u r among =
+    ⊎_elim
+    (λ same. subst (λ (k : Task). place_of k < limit_of t) same (right_of (λ v. place_of x < limit_of v) mid (t ∷ []) r.0).0)
+    (λ later. rising-last mid t u r.1 later)
+    (contains-cons x mid u among)
+
+pub starts-push : (cs : List Component) (x : Component) → StartRising cs → ((c : Component) → Contains cs c → c.start < x.start)
+    → StartRising (cs ++ x ∷ [])
+starts-push [] x r less = (tt, tt)
+starts-push (c ∷ cs) x r less = (
+  both (λ later. c.start < later.start) cs (x ∷ []) r.0 (less c (contains-first c cs), tt),
+  starts-push cs x r.1 (λ d among. less d (Contains-append_right (c ∷ []) cs d among)),
+)
+
+pub starts-left : (a b : List Component) → StartRising (a ++ b) → StartRising a
+starts-left [] b r = tt
+starts-left (c ∷ a) b r = (left_of (λ later. c.start < later.start) a b r.0, starts-left a b r.1)
+
+pub starts-last : (front : List Component) (x : Component) → StartRising (front ++ x ∷ []) → (c : Component) → Contains front c
+    → c.start < x.start
+starts-last [] x r c among = absurd (contains-none c among)
+starts-last (d ∷ front) x r c among =
+    ⊎_elim
+    (λ same. subst (λ (k : Component). k.start < x.start) same (right_of (λ later. d.start < later.start) front (x ∷ []) r.0).0)
+    (λ later. starts-last front x r.1 c later)
+    (contains-cons d front c among)
+
 -- ---- what was merged so far
 
 pub record IsMerging (place : ℕ) (old new : List Component) : Type 0 where
-  pub above : List Component
-  pub were : old ≡ new ++ above
-  pub later : AllByRecursion (λ c. place < c.start) above
+  pub popped : List Component
+  pub were : old ≡ new ++ popped
+  pub later : AllByRecursion (λ c. place < c.start) popped
 
 pub merging-begun : (place : ℕ) (old : List Component) → IsMerging place old old
-merging-begun place old = record { above = []; were = sym (append-nil old); later = tt }
+merging-begun place old = record { popped = []; were = sym (append-nil old); later = tt }
 
 pub merging-on : (place : ℕ) (old mid new : List Component) (last : Component) → mid ≡ new ++ last ∷ [] → place < last.start
     → IsMerging place old mid → IsMerging place old new
 merging-on place old mid new last was less m = record {
-  above = last ∷ m.above;
-  were = m.were ∙ ap (λ (cs : List Component). cs ++ m.above) was ∙ append_assoc new (last ∷ []) m.above;
+  popped = last ∷ m.popped;
+  were = m.were ∙ ap (λ (cs : List Component). cs ++ m.popped) was ∙ append_assoc new (last ∷ []) m.popped;
   later = (less, m.later);
 }
 
@@ -75,9 +143,9 @@ pub merging-found : (place : ℕ) (old mid new : List Component) (last : Compone
     → IsMerging place old mid → IsMerged place old (new ++ record { start = last.start; cyclic = true } ∷ [])
 merging-found place old mid new last was less m = record {
   front = new;
-  at = last;
-  above = m.above;
-  were = m.were ∙ ap (λ (cs : List Component). cs ++ m.above) was;
+  base = last;
+  popped = m.popped;
+  were = m.were ∙ ap (λ (cs : List Component). cs ++ m.popped) was;
   are = refl;
   starts = less;
   later = m.later;
@@ -93,7 +161,8 @@ merging-none place old new none m = rw (m.were, none-left new none) m.later
 
 -- ---- what was finished so far
 
-pub record IsFinishing (last : Component) (path new_path : List ℕ) (old new : Marked) (cs new_cs : List Component) (ts new_ts : List Task) : Type 0 where
+pub record IsFinishing (last : Component) (path new_path : List ℕ) (old new : Marked) (cs new_cs : List Component)
+    (ts new_ts : List Task) : Type 0 where
   pub members : List ℕ
   pub was : path ≡ new_path ++ members
   pub size : last.start ≤ length path → last.start ≤ length new_path
@@ -112,7 +181,8 @@ finishing-begun last path f cs ts = record {
   tasks = refl;
 }
 
-pub finishing-on : (last : Component) (n : ℕ) (path mid new_path : List ℕ) (old f new : Marked) (cs new_cs : List Component) (ts new_ts : List Task)
+pub finishing-on : (last : Component) (n : ℕ) (path mid new_path : List ℕ) (old f new : Marked)
+    (cs new_cs : List Component) (ts new_ts : List Task)
     → mid ≡ new_path ++ n ∷ [] → last.start < length mid → ((m : ℕ) → new m ≡ cond (eqb n m) (Some (Done last.cyclic)) (f m))
     → IsFinishing last path mid old f cs new_cs ts new_ts → IsFinishing last path new_path old new cs new_cs ts new_ts
 finishing-on last n path mid new_path old f new cs new_cs ts new_ts was less sets fin = record {

@@ -7,10 +7,10 @@ use Rattle.t3_tadsobj.specs.declared.cycles.Task.{Task}
 use Rattle.t3_tadsobj.specs.declared.cycles.Task.TheVariants.{Look, Leave}
 use Rattle.t3_tadsobj.specs.declared.cycles.Component.{Component}
 use Rattle.t3_tadsobj.specs.Order.{SupersAt, IsSuperclass, IsAncestor}
-use Rattle.t3_tadsobj.specs.Inner.Walking.{Marked, IsMerged}
-use Rattle.t3_tadsobj.specs.Inner.Walks.{IsAt, HasNoStart, IsInCycle, IsAbove, StartRising, IsWalking}
-use Rattle.t3_tadsobj.proofs.CycleLists.{at-some}
-use Rattle.t3_tadsobj.proofs.CycleSteps.{all-holds, starts-left, starts-last, starts-push, top, joined, removed}
+use Rattle.t3_tadsobj.specs.Inner.ComponentSteps.{Marked, IsMerged}
+use Rattle.t3_tadsobj.specs.Inner.ComponentWalk.{IsAt, HasNoStart, IsInCycle, IsAbove, StartRising, IsWalking}
+use Rattle.t3_tadsobj.proofs.CycleLists.{all-holds, at-some, starts-last, starts-left, starts-push}
+use Rattle.t3_tadsobj.proofs.CycleSteps.{top, joined, removed}
 
 -- the component into which others are merged
 abbrev pub merged_of : Component → Component
@@ -28,36 +28,40 @@ merged-forth : (place : ℕ) (old new : List Component) → IsMerged place old n
 merged-forth place old new m c among =
     ⊎_elim
     (λ low. ⊎_elim
-    (λ front. inl (c, has c (Contains-append_left m.front (merged_of m.at ∷ []) c front), refl))
-    (λ same. inl (merged_of m.at, has (merged_of m.at) (Contains-push m.front (merged_of m.at)), ap (λ (k : Component). k.start) same))
-    (Contains-push_cases m.front m.at c low))
-    (λ above. inr (all-holds (λ (k : Component). place < k.start) m.above c m.later above))
-    (Contains-append_cases (m.front ++ m.at ∷ []) m.above c (subst (λ (cs : List Component). Contains cs c) m.were among))
+    (λ front. inl (c, has c (Contains-append_left m.front (merged_of m.base ∷ []) c front), refl))
+    (λ same. inl (
+      merged_of m.base,
+      has (merged_of m.base) (Contains-push m.front (merged_of m.base)),
+      ap (λ (k : Component). k.start) same,
+    ))
+    (Contains-push_cases m.front m.base c low))
+    (λ above. inr (all-holds (λ (k : Component). place < k.start) m.popped c m.later above))
+    (Contains-append_cases (m.front ++ m.base ∷ []) m.popped c (subst (λ (cs : List Component). Contains cs c) m.were among))
   where
-    has : (d : Component) → Contains (m.front ++ merged_of m.at ∷ []) d → Contains new d
+    has : (d : Component) → Contains (m.front ++ merged_of m.base ∷ []) d → Contains new d
     has d among = subst (λ (cs : List Component). Contains cs d) (sym m.are) among
 
 -- a component was there before, or is the one that is merged
 merged-back : (place : ℕ) (old new : List Component) (m : IsMerged place old new) → (d : Component) → Contains new d
-    → (Contains m.front d × Contains old d) ⊎ (merged_of m.at ≡ d)
+    → (Contains m.front d × Contains old d) ⊎ (merged_of m.base ≡ d)
 merged-back place old new m d among =
     ⊎_elim
     (λ front. inl (
       front,
       subst (λ (cs : List Component). Contains cs d) (sym m.were)
-          (Contains-append_left (m.front ++ m.at ∷ []) m.above d (Contains-append_left m.front (m.at ∷ []) d front)),
+          (Contains-append_left (m.front ++ m.base ∷ []) m.popped d (Contains-append_left m.front (m.base ∷ []) d front)),
     ))
     (λ same. inr same)
-    (Contains-push_cases m.front (merged_of m.at) d (subst (λ (cs : List Component). Contains cs d) m.are among))
+    (Contains-push_cases m.front (merged_of m.base) d (subst (λ (cs : List Component). Contains cs d) m.are among))
 
-merged-at : (place : ℕ) (old new : List Component) (m : IsMerged place old new) → Contains old m.at
-merged-at place old new m = subst (λ (cs : List Component). Contains cs m.at) (sym m.were)
-    (Contains-append_left (m.front ++ m.at ∷ []) m.above m.at (Contains-push m.front m.at))
+merged-at : (place : ℕ) (old new : List Component) (m : IsMerged place old new) → Contains old m.base
+merged-at place old new m = subst (λ (cs : List Component). Contains cs m.base) (sym m.were)
+    (Contains-append_left (m.front ++ m.base ∷ []) m.popped m.base (Contains-push m.front m.base))
 
 merged-starts : (place : ℕ) (old new : List Component) (m : IsMerged place old new) → StartRising old
-    → (c : Component) → Contains m.front c → c.start < m.at.start
+    → (c : Component) → Contains m.front c → c.start < m.base.start
 merged-starts place old new m r c among =
-    starts-last m.front m.at (starts-left (m.front ++ m.at ∷ []) m.above (subst StartRising m.were r)) c among
+    starts-last m.front m.base (starts-left (m.front ++ m.base ∷ []) m.popped (subst StartRising m.were r)) c among
 
 pub merged : (at : SupersAt) (f : Marked) (path : List ℕ) (old new : List Component) (mid : List Task) (p above place : ℕ)
     → IsMerged place old new → f above ≡ Some (Open place) → IsWalking at f path old (mid ++ Look p above ∷ [])
@@ -71,26 +75,26 @@ merged at f path old new mid p above place m stands w =
     append-none (x ∷ xs) = ap (λ rest. x ∷ rest) (append-none xs)
 
     one : Component
-    one = record { start = m.at.start; cyclic = true }
+    one = record { start = m.base.start; cyclic = true }
 
-    has_one : Contains new (merged_of m.at)
-    has_one = subst (λ (cs : List Component). Contains cs (merged_of m.at)) (sym m.are) (Contains-push m.front (merged_of m.at))
+    has_one : Contains new (merged_of m.base)
+    has_one = subst (λ (cs : List Component). Contains cs (merged_of m.base)) (sym m.are) (Contains-push m.front (merged_of m.base))
 
-    front_less : (c : Component) → Contains m.front c → c.start < m.at.start
+    front_less : (c : Component) → Contains m.front c → c.start < m.base.start
     front_less = merged-starts place old new m w.starts
 
-    least : (d : Component) → Contains new d → d.start ≤ m.at.start
+    least : (d : Component) → Contains new d → d.start ≤ m.base.start
     least d among =
         ⊎_elim
         (λ front. let less = front_less d front.0 in omega arith)
-        (λ same. let e : m.at.start ≡ d.start = ap (λ (k : Component). k.start) same in omega arith)
+        (λ same. let e : m.base.start ≡ d.start = ap (λ (k : Component). k.start) same in omega arith)
         (merged-back place old new m d among)
 
     same_start : (d : Component) → Contains new d → (c : Component) × Contains old c × (c.start ≡ d.start)
     same_start d among =
         ⊎_elim
         (λ front. (d, front.1, refl))
-        (λ same. (m.at, merged-at place old new m, ap (λ (k : Component). k.start) same))
+        (λ same. (m.base, merged-at place old new m, ap (λ (k : Component). k.start) same))
         (merged-back place old new m d among)
 
     highest : (c : Component) → Contains old c → c.start ≤ p
@@ -113,8 +117,8 @@ merged at f path old new mid p above place m stands w =
     known = inr (record {
       stands = place;
       is = here;
-      where' = inr (record {
-        component = merged_of m.at;
+      higher = inr (record {
+        component = merged_of m.base;
         among = has_one;
         cyclic = refl;
         starts = m.starts;
@@ -136,8 +140,8 @@ merged at f path old new mid p above place m stands w =
         (merged-forth place old new m c among)))))
         (order-cases i place)
 
-    down : (n : ℕ) → IsAt path m.at.start n → (above ≡ n) ⊎ IsAncestor at above n
-    down n is = w.reach place m.at.start above n here is
+    down : (n : ℕ) → IsAt path m.base.start n → (above ≡ n) ⊎ IsAncestor at above n
+    down n is = w.reach place m.base.start above n here is
         (λ c among low high. ⊎_elim
         (λ kept. let most = least kept.0 kept.1 in let e = kept.2 in omega arith)
         (λ later. omega arith)
@@ -145,32 +149,33 @@ merged at f path old new mid p above place m stands w =
 
     in_cycle : (low high : ℕ) → IsInCycle old low high → IsInCycle new low high
     in_cycle low high cycle = by
-        (Contains-append_cases (m.front ++ m.at ∷ []) m.above cycle.component
+        (Contains-append_cases (m.front ++ m.base ∷ []) m.popped cycle.component
         (subst (λ (cs : List Component). Contains cs cycle.component) m.were cycle.among))
       where
-        at_one : m.at.start ≤ cycle.component.start → IsInCycle new low high
+        at_one : m.base.start ≤ cycle.component.start → IsInCycle new low high
         at_one less = record {
-          component = merged_of m.at;
+          component = merged_of m.base;
           among = has_one;
           cyclic = refl;
           starts = let starts = cycle.starts in omega arith;
           within = λ c among l h. let most = least c among in omega arith;
         }
 
-        by : Contains (m.front ++ m.at ∷ []) cycle.component ⊎ Contains m.above cycle.component → IsInCycle new low high
+        by : Contains (m.front ++ m.base ∷ []) cycle.component ⊎ Contains m.popped cycle.component → IsInCycle new low high
         by (inl in') = ⊎_elim
             (λ front. record {
               component = cycle.component;
               among = subst (λ (cs : List Component). Contains cs cycle.component) (sym m.are)
-                  (Contains-append_left m.front (merged_of m.at ∷ []) cycle.component front);
+                  (Contains-append_left m.front (merged_of m.base ∷ []) cycle.component front);
               cyclic = cycle.cyclic;
               starts = cycle.starts;
               within = λ d among l h. let was = same_start d among in let e = was.2 in cycle.within was.0 was.1 (omega arith) (omega arith);
             })
-            (λ same. let e : m.at.start ≡ cycle.component.start = ap (λ (k : Component). k.start) same in at_one (omega arith))
-            (Contains-push_cases m.front m.at cycle.component in')
+            (λ same. let e : m.base.start ≡ cycle.component.start = ap (λ (k : Component). k.start) same in at_one (omega arith))
+            (Contains-push_cases m.front m.base cycle.component in')
         by (inr in') =
-            let less : place < cycle.component.start = all-holds (λ (k : Component). place < k.start) m.above cycle.component m.later in' in
+            let less : place < cycle.component.start =
+            all-holds (λ (k : Component). place < k.start) m.popped cycle.component m.later in' in
             let starts = m.starts in at_one (omega arith)
 
     walking : IsWalking at f path new (mid ++ Look p above ∷ [])
@@ -182,8 +187,8 @@ merged at f path old new mid p above place m stands w =
           (λ later. let e = old_first.2 in absurd (omega arith))
           (merged-forth place old new m old_first.0 old_first.1);
       starts = subst StartRising (sym m.are)
-          (starts-push m.front (merged_of m.at)
-          (starts-left m.front (m.at ∷ []) (starts-left (m.front ++ m.at ∷ []) m.above (subst StartRising m.were w.starts)))
+          (starts-push m.front (merged_of m.base)
+          (starts-left m.front (m.base ∷ []) (starts-left (m.front ++ m.base ∷ []) m.popped (subst StartRising m.were w.starts)))
           front_less);
       rising = w.rising;
       steps = w.steps;
@@ -193,8 +198,9 @@ merged at f path old new mid p above place m stands w =
       reach = reaches;
       cycles = λ d n among is_cyclic is. ⊎_elim
           (λ front. w.cycles d n front.1 is_cyclic is)
-          (λ same. let is_at : IsAt path m.at.start n = subst (λ (i : ℕ). IsAt path i n) (sym (ap (λ (k : Component). k.start) same)) is in
-          joined at n owner.0 above n (up m.at.start n is_at) step (down n is_at))
+          (λ same. let is_at : IsAt path m.base.start n =
+          subst (λ (i : ℕ). IsAt path i n) (sym (ap (λ (k : Component). k.start) same)) is in
+          joined at n owner.0 above n (up m.base.start n is_at) step (down n is_at))
           (merged-back place old new m d among);
       looked = λ i n x is step. ⊎_elim
           (λ among. inl among)
@@ -203,7 +209,7 @@ merged at f path old new mid p above place m stands w =
           (λ higher. inr (inr (record {
             stands = higher.stands;
             is = higher.is;
-            where' = ⊎_elim (λ later. inl later) (λ cycle. inr (in_cycle higher.stands i cycle)) higher.where';
+            higher = ⊎_elim (λ later. inl later) (λ cycle. inr (in_cycle higher.stands i cycle)) higher.higher;
           })))
           rest)
           (w.looked i n x is step);

@@ -11,10 +11,10 @@ use Rattle.t3_tadsobj.specs.declared.cycles.Task.TheVariants.{Look, Leave}
 use Rattle.t3_tadsobj.specs.declared.cycles.Component.{Component}
 use Rattle.t3_tadsobj.specs.Order.{SupersAt, IsAncestor}
 use Rattle.t3_tadsobj.specs.Cycles.{HasNoCyclic, IsFirstAmong}
-use Rattle.t3_tadsobj.specs.Inner.Walking.{Marked, mark_of, path_of, components_of, tasks_of, IsMerged, IsLeft}
-use Rattle.t3_tadsobj.specs.Inner.Walks.{IsAt, IsWalking, IsAtRest}
-use Rattle.t3_tadsobj.proofs.CycleLists.{at-some, at-less, at-push}
-use Rattle.t3_tadsobj.proofs.CycleSteps.{contains-none, contains-cons, all-holds, top, joined, Sets, sets-new, IsKnown, removed, met-missing, met-live}
+use Rattle.t3_tadsobj.specs.Inner.ComponentSteps.{Marked, mark_of, path_of, components_of, tasks_of, IsMerged, IsLeft}
+use Rattle.t3_tadsobj.specs.Inner.ComponentWalk.{IsAt, IsWalking, IsAtRest}
+use Rattle.t3_tadsobj.proofs.CycleLists.{all-holds, at-less, at-push, at-some, contains-cons, contains-none}
+use Rattle.t3_tadsobj.proofs.CycleSteps.{top, joined, Sets, sets-new, IsKnown, removed, met-missing, met-live}
 use Rattle.t3_tadsobj.proofs.CycleMerges.{merged}
 use Rattle.t3_tadsobj.proofs.CycleEnds.{left-one}
 
@@ -87,7 +87,7 @@ met-above at f g path cs mid p n none sets w =
     known : (o : Option (List ℕ)) → Sets f g n (mark_of (length path) o)
         → IsKnown g (path ++ path_of n o) (cs ++ components_of (length path) o) p n
     known None s = inl (false, sets-new f g n (Done false) s)
-    known (Some supers) s = inr (record { stands = length path; is = at-push path n; where' = inl inside })
+    known (Some supers) s = inr (record { stands = length path; is = at-push path n; higher = inl inside })
 
     owner : (v : ℕ) × IsAt path p v
     owner = at-some path p inside

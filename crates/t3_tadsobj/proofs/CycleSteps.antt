@@ -11,80 +11,13 @@ use Rattle.t3_tadsobj.specs.declared.cycles.Task.{Task}
 use Rattle.t3_tadsobj.specs.declared.cycles.Task.TheVariants.{Look, Leave}
 use Rattle.t3_tadsobj.specs.declared.cycles.Component.{Component}
 use Rattle.t3_tadsobj.specs.Order.{SupersAt, IsSuperclass, IsWalk, IsAncestor}
-use Rattle.t3_tadsobj.specs.Inner.Walking.{Marked}
-use Rattle.t3_tadsobj.specs.Inner.Walks.{IsAt, IsAbove, StartRising, AreRising, place_of, limit_of, IsWalking}
+use Rattle.t3_tadsobj.specs.Inner.ComponentSteps.{Marked}
+use Rattle.t3_tadsobj.specs.Inner.ComponentWalk.{IsAt, IsAbove, StartRising, AreRising, place_of, limit_of, IsWalking}
 use Rattle.t3_tadsobj.proofs.OrderMembers.{Has-cases, both, left_of, right_of, each}
 use Rattle.t3_tadsobj.proofs.OrderDepth.{further, nearer}
-use Rattle.t3_tadsobj.proofs.CycleLists.{at-less, at-left, at-cases, at-push}
+use Rattle.t3_tadsobj.proofs.CycleLists.{at-cases, at-left, at-less, at-push, contains-cons, contains-first, contains-none, rising-append, rising-last, rising-without, starts-push}
 
--- ---- members
-
-pub contains-cons : {X : Type 0} (x : X) (xs : List X) (y : X) → Contains (x ∷ xs) y → (x ≡ y) ⊎ Contains xs y
-contains-cons x xs y (zero, less, is) = inl is
-contains-cons x xs y (suc k, less, is) = inr (k, omega arith, is)
-
-pub contains-none : {X : Type 0} (y : X) → Contains [] y → ⊥
-contains-none y (k, less, is) = omega arith
-
-pub contains-first : {X : Type 0} (x : X) (xs : List X) → Contains (x ∷ xs) x
-contains-first x xs = (0, omega arith, refl)
-
-pub all-holds : {X : Type 0} (P : X → Type 0) (xs : List X) (x : X) → AllByRecursion P xs → Contains xs x → P x
-all-holds P [] x all among = absurd (contains-none x among)
-all-holds P (y ∷ xs) x all among =
-    ⊎_elim (λ same. subst P same all.0) (λ later. all-holds P xs x all.1 later) (contains-cons y xs x among)
-
--- ---- rising places
-
-pub rising-append : (a b : List Task) → AreRising a → AreRising b
-    → ((t u : Task) → Contains a t → Contains b u → place_of t < limit_of u) → AreRising (a ++ b)
-rising-append [] b left right between = right
-rising-append (t ∷ a) b left right between = (
-  both (λ u. place_of t < limit_of u) a b left.0 (each (λ u. place_of t < limit_of u) b (λ u among. between t u (contains-first t a) among)),
-  rising-append a b left.1 right (λ x u among also. between x u (Contains-append_right (t ∷ []) a x among) also),
-)
-
-pub rising-left : (a b : List Task) → AreRising (a ++ b) → AreRising a
-rising-left [] b r = tt
-rising-left (t ∷ a) b r = (left_of (λ u. place_of t < limit_of u) a b r.0, rising-left a b r.1)
-
-pub rising-without : (a : List Task) (t : Task) (b : List Task) → AreRising (a ++ t ∷ b) → AreRising (a ++ b)
-rising-without [] t b r = r.1
-rising-without (x ∷ a) t b r = (
-  both (λ u. place_of x < limit_of u) a b
-      (left_of (λ u. place_of x < limit_of u) a (t ∷ b) r.0)
-      (right_of (λ u. place_of x < limit_of u) a (t ∷ b) r.0).1,
-  rising-without a t b r.1,
-)
-
-pub rising-last : (mid : List Task) (t u : Task) → AreRising (mid ++ t ∷ []) → Contains mid u → place_of u < limit_of t
-rising-last [] t u r among = absurd (contains-none u among)
-rising-last (x ∷ mid) t u r among =
-    ⊎_elim
-    (λ same. subst (λ (k : Task). place_of k < limit_of t) same (right_of (λ v. place_of x < limit_of v) mid (t ∷ []) r.0).0)
-    (λ later. rising-last mid t u r.1 later)
-    (contains-cons x mid u among)
-
-pub starts-push : (cs : List Component) (x : Component) → StartRising cs → ((c : Component) → Contains cs c → c.start < x.start)
-    → StartRising (cs ++ x ∷ [])
-starts-push [] x r less = (tt, tt)
-starts-push (c ∷ cs) x r less = (
-  both (λ later. c.start < later.start) cs (x ∷ []) r.0 (less c (contains-first c cs), tt),
-  starts-push cs x r.1 (λ d among. less d (Contains-append_right (c ∷ []) cs d among)),
-)
-
-pub starts-left : (a b : List Component) → StartRising (a ++ b) → StartRising a
-starts-left [] b r = tt
-starts-left (c ∷ a) b r = (left_of (λ later. c.start < later.start) a b r.0, starts-left a b r.1)
-
-pub starts-last : (front : List Component) (x : Component) → StartRising (front ++ x ∷ []) → (c : Component) → Contains front c
-    → c.start < x.start
-starts-last [] x r c among = absurd (contains-none c among)
-starts-last (d ∷ front) x r c among =
-    ⊎_elim
-    (λ same. subst (λ (k : Component). k.start < x.start) same (right_of (λ later. d.start < later.start) front (x ∷ []) r.0).0)
-    (λ later. starts-last front x r.1 c later)
-    (contains-cons d front c among)
+-- ---- the last task
 
 limit-small : (t : Task) → limit_of t ≤ place_of t + 1
 limit-small (Look p w) = omega arith
@@ -217,7 +150,8 @@ met-missing at f g path cs tasks n none missing sets w = record {
       (λ new. absurd (steps_none at m above (subst (λ (k : ℕ). at k ≡ None) new.0 missing) step))
       (λ old. let up = w.closed m above cyclic old step in (up.0, kept above (Done up.0) up.1))
       (sets-cases f g n (Done false) sets m (Done cyclic) is);
-  true_cycles = λ m is. ⊎_elim (λ new. absurd (cc new.1)) (λ old. w.true_cycles m old) (sets-cases f g n (Done false) sets m (Done true) is);
+  true_cycles = λ m is. ⊎_elim (λ new. absurd (cc new.1)) (λ old. w.true_cycles m old)
+      (sets-cases f g n (Done false) sets m (Done true) is);
   false_cycles = λ m is walk. ⊎_elim
       (λ new. walks_none at m m (subst (λ (k : ℕ). at k ≡ None) new.0 missing) walk)
       (λ old. w.false_cycles m old walk)
@@ -380,7 +314,7 @@ met-live at f g path cs tasks n supers none live sets all w = record {
 
     by_length : (k : ℕ) → length path ≡ k
         → (c : Component) × Contains (cs ++ record { start = length path; cyclic = false } ∷ []) c × (c.start ≡ 0)
-    by_length zero is = (record { start = length path; cyclic = false }, Contains-push cs (record { start = length path; cyclic = false }), is)
+    by_length zero is = (last, Contains-push cs last, is)
     by_length (suc k) is =
         let old = w.first (omega (arith, is)) in
         (old.0, Contains-append_left cs (record { start = length path; cyclic = false } ∷ []) old.0 old.1, old.2)
@@ -390,7 +324,7 @@ met-live at f g path cs tasks n supers none live sets all w = record {
     higher p above less up = record {
       stands = up.stands;
       is = at-left path (n ∷ []) up.stands above up.is;
-      where' = ⊎_elim
+      higher = ⊎_elim
           (λ later. inl later)
           (λ cycle. inr (record {
             component = cycle.component;
@@ -402,5 +336,5 @@ met-live at f g path cs tasks n supers none live sets all w = record {
                 (λ same. let e : length path ≡ c.start = ap (λ (k : Component). k.start) same in omega arith)
                 (Contains-push_cases cs last c among);
           }))
-          up.where';
+          up.higher;
     }

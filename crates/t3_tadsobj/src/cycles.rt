@@ -4,8 +4,8 @@ ghost use Rattle.std.specs.List.{AllByRecursion};
 ghost use Rattle.indexmap.specs.IndexMap.{get, Updates};
 ghost use Rattle.t3_tadsobj.specs.Order.{IsAncestor};
 ghost use Rattle.t3_tadsobj.specs.Cycles.{IsFirstCyclic};
-ghost use Rattle.t3_tadsobj.specs.Inner.Walking.{mark_of, path_of, components_of, tasks_of, IsMerged, IsFinished, IsLeft};
-ghost use Rattle.t3_tadsobj.specs.Inner.Walks.{IsAtRest};
+ghost use Rattle.t3_tadsobj.specs.Inner.ComponentSteps.{mark_of, path_of, components_of, tasks_of, IsMerged, IsFinished, IsLeft};
+ghost use Rattle.t3_tadsobj.specs.Inner.ComponentWalk.{IsAtRest};
 ghost use Rattle.t3_tadsobj.specs.declared.cycles.Task.TheVariants.{Look};
 
 use crate::order::Supers;
@@ -19,7 +19,7 @@ type Marks = IndexMap<u32, Mark, BuildHasherDefault<DefaultHasher>>;
 /// What is known of a number that was met.
 #[derive(Clone, Copy)]
 enum Mark {
-    /// It stands at this place of the path, since it has ancestors that are still to be looked at.
+    /// It stands at this place of the path, since not all its ancestors were looked at.
     Open(usize),
     /// Its ancestors were all looked at. It is its own ancestor, or not.
     Done(bool),
@@ -36,7 +36,8 @@ struct Component {
 /// What is still to be done of a walk.
 #[derive(Clone, Copy)]
 enum Task {
-    /// The number at this place of the path has this superclass, which is to be looked at.
+    /// The number at this place of the path has this superclass, which is to be looked at. Only the proof
+    /// reads the place.
     Look(usize, u32),
     /// The superclasses of the number at this place were looked at.
     Leave(usize),

@@ -9,8 +9,8 @@
 //! ```
 //!
 //! [`linear_order`] takes any view of objects that answers their superclasses ([`Supers`]), as long as no
-//! walk over superclasses comes back. [`order_along_chain`] is the law by which a search along single
-//! superclasses needs no list.
+//! walk over superclasses comes back; [`first_cyclic`] tells where one does. [`order_along_chain`] is the
+//! law by which a search along single superclasses needs no list.
 #![tactic(auto)]
 
 #[cfg(test)]

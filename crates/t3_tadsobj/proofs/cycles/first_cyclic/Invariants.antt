@@ -1,7 +1,7 @@
 use Rattle.std.proofs.Common.{nat_eq, take}
 use Rattle.indexmap.specs.IndexMap.{get}
 use Rattle.t3_tadsobj.specs.Cycles.{HasNoCyclic}
-use Rattle.t3_tadsobj.specs.Inner.Walks.{IsAtRest}
+use Rattle.t3_tadsobj.specs.Inner.ComponentWalk.{IsAtRest}
 use Rattle.t3_tadsobj.proofs.cycles.first_cyclic.Given as goal
 
 abbrev pub invariant-loop-number : goal.invariant-loop-number

@@ -1,7 +1,7 @@
 use Rattle.std.proofs.Common.{◌+◌, length, nat_eq}
 use Rattle.std.specs.Prelude.{IsSome}
 use Rattle.indexmap.specs.IndexMap.{get}
-use Rattle.t3_tadsobj.specs.Inner.Walks.{IsWalking}
+use Rattle.t3_tadsobj.specs.Inner.ComponentWalk.{IsWalking}
 use Rattle.t3_tadsobj.proofs.CycleRests.{left}
 use Rattle.t3_tadsobj.proofs.cycles.visit.Given as goal
 

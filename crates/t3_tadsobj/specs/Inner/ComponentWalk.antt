@@ -6,7 +6,7 @@ use Rattle.t3_tadsobj.specs.declared.cycles.Mark.TheVariants.{Open, Done}
 use Rattle.t3_tadsobj.specs.declared.cycles.Task.{Task}
 use Rattle.t3_tadsobj.specs.declared.cycles.Task.TheVariants.{Look, Leave}
 use Rattle.t3_tadsobj.specs.declared.cycles.Component.{Component}
-use Rattle.t3_tadsobj.specs.Inner.Walking.{Marked}
+use Rattle.t3_tadsobj.specs.Inner.ComponentSteps.{Marked}
 
 -- the number stands at this place of the path
 abbrev pub IsAt : List ℕ → ℕ → ℕ → Type 0
@@ -28,7 +28,7 @@ pub record IsInCycle (components : List Component) (low high : ℕ) : Type 0 whe
 pub record IsAbove (path : List ℕ) (components : List Component) (place above : ℕ) : Type 0 where
   pub stands : ℕ
   pub is : IsAt path stands above
-  pub where' : (place < stands) ⊎ IsInCycle components stands place
+  pub higher : (place < stands) ⊎ IsInCycle components stands place
 
 -- the place of a task's number
 abbrev pub place_of : Task → ℕ

@@ -34,12 +34,12 @@ tasks_of place (Some supers) = Leave place ∷ map (Look place) supers
 -- the components that start above a place and the one below them become one, which is cyclic
 pub record IsMerged (place : ℕ) (old new : List Component) : Type 0 where
   pub front : List Component
-  pub at : Component
-  pub above : List Component
-  pub were : old ≡ (front ++ at ∷ []) ++ above
-  pub are : new ≡ front ++ record { start = at.start; cyclic = true } ∷ []
-  pub starts : at.start ≤ place
-  pub later : AllByRecursion (λ c. place < c.start) above
+  pub base : Component
+  pub popped : List Component
+  pub were : old ≡ (front ++ base ∷ []) ++ popped
+  pub are : new ≡ front ++ record { start = base.start; cyclic = true } ∷ []
+  pub starts : base.start ≤ place
+  pub later : AllByRecursion (λ c. place < c.start) popped
 
 -- the numbers of a component are taken off the path, and each is marked as done
 pub record IsFinished (component : Component) (path new_path : List ℕ) (old new : Marked) : Type 0 where
