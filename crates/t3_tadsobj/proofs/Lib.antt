@@ -5,3 +5,8 @@ pub mod OrderClosed
 pub mod OrderVisits
 pub mod OrderChains
 pub mod OrderRising
+pub mod CycleLists
+pub mod CycleSteps
+pub mod CycleMerges
+pub mod CycleEnds
+pub mod CycleRests

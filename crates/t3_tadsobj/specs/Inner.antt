@@ -3,3 +3,7 @@ pub mod Ordered
 pub mod Visits
 pub mod Rising
 pub mod RisingLaw
+pub mod ComponentSteps
+pub mod ComponentWalk
+pub mod Listed
+pub mod ListedLaw

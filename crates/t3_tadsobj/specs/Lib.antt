@@ -1,3 +1,4 @@
 pub mod Object
 pub mod Order
+pub mod Cycles
 pub mod Inner

@@ -9,10 +9,13 @@
 //! ```
 //!
 //! [`linear_order`] takes any view of objects that answers their superclasses ([`Supers`]), as long as no
-//! walk over superclasses comes back. [`order_along_chain`] is the law by which a search along single
-//! superclasses needs no list.
+//! walk over superclasses comes back; [`first_cyclic`] tells where one does. [`order_along_chain`] is the
+//! law by which a search along single superclasses needs no list.
 #![tactic(auto)]
 
+#[cfg(test)]
+mod cycle_tests;
+mod cycles;
 mod object;
 mod order;
 #[cfg(test)]
@@ -21,6 +24,7 @@ mod props;
 #[cfg(test)]
 mod tests;
 
+pub use cycles::first_cyclic;
 pub use object::TadsObject;
 pub use order::{Supers, linear_order, one_order, order_along_chain, preorder_list};
 pub use props::{PropValue, Props};

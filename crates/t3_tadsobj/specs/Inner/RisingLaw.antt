@@ -7,7 +7,7 @@ use Rattle.std.proofs.lemmas.Option.{slice_get_past}
 use Rattle.std.proofs.lemmas.Bool.{cases_eq, cases_lt, false≢true}
 use Rattle.t3_tadsobj.specs.Inner.Rising.{rising_at, below}
 
-has_below : (k n : ℕ) → n < k → Contains (below k) n
+pub has_below : (k n : ℕ) → n < k → Contains (below k) n
 has_below zero n less = absurd (omega arith)
 has_below (suc k) n less =
     ⊎_elim
