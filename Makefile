@@ -20,6 +20,12 @@ build/t3_page: $(SOURCES)
 	cd crates/t3_page && rm -f out/t3_page && { rt run < stdin || true; } && test -x out/t3_page
 	cp crates/t3_page/out/t3_page $@
 
+# The program that `bench/store` and `bench/undo` time.
+build/t3_store_bench: $(SOURCES)
+	mkdir -p build
+	cd crates/t3_store_bench && rm -f out/t3_store_bench && { rt run -- objects 1 || true; } && test -x out/t3_store_bench
+	cp crates/t3_store_bench/out/t3_store_bench $@
+
 # A first look, within a minute: built once, without its proofs, to assemble a source and to run the image of it.
 demo: examples/answer.t3
 	@echo 'This build is not proved: make proves the program and builds it.'
@@ -36,13 +42,15 @@ examples/answer.t3: examples/make.sh
 test:
 	.ci/run
 
-bench: build/t3 build/t3_page
+bench: build/t3 build/t3_page build/t3_store_bench
 	bench/asm
 	bench/check
 	bench/page
 	bench/pools
 	bench/rewrite
 	bench/run
+	bench/store
+	bench/undo
 
 install: build/t3
 	install -d "$(DESTDIR)$(PREFIX)/bin" "$(DESTDIR)$(PREFIX)/share/man/man1"

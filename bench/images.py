@@ -50,3 +50,9 @@ def against_sha256sum(words, wanted, name, folder):
     print(f"sha256sum       {min(peers):.3f} s")
     print(f"time ratio      {min(ours) / min(peers):.3f}")
     print(f"memory ratio    {peak / size:.3f}")
+
+
+def store_bench(*words):
+    """The seconds, the peak memory in bytes and the output of `t3_store_bench`, the fastest of three runs."""
+    program = os.path.join(TOP, "build", "t3_store_bench")
+    return min(timed([program, *map(str, words)], TOP) for _ in range(3))

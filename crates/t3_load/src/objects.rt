@@ -70,6 +70,13 @@ impl ImageObjects {
         &self.objects
     }
 
+    /// Their numbers, in the same order.
+    pub(crate) fn numbers(&self) -> &[u32]
+        ensures { result.now ≡ object_numbers self.now }
+    {
+        self.numbers.as_slice()
+    }
+
     /// The objects themselves, in order.
     pub(crate) fn into_vec(self) -> Vec<ImageObject>
         ensures objects { result.items ≡ self }

@@ -9,8 +9,8 @@ ghost use Rattle.t3_load.specs.Inner.Deciding.{Decides};
 use crate::objects::{ImageObject, ImageObjects};
 use crate::refusal::LoadRefusal;
 use std::alloc::Global;
-use t3_store::{NewObject, is_own_ancestor};
-use t3_tadsobj::Supers;
+use t3_store::NewObject;
+use t3_tadsobj::{Supers, first_cyclic};
 
 /// Whether each superclass is there: rule 10.
 pub(crate) fn check_there(objects: &ImageObjects) -> Result<(), LoadRefusal>
@@ -30,12 +30,10 @@ pub(crate) fn check_acyclic(alloc: Global, objects: &ImageObjects) -> Result<(),
     ensures acyclic { OnOk result (IsAcyclic (supers_by objects.now)) }
     ensures decides { (blocks : List AnyBlock) → AreObjectsIn blocks objects.now → Decides blocks 11 12 result }
 {
-    for object in objects.as_slice() {
-        if is_own_ancestor(alloc, objects, object.number)? {
-            return Err(LoadRefusal::SuperCycle(object.number));
-        }
+    match first_cyclic(alloc, objects, objects.numbers())? {
+        Some(number) => Err(LoadRefusal::SuperCycle(number)),
+        None => Ok(()),
     }
-    Ok(())
 }
 
 /// Whether persistent objects have persistent superclasses: rule 12.

@@ -37,7 +37,7 @@ fn has_missing<S: Supers>(objects: &S, numbers: &[u32]) -> bool
 }
 
 /// Whether the object is its own ancestor. Each of its ancestors is visited once, on a stack of the heap.
-pub fn is_own_ancestor<S: Supers>(
+pub(crate) fn is_own_ancestor<S: Supers>(
     alloc: Global,
     objects: &S,
     number: u32,

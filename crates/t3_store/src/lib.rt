@@ -42,7 +42,7 @@ mod tests;
 mod unit_rows;
 mod writing;
 
-pub use broken::{Broken, is_own_ancestor};
+pub use broken::Broken;
 pub use kind::Kind;
 pub use limits::{StoreLimits, StoreRefusal};
 pub use new_object::NewObject;

@@ -6,7 +6,7 @@
 //! overwrite N K    N tads-objects with a property, which is then set K times, of one object after the other
 //! table N K        a table of N keys, of which each is found, taken away and set again, K times
 //! savepoint N K    N tads-objects, and K savepoints with nothing behind them
-//! undo N K         N tads-objects, a savepoint, K changes and an undo
+//! undo N K R       N tads-objects, and R times a savepoint, K changes and an undo
 //! worlds           32 vectors of 65,535 elements, 1,024 savepoints, and as many undos
 //! ```
 #![tactic(auto)]
@@ -30,12 +30,13 @@ fn carry_out(rt: &HostRuntime) -> io::Result<()> {
     let name = words.next();
     let count = number(words.next());
     let turns = number(words.next());
+    let rounds = number(words.next());
     let stands = match name.as_deref() {
         Some("objects") => runs::objects(rt.alloc(), count),
         Some("overwrite") => runs::overwrite(rt.alloc(), count, turns),
         Some("table") => runs::table(rt.alloc(), count, turns),
         Some("savepoint") => runs::savepoint(rt.alloc(), count, turns),
-        Some("undo") => runs::undo(rt.alloc(), count, turns),
+        Some("undo") => runs::undo(rt.alloc(), count, turns, rounds),
         Some("worlds") => runs::worlds(rt.alloc()),
         _ => Err(runs::Failure),
     };

@@ -130,13 +130,18 @@ pub(crate) fn savepoint(alloc: Global, count: u32, turns: u32) -> Result<Stands,
     Ok(Stands::of(&store))
 }
 
-/// A savepoint, so many changes, and an undo.
-pub(crate) fn undo(alloc: Global, count: u32, turns: u32) -> Result<Stands, Failure> {
+/// So many rounds, each of a savepoint, so many changes, and an undo.
+pub(crate) fn undo(
+    alloc: Global,
+    count: u32,
+    changes: u32,
+    rounds: u32,
+) -> Result<Stands, Failure> {
     let mut store = with_props(alloc, count)?;
-    objects::savepoint(&mut store)?;
-    change(&mut store, count, turns)?;
-    if !store.undo() {
-        return Err(Failure);
+    for _round in 0..rounds {
+        objects::savepoint(&mut store)?;
+        change(&mut store, count, changes)?;
+        undo_some(&mut store, 1)?;
     }
     Ok(Stands::of(&store))
 }

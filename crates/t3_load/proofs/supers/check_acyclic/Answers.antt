@@ -1,22 +1,24 @@
-use Rattle.std.proofs.Common.{inr, arith}
-use Rattle.t3_load.proofs.SuperRules.{cycle_decides, acyclic_kept, all_acyclic, none_own}
+use Rattle.std.proofs.Common.{None, Some, subst, inr}
+use Rattle.t3_tadsobj.specs.Cycles.{IsFirstCyclic}
+use Rattle.t3_load.specs.ImageObjects.{supers_by}
+use Rattle.t3_load.proofs.SuperRules.{cycle_decides, acyclic_kept, all_acyclic}
 use Rattle.t3_load.proofs.supers.check_acyclic.Goals as goal
 
-pub returns-then-branch-clause-decides : goal.returns-then-branch-clause-decides
-returns-then-branch-clause-decides c = λ blocks are.
+pub returns-in-Some-clause-decides : goal.returns-in-Some-clause-decides
+returns-in-Some-clause-decides c = λ blocks are.
     inr
-    (cycle_decides blocks c.args.objects.now c.as_slice-object-items.result.now c.loop-object.object-index c.object-item.result
-    c.as_slice-object-items.ensures.objects c.loop-object-test.true c.object-item.is c.loop-object.invariant
-    (c.in_ok-is_own_ancestor.ensures.0 c.if-branch.true) are)
+    (cycle_decides blocks c.args.objects.now c.in-Some.number
+    (subst (λ ns. IsFirstCyclic (supers_by c.args.objects.now) ns (Some c.in-Some.number)) c.numbers.ensures
+    (subst (IsFirstCyclic (supers_by c.args.objects.now) c.numbers.result.now) c.in-Some.is c.in_ok-number.ensures)) are)
 
-pub returns-clause-acyclic : goal.returns-clause-acyclic
-returns-clause-acyclic c =
+pub returns-in-None-clause-acyclic : goal.returns-in-None-clause-acyclic
+returns-in-None-clause-acyclic c =
     all_acyclic c.args.objects.now
-    (none_own c.args.objects.now c.as_slice-object-items.result.now c.loop-object.object-index c.as_slice-object-items.ensures.objects
-    (omega (arith, c.loop-object-test.false)) c.loop-object.invariant)
+    (subst (λ ns. IsFirstCyclic (supers_by c.args.objects.now) ns None) c.numbers.ensures
+    (subst (IsFirstCyclic (supers_by c.args.objects.now) c.numbers.result.now) c.in-None.is c.in_ok-number.ensures))
 
-pub returns-clause-decides : goal.returns-clause-decides
-returns-clause-decides c = λ blocks are.
+pub returns-in-None-clause-decides : goal.returns-in-None-clause-decides
+returns-in-None-clause-decides c = λ blocks are.
     acyclic_kept blocks c.args.objects.now are
-    (none_own c.args.objects.now c.as_slice-object-items.result.now c.loop-object.object-index c.as_slice-object-items.ensures.objects
-    (omega (arith, c.loop-object-test.false)) c.loop-object.invariant)
+    (subst (λ ns. IsFirstCyclic (supers_by c.args.objects.now) ns None) c.numbers.ensures
+    (subst (IsFirstCyclic (supers_by c.args.objects.now) c.numbers.result.now) c.in-None.is c.in_ok-number.ensures))
