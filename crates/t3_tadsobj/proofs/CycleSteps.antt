@@ -12,8 +12,8 @@ use Rattle.t3_tadsobj.specs.declared.cycles.Task.TheVariants.{Look, Leave}
 use Rattle.t3_tadsobj.specs.declared.cycles.Component.{Component}
 use Rattle.t3_tadsobj.specs.Order.{SupersAt, IsSuperclass, IsWalk, IsAncestor}
 use Rattle.t3_tadsobj.specs.Inner.ComponentSteps.{Marked}
-use Rattle.t3_tadsobj.specs.Inner.ComponentWalk.{IsAt, IsAbove, StartRising, AreRising, place_of, limit_of, IsWalking}
-use Rattle.t3_tadsobj.proofs.OrderMembers.{Has-cases, both, left_of, right_of, each}
+use Rattle.t3_tadsobj.specs.Inner.ComponentWalk.{IsAt, IsAbove, AreRising, place_of, limit_of, IsWalking}
+use Rattle.t3_tadsobj.proofs.OrderMembers.{Has-cases}
 use Rattle.t3_tadsobj.proofs.OrderDepth.{further, nearer}
 use Rattle.t3_tadsobj.proofs.CycleLists.{at-cases, at-left, at-less, at-push, contains-cons, contains-first, contains-none, rising-append, rising-last, rising-without, starts-push}
 

@@ -1,5 +1,5 @@
 -- Objects for tests, with any superclasses.
-use Rattle.std.specs.Prelude.{ℕ, Option, List, slice_get}
+use Rattle.std.specs.Prelude.{ℕ, List, slice_get}
 use Rattle.std.specs.Global.{Vec}
 use Rattle.std.specs.Option.{option_map}
 use Rattle.t3_tadsobj.specs.Order.{SupersAt}
