@@ -40,6 +40,8 @@ mod table_cells;
 #[cfg(test)]
 mod tests;
 mod unit_rows;
+#[cfg(test)]
+mod unit_tests;
 mod writing;
 
 pub use broken::Broken;
