@@ -11,8 +11,8 @@ use Rattle.std.specs.Str.{bytes_eq}
 use Rattle.std.specs.Global.{Vec}
 use Rattle.t3_blocks.specs.declared.items.Symbol.{Symbol}
 use Rattle.t3_holder.specs.declared.holder.Raw.{Raw}
-use Rattle.t3_load.specs.Symbols.{raw_of}
-use Rattle.t3_load.specs.Inner.Listing.{listed, with_first, firsts, firsts_after}
+use Rattle.t3_load.specs.Inner.Listing.{listed}
+use Rattle.t3_load.specs.Symbols.{raw_of, with_first, firsts, firsts_after}
 
 -- a look-up by bytes finds the first symbol
 pub lookup_listed : (entries : List (Vec ℕ × Raw)) (name : List ℕ)

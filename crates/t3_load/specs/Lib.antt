@@ -6,6 +6,7 @@ pub mod Layout
 pub mod Entries
 pub mod Statics
 pub mod ImageObjects
+pub mod Unbuilt
 pub mod Rules
 pub mod Loading
 pub mod Inner

@@ -21,7 +21,7 @@ use Rattle.t3_load.specs.Entries.{entries}
 use Rattle.t3_load.specs.Names.{metas_in, names_in, symbols_in}
 use Rattle.t3_load.specs.Kinds.{kind_entry_of}
 use Rattle.t3_load.specs.Sets.{set_named}
-use Rattle.t3_load.specs.Symbols.{raw_of}
+use Rattle.t3_load.specs.Symbols.{raw_of, firsts}
 use Rattle.t3_load.specs.Statics.{statics_in}
 use Rattle.t3_load.specs.ImageObjects.{IsHalf}
 use Rattle.t3_load.specs.Rules.{Breaks, KeepsRules, AreObjectsIn, rule_of}
@@ -75,7 +75,8 @@ pub record LoadsAs (blocks : List PlacedBlock) (fingerprint : List ℕ) (limits 
   pub pools : program.pools ≡ pools_in blocks
   pub kinds : map kind_entry_of (metas_in blocks) ≡ map Some program.kinds
   pub sets : map set_named (names_in blocks) ≡ map Some program.sets
-  pub symbols : (name : List ℕ) → raw_of program.symbols name ≡ raw_of (symbols_in blocks) name
+  pub symbols : program.symbols ≡ firsts (symbols_in blocks)
+  pub named : (name : List ℕ) → raw_of program.symbols name ≡ raw_of (symbols_in blocks) name
   pub objects : List ImageObject
   pub are : AreObjectsIn blocks objects
   pub first : IsHalf false objects program.first
@@ -86,5 +87,5 @@ pub record LoadsAs (blocks : List PlacedBlock) (fingerprint : List ℕ) (limits 
 
 -- the program of an image that keeps all rules, or the first rule that it breaks; memory may always be wanting
 abbrev pub Loads : List PlacedBlock → List ℕ → StoreLimits → Result ProgramValue LoadRefusal → Type 0
-Loads blocks fingerprint limits (Ok program) = KeepsRules blocks limits 1 14 × LoadsAs blocks fingerprint limits program
+Loads blocks fingerprint limits (Ok program) = KeepsRules blocks limits 1 15 × LoadsAs blocks fingerprint limits program
 Loads blocks fingerprint limits (Err why) = (why ≡ NoMemory) ⊎ (Breaks blocks limits why × KeepsRules blocks limits 1 (rule_of why))

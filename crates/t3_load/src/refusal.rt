@@ -47,6 +47,9 @@ pub enum LoadRefusal {
     /// The objects together are more than the limits say, or their units are.
     #[error("the store is full")]
     Full,
+    /// The image wants what the machine can't do yet.
+    #[error("not built yet")]
+    Unbuilt,
     /// An allocation was refused.
     #[error("out of memory")]
     NoMemory,

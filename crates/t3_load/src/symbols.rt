@@ -1,8 +1,8 @@
 //! The symbols of an image.
 ghost use Rattle.std.specs.Prelude.{◌≡◌, ℕ, List, IfOk, OnOk, option_map};
 ghost use Rattle.t3_load.specs.Names.{symbols_of, symbols_in};
-ghost use Rattle.t3_load.specs.Symbols.{raw_of};
-ghost use Rattle.t3_load.specs.Inner.Listing.{listed, with_first, firsts, firsts_after};
+ghost use Rattle.t3_load.specs.Symbols.{raw_of, with_first, firsts, firsts_after};
+ghost use Rattle.t3_load.specs.Inner.Listing.{listed};
 
 use indexmap::IndexMap;
 use std::alloc::Global;
@@ -33,7 +33,8 @@ impl Model for SymbolTable {
 impl SymbolTable {
     /// The symbols of all `SYMD` blocks. Of those with one name the first counts.
     pub(crate) fn of(alloc: Global, image: &Image) -> Result<SymbolTable, NoMemory>
-        ensures { IfOk result (λ table. (name : List ℕ)
+        ensures table { IfOk result (λ table. table ≡ firsts (symbols_in image.now.blocks)) }
+        ensures named { IfOk result (λ table. (name : List ℕ)
             → raw_of table name ≡ raw_of (symbols_in image.now.blocks) name) }
     {
         Ok(SymbolTable {

@@ -1,12 +1,11 @@
 -- What the functions answer that gather lists from blocks.
-use Rattle.std.specs.Prelude.{◌≡◌, ℕ, List, [], ◌∷◌, ◌++◌, Option, Some, Result, Ok, Err, length, map, fold, is_some, if◌then◌else◌}
+use Rattle.std.specs.Prelude.{◌≡◌, ℕ, List, [], ◌++◌, Option, Some, Result, Ok, Err, length, map}
 use Rattle.std.specs.Global.{Vec}
 use Rattle.t3_blocks.specs.declared.items.Symbol.{Symbol}
 use Rattle.t3_holder.specs.declared.holder.Raw.{Raw}
 use Rattle.t3_load.specs.declared.refusal.NameRefusal.{NameRefusal}
 use Rattle.t3_load.specs.declared.refusal.NameRefusal.TheVariants.{Unknown, NoMemory}
 use Rattle.t3_load.specs.Names.{unknown_from}
-use Rattle.t3_load.specs.Symbols.{raw_of}
 
 -- what items mean comes behind what is there; or the index of the first that means nothing, counted from what was there
 abbrev pub Appends : {Item Entry : Type 0} → (Item → Option Entry) → List Item → List Entry → List Entry
@@ -18,14 +17,3 @@ Appends meaning items old new (Err NoMemory) = Unit {0}
 -- the symbols of a map from names
 abbrev pub listed : List (Vec ℕ × Raw) → List Symbol
 listed entries = map (λ entry. record { raw = entry.1; name = entry.0.items }) entries
-
--- symbols with a further one, if its name isn't there
-abbrev pub with_first : List Symbol → Symbol → List Symbol
-with_first symbols symbol = if is_some (raw_of symbols symbol.name) then symbols else symbols ++ symbol ∷ []
-
--- symbols with further ones, of each name the first
-abbrev pub firsts_after : List Symbol → List Symbol → List Symbol
-firsts_after symbols more = fold with_first symbols more
-
-abbrev pub firsts : List Symbol → List Symbol
-firsts symbols = firsts_after [] symbols

@@ -1,5 +1,6 @@
 use Rattle.std.proofs.Common.{◌≡◌, drop}
-use Rattle.t3_load.specs.Inner.Listing.{listed, firsts_after}
+use Rattle.t3_load.specs.Inner.Listing.{listed}
+use Rattle.t3_load.specs.Symbols.{firsts_after}
 use Rattle.t3_load.proofs.symbols.add_symbols.Given as goal
 
 -- what is left is still to be added

@@ -1,6 +1,7 @@
 use Rattle.std.proofs.Common.{◌≡◌, drop}
 use Rattle.t3_load.specs.Names.{symbols_in}
-use Rattle.t3_load.specs.Inner.Listing.{listed, firsts, firsts_after}
+use Rattle.t3_load.specs.Inner.Listing.{listed}
+use Rattle.t3_load.specs.Symbols.{firsts, firsts_after}
 use Rattle.t3_load.proofs.symbols.named.Given as goal
 
 -- what is left is still to be added
