@@ -11,6 +11,7 @@
 //! ```
 #![tactic(auto)]
 
+mod basis;
 mod entry;
 mod halves;
 mod kinds;
@@ -31,6 +32,7 @@ mod symbols;
 mod test_images;
 #[cfg(test)]
 mod tests;
+mod unbuilt;
 
 pub use kinds::{KindEntry, Kinds, MetaKind, PropNumbers};
 pub use program::{Program, load};

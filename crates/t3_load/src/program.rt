@@ -1,26 +1,19 @@
 //! Makes a program of an image.
-ghost use Rattle.std.specs.Prelude.{◌≡◌, IfOk};
-ghost use Rattle.t3_pools.specs.Pool.{pools_in};
 ghost use Rattle.t3_store.specs.Store.{AreLimits};
-ghost use Rattle.t3_load.specs.Names.{IsTable, metas_in, names_in};
-ghost use Rattle.t3_load.specs.Kinds.{kind_entry_of};
-ghost use Rattle.t3_load.specs.Sets.{set_named};
 ghost use Rattle.t3_load.specs.Loading.{Loads};
-ghost use Rattle.t3_load.specs.Inner.Deciding.{Decides};
-ghost use Rattle.std.specs.Prelude.{map, Some};
 
-use crate::entry::entry_method;
 use crate::halves::{Halves, halve, is_past, next_number};
 use crate::kinds::Kinds;
-use crate::objects::objects;
-use crate::refusal::{LoadRefusal, NameRefusal};
+use crate::refusal::LoadRefusal;
 use crate::sets::Sets;
-use crate::supers::{check_acyclic, check_persistent, check_there};
+use crate::supers::checked_objects;
 use crate::symbols::SymbolTable;
+use crate::basis::{Basis, basis_of};
+use crate::unbuilt::is_unbuilt;
 use std::alloc::Global;
 use std::marker::Model;
 use t3_image_read::Image;
-use t3_pools::{PoolRefusal, Pools};
+use t3_pools::Pools;
 use t3_store::{Persistent, StoreLimits};
 
 /// What is run of an image. A store can always be begun with its objects.
@@ -82,17 +75,18 @@ pub fn load(
     requires { AreLimits limits }
     ensures { Loads image.now.blocks fingerprint limits result }
 {
-    let blocks = &image.blocks.0;
-    let entry = entry_method(blocks)?;
-    let pools = pools(alloc, image)?;
-    let kinds = kinds(alloc, image)?;
-    let sets = sets(alloc, image)?;
-    let objects = objects(alloc, blocks, &kinds)?;
-    check_there(&objects)?;
-    check_acyclic(alloc, &objects)?;
-    check_persistent(&objects)?;
+    let Basis {
+        entry,
+        pools,
+        kinds,
+        sets,
+    } = basis_of(alloc, image)?;
+    let objects = checked_objects(alloc, image, &kinds)?;
     if is_past(objects.as_slice(), limits) {
         return Err(LoadRefusal::Full);
+    }
+    if is_unbuilt(objects.as_slice(), &kinds.0, &pools, entry) {
+        return Err(LoadRefusal::Unbuilt);
     }
     let symbols = SymbolTable::of(alloc, image)?;
     let next = next_number(objects.as_slice());
@@ -109,40 +103,4 @@ pub fn load(
         fingerprint,
         limits,
     })
-}
-
-/// The pools: rule 4.
-fn pools(alloc: Global, image: &Image) -> Result<Pools, LoadRefusal>
-    ensures pools { IfOk result (λ pools. pools ≡ pools_in image.now.blocks) }
-    ensures decides { Decides image.now.blocks 4 5 result }
-{
-    match Pools::build(alloc, image) {
-        Ok(pools) => Ok(pools),
-        Err(PoolRefusal::NoMemory) => Err(LoadRefusal::NoMemory),
-        Err(why) => Err(LoadRefusal::Pool(why)),
-    }
-}
-
-/// The metaclasses: rule 5.
-fn kinds(alloc: Global, image: &Image) -> Result<Kinds, LoadRefusal>
-    ensures kinds { IfOk result (λ kinds. map kind_entry_of (metas_in image.now.blocks) ≡ map Some kinds) }
-    ensures decides { Decides image.now.blocks 5 6 result }
-{
-    match Kinds::of(alloc, image) {
-        Ok(kinds) => Ok(kinds),
-        Err(NameRefusal::Unknown(index)) => Err(LoadRefusal::Metaclass(index)),
-        Err(NameRefusal::NoMemory) => Err(LoadRefusal::NoMemory),
-    }
-}
-
-/// The function sets: rule 6.
-fn sets(alloc: Global, image: &Image) -> Result<Sets, LoadRefusal>
-    ensures sets { IfOk result (λ sets. map set_named (names_in image.now.blocks) ≡ map Some sets) }
-    ensures decides { Decides image.now.blocks 6 7 result }
-{
-    match Sets::of(alloc, image) {
-        Ok(sets) => Ok(sets),
-        Err(NameRefusal::Unknown(index)) => Err(LoadRefusal::FunctionSet(index)),
-        Err(NameRefusal::NoMemory) => Err(LoadRefusal::NoMemory),
-    }
 }

@@ -1,19 +1,43 @@
 //! The rules on the superclasses of an image's objects.
-ghost use Rattle.std.specs.Prelude.{◌≡◌, List, None, OnOk};
+ghost use Rattle.std.specs.Prelude.{◌≡◌, List, Some, None, IfOk, OnOk, map};
 ghost use Rattle.t3_image_read.specs.declared.image.PlacedBlock.{PlacedBlock as AnyBlock};
 ghost use Rattle.t3_load.specs.ImageObjects.{supers_by, superclasses, lacks_super, is_transient_at, has_transient_super};
 ghost use Rattle.t3_store.specs.Whole.{IsAcyclic};
 ghost use Rattle.t3_load.specs.Rules.{AreObjectsIn, first_by};
+ghost use Rattle.t3_load.specs.Names.{metas_in};
+ghost use Rattle.t3_load.specs.Kinds.{kind_entry_of};
+ghost use Rattle.t3_load.specs.Inner.Halves.{AreMade, IsWhole};
 ghost use Rattle.t3_load.specs.Inner.Deciding.{Decides};
 
-use crate::objects::{ImageObject, ImageObjects};
+use crate::kinds::Kinds;
+use crate::objects::{ImageObject, ImageObjects, objects};
 use crate::refusal::LoadRefusal;
 use std::alloc::Global;
+use t3_image_read::Image;
 use t3_store::NewObject;
 use t3_tadsobj::{Supers, first_cyclic};
 
+/// The objects of an image: rules 7 to 12.
+pub(crate) fn checked_objects(
+    alloc: Global,
+    image: &Image,
+    kinds: &Kinds,
+) -> Result<ImageObjects, LoadRefusal>
+    requires { map kind_entry_of (metas_in image.now.blocks) ≡ map Some kinds.now }
+    ensures objects { IfOk result (AreObjectsIn image.now.blocks) }
+    ensures made { IfOk result AreMade }
+    ensures whole { IfOk result IsWhole }
+    ensures decides { Decides image.now.blocks 7 13 result }
+{
+    let objects = objects(alloc, &image.blocks.0, kinds)?;
+    check_there(&objects)?;
+    check_acyclic(alloc, &objects)?;
+    check_persistent(&objects)?;
+    Ok(objects)
+}
+
 /// Whether each superclass is there: rule 10.
-pub(crate) fn check_there(objects: &ImageObjects) -> Result<(), LoadRefusal>
+fn check_there(objects: &ImageObjects) -> Result<(), LoadRefusal>
     ensures there { OnOk result (first_by (lacks_super objects.now) objects.now ≡ None) }
     ensures decides { (blocks : List AnyBlock) → AreObjectsIn blocks objects.now → Decides blocks 10 11 result }
 {
@@ -26,7 +50,7 @@ pub(crate) fn check_there(objects: &ImageObjects) -> Result<(), LoadRefusal>
 }
 
 /// Whether no object is its own ancestor: rule 11.
-pub(crate) fn check_acyclic(alloc: Global, objects: &ImageObjects) -> Result<(), LoadRefusal>
+fn check_acyclic(alloc: Global, objects: &ImageObjects) -> Result<(), LoadRefusal>
     ensures acyclic { OnOk result (IsAcyclic (supers_by objects.now)) }
     ensures decides { (blocks : List AnyBlock) → AreObjectsIn blocks objects.now → Decides blocks 11 12 result }
 {
@@ -37,7 +61,7 @@ pub(crate) fn check_acyclic(alloc: Global, objects: &ImageObjects) -> Result<(),
 }
 
 /// Whether persistent objects have persistent superclasses: rule 12.
-pub(crate) fn check_persistent(objects: &ImageObjects) -> Result<(), LoadRefusal>
+fn check_persistent(objects: &ImageObjects) -> Result<(), LoadRefusal>
     ensures persistent { OnOk result (first_by (has_transient_super objects.now) objects.now ≡ None) }
     ensures decides { (blocks : List AnyBlock) → AreObjectsIn blocks objects.now → Decides blocks 12 13 result }
 {

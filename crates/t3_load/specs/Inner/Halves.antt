@@ -1,5 +1,5 @@
 -- What is known of the objects of an image that keeps its rules, and of the halves that are made of them.
-use Rattle.std.specs.Prelude.{◌≡◌, ◌+◌, ◌<◌, ◌^◌, true, false, List, length}
+use Rattle.std.specs.Prelude.{◌≡◌, ◌+◌, ◌<◌, ◌^◌, true, false, None, List, length}
 use Rattle.std.specs.List.{All}
 use Rattle.std.specs.FinMap.{len}
 use Rattle.t3_store.specs.Value.{Objects, units_in, HasFittingLength}
@@ -8,7 +8,9 @@ use Rattle.t3_store.specs.declared.limits.StoreRefusal.TheVariants as store
 use Rattle.t3_load.specs.declared.refusal.LoadRefusal.{LoadRefusal}
 use Rattle.t3_load.specs.declared.refusal.LoadRefusal.TheVariants as refusals
 use Rattle.t3_load.specs.declared.objects.ImageObject.{ImageObject}
-use Rattle.t3_load.specs.ImageObjects.{value_of, units_together, IsHalf}
+use Rattle.t3_store.specs.Whole.{IsAcyclic}
+use Rattle.t3_load.specs.Rules.{first_by}
+use Rattle.t3_load.specs.ImageObjects.{value_of, units_together, IsHalf, supers_by, lacks_super, has_transient_super}
 
 -- an object has a number that a persistent one may have, and no more bytes or elements than an object may have
 pub record IsMade (object : ImageObject) : Type 0 where
@@ -18,6 +20,12 @@ pub record IsMade (object : ImageObject) : Type 0 where
 
 abbrev pub AreMade : List ImageObject → Type 0
 AreMade objects = All IsMade objects
+
+-- each has its superclasses among them, none is its own ancestor, and none that is persistent has a transient superclass
+pub record IsWhole (objects : List ImageObject) : Type 0 where
+  pub there : first_by (lacks_super objects) objects ≡ None
+  pub acyclic : IsAcyclic (supers_by objects)
+  pub persistent : first_by (has_transient_super objects) objects ≡ None
 
 -- the two halves of some objects, which have as many objects and units together
 pub record AreHalves (objects : List ImageObject) (first passing : Objects) : Type 0 where
