@@ -14,6 +14,7 @@
 mod entry;
 mod halves;
 mod kinds;
+mod laws;
 mod listing;
 #[cfg(test)]
 mod load_tests;
@@ -33,6 +34,7 @@ mod test_images;
 mod tests;
 
 pub use kinds::{KindEntry, Kinds, MetaKind, PropNumbers};
+pub use laws::one_answer;
 pub use program::{Program, load};
 pub use refusal::LoadRefusal;
 pub use sets::{SetKind, Sets};
