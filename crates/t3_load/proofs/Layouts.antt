@@ -120,7 +120,7 @@ vector_cut bytes rest allocated fits is none items begins =
 
 -- ---- tads-objects
 
-head_parts : (s p f : ℕ) (x : List ℕ)
+pub head_parts : (s p f : ℕ) (x : List ℕ)
     → tads_head s p f ++ x ≡ little_endian 2 s ++ (little_endian 2 p ++ (little_endian 2 f ++ x))
 head_parts s p f x =
     append_assoc (little_endian 2 s) (little_endian 2 p ++ little_endian 2 f) x

@@ -16,3 +16,10 @@ pub mod ByNumber
 pub mod Starting
 pub mod NameRules
 pub mod LoadSteps
+pub mod Decided
+pub mod DecidedPools
+pub mod DecidedCycles
+pub mod DecidedItems
+pub mod DecidedObjects
+pub mod OneAnswer
+pub mod SomeAnswer

@@ -85,21 +85,21 @@ as_vector (new.List items) bytes begins = absurd begins
 as_vector (new.Vector items) bytes begins = (items, refl, begins)
 as_vector new.Table bytes begins = absurd begins
 
-root_not : (object : NewObject) (bytes : List ℕ) → ¬ BeginsObject kinds.Root object bytes
+pub root_not : (object : NewObject) (bytes : List ℕ) → ¬ BeginsObject kinds.Root object bytes
 root_not (new.Tads supers class props) bytes begins = begins
 root_not (new.Text text) bytes begins = begins
 root_not (new.List items) bytes begins = begins
 root_not (new.Vector items) bytes begins = begins
 root_not new.Table bytes begins = begins
 
-collection_not : (object : NewObject) (bytes : List ℕ) → ¬ BeginsObject kinds.Collection object bytes
+pub collection_not : (object : NewObject) (bytes : List ℕ) → ¬ BeginsObject kinds.Collection object bytes
 collection_not (new.Tads supers class props) bytes begins = begins
 collection_not (new.Text text) bytes begins = begins
 collection_not (new.List items) bytes begins = begins
 collection_not (new.Vector items) bytes begins = begins
 collection_not new.Table bytes begins = begins
 
-table_not : (object : NewObject) (bytes : List ℕ) → ¬ BeginsObject kinds.Table object bytes
+pub table_not : (object : NewObject) (bytes : List ℕ) → ¬ BeginsObject kinds.Table object bytes
 table_not (new.Tads supers class props) bytes begins = begins
 table_not (new.Text text) bytes begins = begins
 table_not (new.List items) bytes begins = begins

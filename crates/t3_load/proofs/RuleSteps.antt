@@ -24,7 +24,7 @@ refusals =
 abbrev pub IsOfRule : ℕ → LoadRefusal → Type 0
 IsOfRule rule why = get_or refusals rule (λ _. ⊥) why
 
-is_of_rule : (why : LoadRefusal) → IsOfRule (rule_of why) why
+pub is_of_rule : (why : LoadRefusal) → IsOfRule (rule_of why) why
 is_of_rule NoEntry = refl
 is_of_rule TwoEntries = refl
 is_of_rule HeaderSizes = refl

@@ -129,7 +129,7 @@ acyclic_kept blocks objects are none limits =
     (subst (λ w. Breaks blocks limits w) of.1 broken) in
     none_first (IsOwnAncestor objects) objects (none_own objects objects none) first.0 first.2)
 
-first_step : (at : SupersAt) (n above : ℕ) (path : List ℕ) → IsWalk at n path above → IsSome (at n)
+pub first_step : (at : SupersAt) (n above : ℕ) (path : List ℕ) → IsWalk at n path above → IsSome (at n)
 first_step at n above [] step = ap is_some step.are
 first_step at n above (next ∷ path) walk = ap is_some walk.0.are
 

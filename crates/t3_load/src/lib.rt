@@ -15,6 +15,7 @@ mod basis;
 mod entry;
 mod halves;
 mod kinds;
+mod laws;
 mod listing;
 #[cfg(test)]
 mod load_tests;
@@ -35,6 +36,7 @@ mod tests;
 mod unbuilt;
 
 pub use kinds::{KindEntry, Kinds, MetaKind, PropNumbers};
+pub use laws::one_answer;
 pub use program::{Program, load};
 pub use refusal::LoadRefusal;
 pub use sets::{SetKind, Sets};
