@@ -23,3 +23,4 @@ pub mod DecidedItems
 pub mod DecidedObjects
 pub mod OneAnswer
 pub mod SomeAnswer
+pub mod CodeBytes

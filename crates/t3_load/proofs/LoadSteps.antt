@@ -1,8 +1,9 @@
 -- How the rules that are kept one after the other make a program of an image, or its refusal.
-use Rattle.std.proofs.Common.{◌≡◌, ℕ, zero, suc, ◌<◌, ◌^◌, ◌⊎◌, Bool, true, false, List, [], ◌∷◌, Option, Result, Ok, Err, nat_eq, sym, ap, ◌∙◌, subst, inl, inr, arith}
-use Rattle.std.specs.Prelude.{IsTrue, None, Contains}
+use Rattle.std.proofs.Common.{◌≡◌, ℕ, zero, suc, ◌<◌, ◌^◌, ◌⊎◌, ◌||◌, Bool, true, false, List, [], ◌∷◌, Option, Some, Result, Ok, Err, nat_eq, nat_lt, length, map, refl, sym, ap, ◌∙◌, subst, inl, inr, arith}
+use Rattle.std.specs.Prelude.{IsTrue, None, Contains, option_map}
+use Rattle.std.proofs.lemmas.List.{length-map}
 use Rattle.std.specs.Result.{IsErrAnd}
-use Rattle.std.specs.List.{IsDistinct}
+use Rattle.std.specs.List.{IsDistinct, list_any}
 use Rattle.std.proofs.lemmas.List.Elements.{All-map}
 use Rattle.t3_image_read.specs.declared.image.PlacedBlock.{PlacedBlock}
 use Rattle.t3_store.specs.Value.{Objects}
@@ -14,6 +15,15 @@ use Rattle.t3_load.specs.declared.objects.ImageObject.{ImageObject}
 use Rattle.t3_load.specs.declared.kinds.MetaKind.{MetaKind}
 use Rattle.t3_load.specs.declared.refusal.LoadRefusal.{LoadRefusal}
 use Rattle.t3_load.specs.declared.refusal.LoadRefusal.TheVariants.{NoMemory}
+use Rattle.t3_blocks.specs.declared.items.Meta.{Meta}
+use Rattle.t3_blocks.specs.declared.items.PropEntry.{PropEntry}
+use Rattle.t3_pools.specs.Pool.{pool_in}
+use Rattle.t3_load.specs.declared.basis.Basis.{Basis}
+use Rattle.t3_load.specs.declared.kinds.KindEntry.{KindEntry}
+use Rattle.t3_load.specs.Entries.{entries}
+use Rattle.t3_load.specs.Kinds.{kind_named, kind_entry_of, numbers_of}
+use Rattle.t3_load.specs.Unbuilt.{has_methods, has_contents, is_later_method, is_unbuilt}
+use Rattle.t3_load.specs.Inner.Deciding.{IsBasis}
 use Rattle.t3_load.specs.Names.{metas_in}
 use Rattle.t3_load.specs.Statics.{StaticValue, statics_in, kind_at, AreObjectsOf}
 use Rattle.t3_load.specs.ImageObjects.{supers_by, lacks_super, has_transient_super, is_past, IsHalf, value_of}
@@ -50,6 +60,57 @@ room_kept blocks objects limits are fits =
     kept_one blocks limits 13 (λ why of broken.
     let past : IsTrue (is_past limits objects) =
     of_these blocks objects (λ os. IsTrue (is_past limits os)) are (subst (λ w. Breaks blocks limits w) of broken) in absurd cc)
+
+-- rule 14 is kept
+pub built_kept : (blocks : List PlacedBlock) (objects : List ImageObject) (limits : StoreLimits) → AreObjectsIn blocks objects
+    → is_unbuilt blocks objects ≡ false → KeepsRules blocks limits 14 15
+built_kept blocks objects limits are built =
+    kept_one blocks limits 14 (λ why of broken.
+    let unbuilt : IsTrue (is_unbuilt blocks objects) =
+    of_these blocks objects (λ os. IsTrue (is_unbuilt blocks os)) are (subst (λ w. Breaks blocks limits w) of broken) in absurd cc)
+
+-- a metaclass with methods is one with property numbers
+same_methods : (meta : Meta) (entry : KindEntry) → kind_entry_of meta ≡ Some entry → has_methods meta ≡ nat_lt 0 (length entry.props)
+same_methods meta entry is = by_kind (kind_named meta.name) refl
+  where
+    entry_by : MetaKind → KindEntry
+    entry_by kind = record { kind = kind; props = numbers_of meta.props }
+    by_kind : (kind : Option MetaKind) → kind_named meta.name ≡ kind → has_methods meta ≡ nat_lt 0 (length entry.props)
+    by_kind None none =
+        let clash : None ≡ Some entry = sym (ap (option_map entry_by) none) ∙ is in
+        absurd cc
+    by_kind (Some kind) named =
+        let same : Some (entry_by kind) ≡ Some entry = sym (ap (option_map entry_by) named) ∙ is in
+        let one : entry_by kind ≡ entry = cc in
+        let props : numbers_of meta.props ≡ entry.props = ap (λ (e : KindEntry). e.props) one in
+        let long : length (numbers_of meta.props) ≡ length meta.props = length-map meta.props (λ (p : PropEntry). p.number) in
+        ap (nat_lt 0) (sym long ∙ ap (λ (ns : List ℕ). length ns) props)
+
+any_methods : (metas : List Meta) (kinds : List KindEntry) → map kind_entry_of metas ≡ map Some kinds
+    → list_any has_methods metas ≡ list_any (λ kind. nat_lt 0 (length kind.props)) kinds
+any_methods [] [] are = refl
+any_methods [] (kind ∷ kinds) are = absurd cc
+any_methods (meta ∷ metas) [] are = absurd cc
+any_methods (meta ∷ metas) (kind ∷ kinds) are =
+    let first : kind_entry_of meta ≡ Some kind = cc in
+    let rest : map kind_entry_of metas ≡ map Some kinds = cc in
+    λ i. same_methods meta kind first i || any_methods metas kinds rest i
+
+-- what is asked of the objects, the metaclasses and the entry method that were found is asked of the image
+pub same_unbuilt : (blocks : List PlacedBlock) (basis : Basis) (objects : List ImageObject) → IsBasis blocks basis
+    → is_unbuilt blocks objects ≡ (list_any (λ object. has_contents object.object) objects
+    || list_any (λ kind. nat_lt 0 (length kind.props)) basis.kinds || is_later_method basis.pools.code basis.entry)
+same_unbuilt blocks basis objects is =
+    let methods = any_methods (metas_in blocks) basis.kinds is.kinds in
+    let entry : list_any (λ e. is_later_method (pool_in 1 blocks) e.code) (entries blocks) ≡ is_later_method (pool_in 1 blocks) basis.entry =
+    ap (list_any (λ e. is_later_method (pool_in 1 blocks) e.code)) is.entry ∙ or_false _ in
+    let code : pool_in 1 blocks ≡ basis.pools.code = sym (ap (λ p. p.code) is.pools) in
+    let method = entry ∙ ap (λ c. is_later_method c basis.entry) code in
+    λ i. list_any (λ object. has_contents object.object) objects || methods i || method i
+  where
+    or_false : (b : Bool) → (b || false) ≡ b
+    or_false true = refl
+    or_false false = refl
 
 -- each object of a half is one with which bytes begin
 sound : (kind : ℕ → Option MetaKind) (statics : List StaticValue) (objects : List ImageObject) → AreObjectsOf kind statics objects

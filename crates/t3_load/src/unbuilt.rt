@@ -1,5 +1,5 @@
 //! What an image may have that the machine can't do yet.
-ghost use Rattle.std.specs.Prelude.{◌≡◌, ◌||◌, ◌≤◌, ◌+◌, ◌^◌, IsTrue, nat_lt, length, is_some};
+ghost use Rattle.std.specs.Prelude.{◌≡◌, ◌||◌, ◌<◌, ◌≤◌, ◌+◌, ◌^◌, IsTrue, nat_lt, length, is_some};
 ghost use Rattle.std.specs.FinMap.{get};
 ghost use Rattle.std.specs.List.{list_any};
 ghost use Rattle.t3_pools.specs.Constants.{bytes_in};
@@ -10,6 +10,7 @@ use crate::objects::ImageObject;
 use t3_holder::Holder;
 use t3_pools::Pools;
 use t3_store::NewObject;
+use t3_tadsobj::PropValue;
 
 /// The number of the pool of code.
 const CODE: u8 = 1;
@@ -28,9 +29,19 @@ pub(crate) fn is_unbuilt(
         || list_any (λ kind. nat_lt 0 (length kind.props)) kinds.now
         || is_later_method_at pools.now.code entry) }
 {
+    have_contents(objects) || have_methods(kinds) || is_later_method(pools, entry)
+}
+
+fn have_contents(objects: &[ImageObject]) -> bool
+    ensures { result ≡ list_any (λ object. has_contents object.object) objects.now }
+{
     objects.iter().any(|object| has_contents(&object.object))
-        || kinds.iter().any(|kind| kind.props.0.len() > 0)
-        || is_later_method(pools, entry)
+}
+
+fn have_methods(kinds: &[KindEntry]) -> bool
+    ensures { result ≡ list_any (λ kind. nat_lt 0 (length kind.props)) kinds.now }
+{
+    kinds.iter().any(|kind| kind.props.0.len() > 0)
 }
 
 /// Whether it is a string, a list or a vector, or has a property that is a constant string or list.
@@ -38,9 +49,15 @@ fn has_contents(object: &NewObject) -> bool
     ensures { result ≡ has_contents object.now }
 {
     match object {
-        NewObject::Tads { props, .. } => props.0.iter().any(|prop| is_constant(prop.value)),
+        NewObject::Tads { props, .. } => have_constant(&props.0),
         NewObject::Text(_) | NewObject::List(_) | NewObject::Vector(_) | NewObject::Table => true,
     }
+}
+
+fn have_constant(props: &[PropValue]) -> bool
+    ensures { result ≡ list_any (λ prop. is_constant prop.value) props.now }
+{
+    props.iter().any(|prop| is_constant(prop.value))
 }
 
 fn is_constant(value: Holder) -> bool
@@ -73,11 +90,13 @@ fn has_bytes(pools: &Pools, address: u32, count: u8) -> bool
     ensures room { IsTrue result → 0 < count → address + count ≤ 2 ^ 31 }
 {
     let mut at = address;
-    for _ in 0..count {
+    let mut left = count;
+    while left > 0 {
         if pools.byte(CODE, at).is_none() {
             return false;
         }
         at += 1;
+        left -= 1;
     }
     true
 }

@@ -3,8 +3,9 @@ use Rattle.t3_load.specs.Symbols.{raw_of, firsts}
 use Rattle.t3_load.specs.Names.{symbols_in}
 use Rattle.t3_load.proofs.FirstSymbols.{raw_of-firsts}
 use Rattle.t3_load.proofs.symbols.SymbolTable.of.Goals as goal
+use Rattle.t3_load.proofs.symbols.SymbolTable.of.Goals.{In_ok-named}
 
-same : (c : goal.After-named) → c.deref.result.now ≡ c.args.image.now.blocks
+same : (c : In_ok-named) → c.deref.result.now ≡ c.args.image.now.blocks
 same c = cc (c.deref.ensures.value, c.image-inside.view_is, c.image.view_is)
 
 pub returns-clause-table : goal.returns-clause-table
