@@ -42,6 +42,8 @@ mod tests;
 mod unit_rows;
 #[cfg(test)]
 mod unit_tests;
+#[cfg(test)]
+mod whole_copies;
 mod writing;
 
 pub use broken::Broken;
