@@ -26,6 +26,8 @@
 #![tactic(auto)]
 
 mod broken;
+#[cfg(test)]
+mod broken_tests;
 mod entries;
 mod kind;
 mod limits;
