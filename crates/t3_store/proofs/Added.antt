@@ -1,8 +1,7 @@
 -- Objects with one more. Other crates use these lemmas.
-use Rattle.std.proofs.Common.{◌≡◌, ◌∙◌, ap, refl, ℕ, ◌+◌, Bool, true, false, cond, Option, None, Some, arith}
-use Rattle.std.specs.Ordering.{nat_cmp, eq_by_cmp}
+use Rattle.std.proofs.Common.{◌≡◌, ◌∙◌, ap, ℕ, ◌+◌, cond, None, Some}
 use Rattle.std.specs.Cmp.{nat_cmp_total}
-use Rattle.std.specs.FinMap.{FinMap, get, insert, len, empty, get-insert}
+use Rattle.std.specs.FinMap.{get, insert, len, empty, get-insert}
 use Rattle.t3_store.specs.Value.{Value, Objects, units_in, units_of}
 use Rattle.t3_store.proofs.MapValues.{units_in-new, units_in-empty}
 use Rattle.t3_store.proofs.Creating.{len-new, none-inserted}

@@ -1,15 +1,19 @@
 -- What is broken is found by rising number, and where nothing is, superclasses are whole. Other crates may use these.
 use Rattle.std.proofs.Common.{◌≡◌, ◌∙◌, ap, sym, subst, refl, ℕ, zero, suc, ◌<◌, ◌≤◌, true, ⊎_elim, List, [], ◌∷◌, Option, None, Some, true≢false, arith}
-use Rattle.std.specs.Prelude.{Contains, IsSome, is_some, option_and_then}
-use Rattle.std.specs.FinMap.{get}
+use Rattle.std.specs.Prelude.{Contains, IsSome, MatchOption, is_some, option_and_then}
+use Rattle.std.specs.FinMap.{get, keys}
 use Rattle.std.proofs.lemmas.Bool.{cases_lt}
+use Rattle.std.proofs.lemmas.List.Elements.{Contains-append_cases}
 use Rattle.t3_tadsobj.specs.Order.{SupersAt, IsWalk}
+use Rattle.t3_tadsobj.specs.Cycles.{IsFirstCyclic}
 use Rattle.t3_tadsobj.proofs.OrderMembers.{each}
 use Rattle.t3_store.specs.Value.{Objects, supers_of, IsNextAbove}
 use Rattle.t3_store.specs.Whole.{AreThere, IsWhole, supers_in}
 use Rattle.t3_store.specs.Broken.{LacksSuper, IsOwnAncestor, IsNever, IsLeast, IsFirstBroken}
 use Rattle.t3_store.specs.declared.broken.Broken.{Broken}
 use Rattle.t3_store.specs.declared.broken.Broken.TheVariants.{Missing, Cycle}
+use Rattle.t3_store.specs.Inner.Numbers.{has_number}
+use Rattle.t3_store.proofs.RowNumbers.{NumbersRise, keys-rise, from-on}
 use Rattle.t3_store.proofs.WholeWritten.{alike}
 
 -- what isn't there has no superclass
@@ -19,12 +23,12 @@ apart-none objects n none = ap (λ o. option_and_then supers_of o) none
 pub lacks-there : (at : SupersAt) (n : ℕ) → at n ≡ None → LacksSuper at n → ⊥
 lacks-there at n none lacks = absurd (cc (none, lacks.step.are))
 
-pub own-there : (at : SupersAt) (n : ℕ) → at n ≡ None → IsOwnAncestor at n → ⊥
-own-there at n none walk = first walk.0 n walk.1
+own-live : (at : SupersAt) (n : ℕ) → IsOwnAncestor at n → IsSome (at n)
+own-live at n walk = first walk.0 n walk.1
   where
-    first : (path : List ℕ) (above : ℕ) → IsWalk at n path above → ⊥
-    first [] above walk = absurd (cc (none, walk.are))
-    first (x ∷ path) above walk = absurd (cc (none, walk.0.are))
+    first : (path : List ℕ) (above : ℕ) → IsWalk at n path above → IsSome (at n)
+    first [] above walk = ap is_some walk.are
+    first (x ∷ path) above walk = ap is_some walk.0.are
 
 -- a property of objects, by rising number
 pub none-below : (objects : Objects) (P : ℕ → Type 0) → ((q : ℕ) → get objects q ≡ None → P q → ⊥) → get objects 0 ≡ None
@@ -45,19 +49,30 @@ pub least-found : (objects : Objects) (P : ℕ → Type 0) (n next : ℕ) → ((
     → IsNextAbove objects n (Some next) → ((smaller : ℕ) → smaller ≤ n → P smaller → ⊥) → P next → IsLeast P next
 least-found objects P n next there above none holds = (holds, between objects P n next there above none)
 
-pub none-further : (objects : Objects) (P : ℕ → Type 0) (n next : ℕ) → ((q : ℕ) → get objects q ≡ None → P q → ⊥)
-    → IsNextAbove objects n (Some next) → ((smaller : ℕ) → smaller ≤ n → P smaller → ⊥) → (P next → ⊥)
-    → (smaller : ℕ) → smaller ≤ next → P smaller → ⊥
-none-further objects P n next there above none not smaller least holds =
-    ⊎_elim
-    (λ less. between objects P n next there above none smaller less holds)
-    (λ far. not (subst P (omega (arith, least, far)) holds))
-    (cases_lt smaller next)
-
 pub none-left : (objects : Objects) (P : ℕ → Type 0) (n : ℕ) → ((q : ℕ) → get objects q ≡ None → P q → ⊥)
     → IsNextAbove objects n None → ((smaller : ℕ) → smaller ≤ n → P smaller → ⊥) → IsNever P
 none-left objects P n there above none q holds =
     ⊎_elim (λ past. there q (above q past) holds) (λ before. none q before holds) (cases_lt n q)
+
+-- the first of all numbers, which rise, that is its own ancestor is the least that is
+own-numbered : (objects : Objects) (n : ℕ) → IsOwnAncestor (supers_in objects) n → Contains (keys objects) n
+own-numbered objects n own = has_number objects n (own-live (supers_in objects) n own)
+
+pub least-own : (objects : Objects) (found : Option ℕ) → IsFirstCyclic (supers_in objects) (keys objects) found
+    → MatchOption found (IsNever (IsOwnAncestor (supers_in objects))) (λ n. IsLeast (IsOwnAncestor (supers_in objects)) n)
+least-own objects None none = λ n own. none n (own-numbered objects n own) own
+least-own objects (Some n) first = (
+  first.itself,
+  λ smaller less own.
+      ⊎_elim
+      (λ before. first.none_before smaller before own)
+      (λ later. (
+      let far = from-on first.before first.after n smaller (subst NumbersRise first.are (keys-rise objects)) later in
+      absurd (omega arith)
+      ))
+      (Contains-append_cases first.before (n ∷ first.after) smaller
+      (subst (λ ns. Contains ns smaller) first.are (own-numbered objects smaller own))),
+)
 
 -- nothing is broken exactly where superclasses are whole
 some-there : (at : SupersAt) (n : ℕ) (o : Option (List ℕ)) → at n ≡ o → (o ≡ None → ⊥) → is_some (at n) ≡ true

@@ -29,5 +29,6 @@ pub mod Validity
 pub mod Callers
 pub mod Given
 pub mod Added
-pub mod Ancestors
+pub mod RowNumbers
+pub mod Lacking
 pub mod FirstBroken

@@ -82,7 +82,8 @@ unfoldable pub amount : {X : Type 0} → (X → ℕ) → Option X → ℕ
 amount f None = 0
 amount f (Some x) = f x
 
-abbrev Rise : {X : Type 0} → List (ℕ × X) → Type 0
+-- the keys of entries rise
+abbrev pub Rise : {X : Type 0} → List (ℕ × X) → Type 0
 Rise [] = Unit {0}
 Rise (e ∷ es) = AllByRecursion (λ later. e.0 < later.0) es × Rise es
 
@@ -106,7 +107,7 @@ below-all : {X : Type 0} (k : ℕ) (es : List (ℕ × X)) → T (below_all nat_c
 below-all k [] h = tt
 below-all k (e ∷ es) h = (less k e.0 (first _ _ h), below-all k es (second _ _ h))
 
-rise : {X : Type 0} (es : List (ℕ × X)) → T (is_sorted nat_cmp es) → Rise es
+pub rise : {X : Type 0} (es : List (ℕ × X)) → T (is_sorted nat_cmp es) → Rise es
 rise [] h = tt
 rise (e ∷ es) h = (below-all e.0 es (first _ _ h), rise es (second _ _ h))
 

@@ -1,11 +1,8 @@
 //! What is broken of the superclasses of objects.
-ghost use Rattle.std.specs.Prelude.{◌≡◌, ◌++◌, ◌↔◌, IsTrue, IfOk, is_none};
+ghost use Rattle.std.specs.Prelude.{◌≡◌, ◌↔◌, IsTrue, is_none};
 ghost use Rattle.std.specs.List.{list_any};
-ghost use Rattle.t3_store.specs.Broken.{LacksSuper, IsOwnAncestor, supers_or_none};
+ghost use Rattle.t3_store.specs.Broken.{LacksSuper};
 
-use std::alloc::Global;
-use std::collections::HashSet;
-use t3_holder::NoMemory;
 use t3_tadsobj::Supers;
 
 /// What is broken of the superclasses of an object.
@@ -34,37 +31,4 @@ fn has_missing<S: Supers>(objects: &S, numbers: &[u32]) -> bool
     numbers
         .iter()
         .any(|number| objects.supers(*number).is_none())
-}
-
-/// Whether the object is its own ancestor. Each of its ancestors is visited once, on a stack of the heap.
-pub(crate) fn is_own_ancestor<S: Supers>(
-    alloc: Global,
-    objects: &S,
-    number: u32,
-) -> Result<bool, NoMemory>
-    ensures { IfOk result (λ found. IsTrue found ↔ IsOwnAncestor (S.supers_at objects.now) number) }
-{
-    let mut tasks = Vec::new(alloc);
-    let mut seen = HashSet::new(alloc);
-    push_supers(objects, number, &mut tasks)?;
-    while let Some(next) = tasks.pop() {
-        if next == number {
-            return Ok(true);
-        }
-        if seen.insert(next)? {
-            push_supers(objects, next, &mut tasks)?;
-        }
-    }
-    Ok(false)
-}
-
-/// Puts off the superclasses of an object.
-fn push_supers<S: Supers>(objects: &S, number: u32, tasks: &mut Vec<u32>) -> Result<(), NoMemory>
-    ensures { IfOk result (λ _. tasks.new.items
-        ≡ tasks.old.items ++ supers_or_none (S.supers_at objects.now number)) }
-{
-    if let Some(supers) = objects.supers(number) {
-        tasks.extend_from_slice(supers)?;
-    }
-    Ok(())
 }

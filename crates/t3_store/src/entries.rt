@@ -215,6 +215,17 @@ pub(crate) fn number_from(entries: &[Entry], least: u32) -> Option<u32>
     }
 }
 
+/// The numbers of all objects.
+pub(crate) fn numbers_of(alloc: Global, entries: &[Entry]) -> Result<Vec<u32>, NoMemory>
+    ensures { IfOk result (λ numbers. numbers.items ≡ map (λ entry. entry.number) entries.now) }
+{
+    let mut numbers = Vec::with_capacity(alloc, entries.len())?;
+    for entry in entries {
+        numbers.push(entry.number)?;
+    }
+    Ok(numbers)
+}
+
 /// Objects of the same values, with a place for each present cell alone.
 pub(crate) fn copy_all(alloc: Global, entries: &[Entry]) -> Result<Vec<Entry>, NoMemory>
     requires { AreAllValid entries.now }

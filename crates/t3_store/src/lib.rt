@@ -26,6 +26,8 @@
 #![tactic(auto)]
 
 mod broken;
+#[cfg(test)]
+mod broken_tests;
 mod entries;
 mod kind;
 mod limits;
@@ -42,6 +44,8 @@ mod tests;
 mod unit_rows;
 #[cfg(test)]
 mod unit_tests;
+#[cfg(test)]
+mod whole_copies;
 mod writing;
 
 pub use broken::Broken;

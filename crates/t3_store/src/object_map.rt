@@ -1,7 +1,7 @@
 ghost use Rattle.std.specs.Prelude.{◌≡◌, ◌+◌, ◌-◌, ◌<◌, ◌≤◌, ◌^◌, ℕ, Some, None, IsTrue, IsSome, IfSome, IfOk, OnOk, OnErr, is_some, option_map, option_and_then, drop, map};
 ghost use Rattle.std.specs.List.Sorted.{IsStrictlyIncreasing};
 ghost use Rattle.std.specs.FinMap as finite;
-ghost use Rattle.std.specs.FinMap.{get, insert, entries};
+ghost use Rattle.std.specs.FinMap.{get, insert, entries, keys};
 ghost use Rattle.t3_undo.specs.Content.{shown, is_form};
 ghost use Rattle.t3_undo.specs.Objects.{part_at};
 ghost use Rattle.t3_store.specs.Value.{holder_at, can_have_at, can_lose_at, with_cell, without_cell, cell_units, units_of, units_in, kind_of, supers_of, is_class_at, props_at, text_of, items_in, length_of, entries_in, IsNextAbove};
@@ -12,7 +12,8 @@ ghost use Rattle.t3_undo.specs.Journal.{newest_next};
 ghost use Rattle.t3_undo.specs.UndoLaw.{undone};
 
 use crate::entries::{
-    Entry, add, content_with, copy_all, cut, make_place, number_from, object_at, put, put_back,
+    Entry, add, content_with, copy_all, cut, make_place, number_from, numbers_of, object_at, put,
+    put_back,
 };
 use crate::kind::Kind;
 use crate::object::Object;
@@ -180,6 +181,13 @@ impl ObjectMap {
         ensures { IsNextAbove (values self.now.objects) number result }
     {
         number_from(&self.entries, number + 1)
+    }
+
+    /// The numbers of all objects, rising.
+    pub(crate) fn numbers(&self, alloc: Global) -> Result<Vec<u32>, NoMemory>
+        ensures { IfOk result (λ numbers. numbers.items ≡ keys (values self.now.objects)) }
+    {
+        numbers_of(alloc, &self.entries)
     }
 
     /// Objects of the same values, with a place for each present cell alone.

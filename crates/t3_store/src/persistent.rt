@@ -8,7 +8,7 @@ ghost use Rattle.t3_store.specs.Whole.{IsWhole, supers_in};
 ghost use Rattle.t3_store.specs.Inner.Shapes.{values, AreWithin};
 ghost use Rattle.t3_undo.specs.Objects.{adjust};
 
-use crate::broken::{Broken, is_own_ancestor, lacks_super};
+use crate::broken::{Broken, lacks_super};
 use crate::kind::Kind;
 use crate::limits::StoreRefusal;
 use crate::new_object::NewObject;
@@ -19,7 +19,7 @@ use std::alloc::Global;
 use std::marker::Model;
 use t3_holder::{Holder, NoMemory};
 use t3_tables::Entries;
-use t3_tadsobj::{Props, Supers};
+use t3_tadsobj::{Props, Supers, first_cyclic};
 use t3_undo::{Cell, Key};
 
 /// How many objects and units there are at most.
@@ -116,7 +116,8 @@ impl Persistent {
 
     /// The object with the least number of which a superclass isn't a tads-object here. If there is none, the
     /// object with the least number that is its own ancestor. `None` exactly where neither is, and then nothing
-    /// is broken for a store that has these objects.
+    /// is broken for a store that has these objects. Each object and each superclass is looked at twice at most:
+    /// the time grows with both together.
     pub fn first_broken(&self, alloc: Global) -> Result<Option<(u32, Broken)>, NoMemory>
         ensures first { IfOk result (λ broken. IsFirstBroken (supers_in self.now) broken) }
         ensures whole { IfOk result (λ broken. (broken ≡ None) ↔ IsWhole (supers_in self.now)) }
@@ -151,15 +152,8 @@ impl Persistent {
         ensures { IfOk result (λ found. MatchOption found (IsNever (IsOwnAncestor (supers_in self.now)))
             (λ number. IsLeast (IsOwnAncestor (supers_in self.now)) number)) }
     {
-        let _ = &self.alloc;
-        let mut number = 0;
-        while let Some(next) = self.after(number) {
-            if is_own_ancestor(alloc, self, next)? {
-                return Ok(Some(next));
-            }
-            number = next;
-        }
-        Ok(None)
+        let numbers = self.objects.numbers(alloc)?;
+        first_cyclic(alloc, self, &numbers)
     }
 
     /// An equal map.

@@ -1,382 +1,350 @@
-//! Random runs of a store, beside a plain program that keeps whole copies.
-ghost use Rattle.std.specs.Prelude.{◌<◌, length, IfSome};
+//! Random runs of a store, beside a plain program that keeps whole copies. Objects of each kind are
+//! made and changed in both halves; after each step all that can be read of both is compared.
+ghost use Rattle.std.specs.Prelude.{◌≡◌, Some, IsTrue, IfOk, IsSome, length};
+ghost use Rattle.t3_store.specs.Value.{new_value, supers_of};
+ghost use Rattle.t3_store.specs.Whole.{supers_for};
 
-use super::tests::{answer, empty_store, plain, savepoint, set, set_element, set_key, take_last};
+use super::tests::{answer, empty_store, savepoint, set, set_element, set_key, take_last};
+use super::whole_copies::{
+    DEFAULT, NIL, OBJECTS, RECORDS, Row, SAVEPOINTS, TEXTS, UNITS, Whole, has_row,
+};
 use super::*;
 use std::alloc::Global;
 use std::test::Fail;
-use t3_holder::{Holder, NoMemory};
+use t3_holder::{Bytes, Holder, NoMemory};
 use t3_lists::Holders;
-use t3_undo::{Cell, Key};
+use t3_tadsobj::{Props, Supers};
+use t3_undo::{Cell, Key, Numbers};
 
-/// An object as a row of cells, by their numbers: properties by rising number, elements, or entries in their
-/// order.
-#[derive(Drop)]
-struct Row {
+/// One cell of one object set to a number or, without one, taken away. One that is there is
+/// overwritten where `anew` says so.
+#[derive(Clone, Copy)]
+struct Change {
     number: u32,
-    kind: Kind,
-    cells: Vec<(u32, i32)>,
+    cell: u32,
+    value: Option<i32>,
+    anew: bool,
 }
 
-/// A savepoint: a copy of all rows, and which cells were changed first since.
-#[derive(Drop)]
-struct Copy {
-    rows: Vec<Row>,
-    next: u32,
-    changed: Vec<(u32, u32)>,
-}
-
-/// The plain program.
-#[derive(Drop)]
-struct Whole {
-    rows: Vec<Row>,
-    next: u32,
-    copies: Vec<Copy>,
-}
-
-const OBJECTS: usize = 5;
-
-const UNITS: usize = 9;
-
-const RECORDS: usize = 6;
-
-const SAVEPOINTS: usize = 3;
-
-fn copy_rows(alloc: Global, rows: &[Row]) -> Result<Vec<Row>, NoMemory> {
-    let mut copy = Vec::new(alloc);
-    for row in rows {
-        copy.push(Row {
-            number: row.number,
-            kind: row.kind,
-            cells: Vec::from_slice(alloc, &row.cells)?,
-        })?;
-    }
-    Ok(copy)
-}
-
-fn units(rows: &[Row]) -> usize {
-    let mut sum: usize = 0;
-    for row in rows {
-        sum = sum.saturating_add(row.cells.len());
-    }
-    sum
-}
-
-fn records(copies: &[Copy]) -> usize {
-    let mut sum: usize = 0;
-    for copy in copies {
-        sum = sum.saturating_add(copy.changed.len());
-    }
-    sum
-}
-
-fn position(cells: &[(u32, i32)], cell: u32) -> Option<usize>
-    ensures { IfSome result (λ index. index < length cells.now) }
-{
-    for index in 0..cells.len() {
-        if cells[index].0 == cell {
-            return Some(index);
-        }
-    }
-    None
-}
-
-fn row_of(rows: &[Row], number: u32) -> Option<usize>
-    ensures { IfSome result (λ index. index < length rows.now) }
-{
-    for index in 0..rows.len() {
-        if rows[index].number == number {
-            return Some(index);
-        }
-    }
-    None
-}
-
-/// `false` where there is no room for a cell more.
-fn set_in(row: &mut Row, cell: u32, value: i32, full: bool) -> Result<bool, NoMemory> {
-    match position(&row.cells, cell) {
-        Some(place) => row.cells[place] = (cell, value),
-        None => {
-            if full {
-                return Ok(false);
-            }
-            let place = place_of(row, cell).min(row.cells.len());
-            row.cells.insert(place, (cell, value))?;
-        }
-    }
-    Ok(true)
-}
-
-fn take_from(row: &mut Row, cell: u32) -> bool {
-    match position(&row.cells, cell) {
-        Some(place) => {
-            let _old = row.cells.remove(place);
-            true
-        }
-        None => false,
-    }
-}
-
-impl Whole {
-    fn start(alloc: Global) -> Whole {
-        Whole {
-            rows: Vec::new(alloc),
-            next: 1,
-            copies: Vec::new(alloc),
-        }
-    }
-
-    fn create(&mut self, alloc: Global, kind: Kind) -> Result<bool, NoMemory> {
-        if self.rows.len() >= OBJECTS {
-            return Ok(false);
-        }
-        self.rows.push(Row {
-            number: self.next,
-            kind,
-            cells: Vec::new(alloc),
-        })?;
-        self.next = self.next.saturating_add(1);
-        Ok(true)
-    }
-
-    fn savepoint(&mut self, alloc: Global) -> Result<(), NoMemory> {
-        let copy = Copy {
-            rows: copy_rows(alloc, &self.rows)?,
-            next: self.next,
-            changed: Vec::new(alloc),
-        };
-        if self.copies.len() >= SAVEPOINTS {
-            let _oldest = self.copies.remove(0);
-        }
-        self.copies.push(copy)?;
-        Ok(())
-    }
-
-    fn undo(&mut self) -> bool {
-        match self.copies.pop() {
-            Some(copy) => {
-                self.rows = copy.rows;
-                true
-            }
-            None => false,
-        }
-    }
-
-    /// The change of a cell, noted in the newest copy, where it is the first since.
-    fn note(&mut self, number: u32, cell: u32) -> Result<(), NoMemory> {
-        if !is_due(&self.copies, number, cell) {
-            return Ok(());
-        }
-        for _ in 0..SAVEPOINTS {
-            if self.copies.len() > 0 && records(&self.copies) >= RECORDS {
-                let _oldest = self.copies.remove(0);
-            }
-        }
-        if let Some(newest) = self.copies.last_mut() {
-            newest.changed.push((number, cell))?;
-        }
-        Ok(())
-    }
-
-    /// `false` where there is no room for a cell more.
-    fn set(&mut self, number: u32, cell: u32, value: i32) -> Result<bool, NoMemory> {
-        let full = units(&self.rows) >= UNITS;
-        if let Some(index) = row_of(&self.rows, number) {
-            if !set_in(&mut self.rows[index], cell, value, full)? {
-                return Ok(false);
-            }
-            self.note(number, cell)?;
-        }
-        Ok(true)
-    }
-
-    fn take(&mut self, number: u32, cell: u32) -> Result<(), NoMemory> {
-        if let Some(index) = row_of(&self.rows, number) {
-            if take_from(&mut self.rows[index], cell) {
-                self.note(number, cell)?;
-            }
-        }
-        Ok(())
-    }
-}
-
-fn is_due(copies: &[Copy], number: u32, cell: u32) -> bool {
-    match copies.last() {
-        Some(newest) => number < newest.next
-            && !newest
-                .changed
-                .iter()
-                .any(|change| *change == (number, cell)),
-        None => false,
-    }
-}
-
-/// Where a new cell goes: properties by their numbers, and others last.
-fn place_of(row: &Row, cell: u32) -> usize {
-    if row.kind != Kind::Tads {
-        return row.cells.len();
-    }
-    row.cells.iter().filter(|entry| entry.0 < cell).count()
-}
-
-/// One random step, of both.
+/// One random step, of both. Whether they gave the same answer.
 fn step(store: &mut Store, whole: &mut Whole, alloc: Global, roll: u32) -> Result<bool, Fail> {
-    match roll % 8 {
+    match roll % 10 {
         0 => {
             savepoint(store)?;
             whole.savepoint(alloc)?;
             Ok(true)
         }
         1 => Ok(store.undo() == whole.undo()),
-        2 => create(store, whole, alloc, roll / 8 % 3),
-        _ => {
-            let value = if roll / 1024 % 3 == 0 {
-                None
-            } else {
-                Some((roll / 4096 % 100) as i32)
-            };
-            change(
-                store,
-                whole,
-                1 + roll / 8 % 8,
-                1 + (roll / 64 % 3) as u16,
-                value,
-            )
-        }
+        2 | 3 => create_object(store, whole, alloc, roll / 10),
+        _ => change_cell(store, whole, alloc, roll / 10),
     }
 }
 
-fn create(store: &mut Store, whole: &mut Whole, alloc: Global, kind: u32) -> Result<bool, Fail> {
-    let (made, kind) = match kind {
-        0 => (store.create(plain(alloc), false), Kind::Tads),
-        1 => (
-            store.create(NewObject::Vector(Holders(Vec::new(alloc))), false),
-            Kind::Vector,
-        ),
-        _ => (store.create(NewObject::Table, false), Kind::Table),
-    };
-    let made = answer(made.map(|_number| ()))?;
-    Ok(made == whole.create(alloc, kind)?)
-}
-
-/// One cell of one object set, or taken away where there is no value.
-fn change(
+/// An object made.
+fn create_object(
     store: &mut Store,
     whole: &mut Whole,
-    number: u32,
-    cell: u16,
-    value: Option<i32>,
+    alloc: Global,
+    roll: u32,
 ) -> Result<bool, Fail> {
-    match store.kind(number) {
-        Some(Kind::Tads) => {
-            let done = set(store, number, cell, value)?;
-            Ok(done == change_whole(whole, number, u32::from(cell), value)?)
-        }
-        Some(Kind::Table) => {
-            let done = set_key(store, number, Key::Int(i32::from(cell)), value)?;
-            Ok(done == change_whole(whole, number, u32::from(cell), value)?)
-        }
-        Some(Kind::Vector) => change_vector(store, whole, number, u32::from(cell), value),
-        _ => Ok(true),
+    let transient = roll % 3 == 0;
+    let mut row = Row {
+        number: 0,
+        kind: kind_of(roll / 3),
+        class: false,
+        supers: Vec::new(alloc),
+        cells: Vec::new(alloc),
+    };
+    if row.kind == Kind::Tads {
+        row.class = roll / 15 % 2 == 0;
+        push_superclass(whole, transient, roll / 30, &mut row.supers)?;
+    } else {
+        push_content(row.kind, roll / 15, &mut row.cells)?;
+    }
+    let made = make(store, alloc, &row, transient)?;
+    Ok(made == whole.create(row, transient)?)
+}
+
+fn kind_of(roll: u32) -> Kind {
+    match roll % 5 {
+        0 => Kind::Tads,
+        1 => Kind::Text,
+        2 => Kind::List,
+        3 => Kind::Vector,
+        _ => Kind::Table,
     }
 }
 
-fn change_whole(
+/// A superclass of a new object, if there is one: of a persistent object it is persistent.
+fn push_superclass(
+    whole: &Whole,
+    transient: bool,
+    roll: u32,
+    supers: &mut Vec<u32>,
+) -> Result<(), NoMemory> {
+    let rows = if transient && roll % 2 == 0 {
+        &whole.transient
+    } else {
+        &whole.persistent
+    };
+    let mut skipped = roll / 2 % 3;
+    for row in rows {
+        if row.kind == Kind::Tads {
+            if skipped == 0 {
+                supers.push(row.number)?;
+                return Ok(());
+            }
+            skipped -= 1;
+        }
+    }
+    Ok(())
+}
+
+/// The bytes, items or elements of a new object, or the default of a new table.
+fn push_content(kind: Kind, roll: u32, cells: &mut Vec<(u32, i32)>) -> Result<(), NoMemory> {
+    let length = match kind {
+        Kind::Table => 0,
+        Kind::Text => roll % 18,
+        _ => roll % 4,
+    };
+    if kind == Kind::Table {
+        cells.push((DEFAULT, NIL))?;
+    }
+    for index in 0..length {
+        cells.push((index + 1, (roll / 32 % 16 + index) as i32))?;
+    }
+    Ok(())
+}
+
+/// The number of what was made. `None` where the store is full.
+fn number_made(made: Result<u32, StoreRefusal>) -> Result<Option<u32>, Fail> {
+    match made {
+        Ok(number) => Ok(Some(number)),
+        Err(why) => {
+            let _full = answer(Err(why))?;
+            Ok(None)
+        }
+    }
+}
+
+/// Makes an object like the row.
+fn make(store: &mut Store, alloc: Global, row: &Row, transient: bool) -> Result<Option<u32>, Fail> {
+    if row.cells.len() > 65_535 {
+        return Err(Fail::from("a content that fits"));
+    }
+    number_made(match row.kind {
+        Kind::Tads => return make_tads(store, alloc, row, transient),
+        Kind::Text => store.create(NewObject::Text(bytes_in(alloc, &row.cells)?), transient),
+        Kind::List => store.create(NewObject::List(items_in(alloc, &row.cells)?), transient),
+        Kind::Vector => store.create(NewObject::Vector(items_in(alloc, &row.cells)?), transient),
+        Kind::Table => store.create(NewObject::Table, transient),
+    })
+}
+
+fn make_tads(
+    store: &mut Store,
+    alloc: Global,
+    row: &Row,
+    transient: bool,
+) -> Result<Option<u32>, Fail> {
+    let mut supers = Vec::new(alloc);
+    let Some(superclass) = row.supers.first() else {
+        return number_made(store.create(tads(alloc, supers, row.class), transient));
+    };
+    let superclass = *superclass;
+    if !can_be_superclass(store, superclass, transient) {
+        return Err(Fail::from("a superclass"));
+    }
+    supers.push(superclass)?;
+    number_made(store.create(tads(alloc, supers, row.class), transient))
+}
+
+/// What a tads-object without properties is made of.
+fn tads(alloc: Global, supers: Vec<u32>, class: bool) -> NewObject
+    ensures { supers_of (new_value result) ≡ Some supers.items }
+{
+    NewObject::Tads {
+        supers: Numbers(supers),
+        class,
+        props: Props(Vec::new(alloc)),
+    }
+}
+
+/// Whether a new object may have this superclass.
+fn can_be_superclass(store: &Store, number: u32, transient: bool) -> bool
+    ensures { IsTrue result → IsSome (supers_for transient store.now.store number) }
+{
+    if store.is_transient(number) && !transient {
+        return false;
+    }
+    store.supers(number).is_some()
+}
+
+fn bytes_in(alloc: Global, cells: &[(u32, i32)]) -> Result<Bytes, NoMemory>
+    ensures { IfOk result (λ bytes. length bytes ≡ length cells.now) }
+{
+    let bytes = cells.iter().map(|cell| u8::try_from(cell.1).unwrap_or(0));
+    Ok(Bytes(bytes.collect(alloc)?))
+}
+
+fn items_in(alloc: Global, cells: &[(u32, i32)]) -> Result<Holders, NoMemory>
+    ensures { IfOk result (λ items. length items ≡ length cells.now) }
+{
+    let items = cells.iter().map(|cell| Holder::Int(cell.1));
+    Ok(Holders(items.collect(alloc)?))
+}
+
+/// A cell of an object changed.
+fn change_cell(
+    store: &mut Store,
     whole: &mut Whole,
-    number: u32,
-    cell: u32,
-    value: Option<i32>,
+    alloc: Global,
+    roll: u32,
 ) -> Result<bool, Fail> {
-    match value {
-        Some(value) => Ok(whole.set(number, cell, value)?),
+    let Some(row) = whole.row_at(roll as usize % OBJECTS) else {
+        return Ok(true);
+    };
+    let kind = row.kind;
+    let Some(change) = change_of(row, roll / 10) else {
+        return Ok(true);
+    };
+    let done = change_store(store, alloc, kind, change)?;
+    Ok(done == change_whole(whole, change)?)
+}
+
+/// What a roll changes of an object. Strings and lists never change.
+fn change_of(row: &Row, roll: u32) -> Option<Change> {
+    let value = if roll % 3 == 0 {
+        None
+    } else {
+        Some((roll / 42 % 100) as i32)
+    };
+    let mut change = Change {
+        number: row.number,
+        cell: 1 + roll / 6 % 3,
+        value,
+        anew: roll / 3 % 2 == 0,
+    };
+    match row.kind {
+        Kind::Tads => Some(change),
+        Kind::Table => {
+            change.cell = table_cell(roll / 6);
+            if change.cell == DEFAULT {
+                change.value = Some(value.unwrap_or(NIL));
+                change.anew = true;
+            }
+            Some(change)
+        }
+        Kind::Vector => {
+            let length = u32::try_from(row.cells.len()).unwrap_or(0);
+            change.cell = match value {
+                Some(_) => change.cell.min(length.saturating_add(1)),
+                None => length,
+            };
+            (change.cell > 0).then_some(change)
+        }
+        Kind::Text | Kind::List => None,
+    }
+}
+
+fn table_cell(roll: u32) -> u32 {
+    match roll % 7 {
+        0 => DEFAULT,
+        1 => TEXTS,
+        2 => TEXTS + 8,
+        3 => TEXTS + 9,
+        place => place,
+    }
+}
+
+/// `false` where the store is full.
+fn change_store(
+    store: &mut Store,
+    alloc: Global,
+    kind: Kind,
+    change: Change,
+) -> Result<bool, Fail> {
+    if let (true, Some(value)) = (change.anew, change.value) {
+        let cell = cell_of(alloc, kind, change.cell)?;
+        if overwrite(store, change.number, cell, value)? {
+            return Ok(true);
+        }
+    }
+    match kind {
+        Kind::Tads => set(store, change.number, prop_of(change.cell), change.value),
+        Kind::Table => {
+            let key = key_of(alloc, change.cell)?;
+            set_key(store, change.number, key, change.value)
+        }
+        _ => match change.value {
+            Some(value) => set_element(store, change.number, change.cell, value),
+            None => take_last(store, change.number),
+        },
+    }
+}
+
+/// `false` where the cell isn't there.
+fn overwrite(store: &mut Store, number: u32, cell: Cell, value: i32) -> Result<bool, Fail> {
+    let Some(_) = store.get(number, &cell) else {
+        return Ok(false);
+    };
+    if store.writes() >= 1000 {
+        return Err(Fail::from("few writes"));
+    }
+    store.overwrite(number, cell, Holder::Int(value));
+    Ok(true)
+}
+
+fn change_whole(whole: &mut Whole, change: Change) -> Result<bool, Fail> {
+    match change.value {
+        Some(value) => Ok(whole.set(change.number, change.cell, value)?),
         None => {
-            whole.take(number, cell)?;
+            whole.take(change.number, change.cell)?;
             Ok(true)
         }
     }
 }
 
-fn change_vector(
-    store: &mut Store,
-    whole: &mut Whole,
-    number: u32,
-    cell: u32,
-    value: Option<i32>,
-) -> Result<bool, Fail> {
-    let length = store.length(number).unwrap_or(0);
-    match value {
-        Some(new) => {
-            let element = cell.min(length.saturating_add(1));
-            let done = set_element(store, number, element, new)?;
-            Ok(done == change_whole(whole, number, element, value)?)
-        }
-        None if length > 0 => {
-            let done = take_last(store, number)?;
-            Ok(done == change_whole(whole, number, length, None)?)
-        }
-        None => Ok(true),
+fn cell_of(alloc: Global, kind: Kind, cell: u32) -> Result<Cell, NoMemory> {
+    match kind {
+        Kind::Tads => Ok(Cell::Prop(prop_of(cell))),
+        Kind::Table if cell == DEFAULT => Ok(Cell::Default),
+        Kind::Table => Ok(Cell::Key(key_of(alloc, cell)?)),
+        _ => Ok(Cell::Elem(cell)),
     }
+}
+
+fn prop_of(cell: u32) -> u16 {
+    u16::try_from(cell).unwrap_or(0)
+}
+
+fn key_of(alloc: Global, cell: u32) -> Result<Key, NoMemory> {
+    if cell < TEXTS {
+        return Ok(Key::Int(i32::try_from(cell).unwrap_or(0)));
+    }
+    let bytes = Vec::from_elem(alloc, b'k', (cell - TEXTS) as usize)?;
+    Ok(Key::Text(Bytes(bytes)))
 }
 
 /// Whether both say the same.
 fn agree(store: &Store, whole: &Whole, alloc: Global) -> Result<bool, Fail> {
-    for row in &whole.rows {
-        if !has_row(store, row, alloc)? {
+    for row in &whole.persistent {
+        if store.is_transient(row.number) || !has_row(store, row, alloc)? {
+            return Ok(false);
+        }
+    }
+    for row in &whole.transient {
+        if !store.is_transient(row.number) || !has_row(store, row, alloc)? {
             return Ok(false);
         }
     }
     Ok(
-        store.objects() as usize == whole.rows.len()
-            && store.units() as usize == units(&whole.rows)
-            && store.held() as usize == whole.copies.len()
-            && store.records() as usize == records(&whole.copies)
+        store.objects() as usize == whole.objects()
+            && store.units() as usize == whole.units()
+            && store.held() as usize == whole.held()
+            && store.records() as usize == whole.records()
             && store.next() == whole.next,
     )
-}
-
-fn has_row(store: &Store, row: &Row, alloc: Global) -> Result<bool, Fail> {
-    if store.kind(row.number) != Some(row.kind) {
-        return Ok(false);
-    }
-    let cells = cells_of(store, row.number, alloc)?;
-    Ok(cells.as_slice() == row.cells.as_slice())
-}
-
-/// The cells of an object by their numbers.
-fn cells_of(store: &Store, number: u32, alloc: Global) -> Result<Vec<(u32, i32)>, Fail> {
-    let mut cells = Vec::new(alloc);
-    match store.kind(number) {
-        Some(Kind::Tads) => {
-            for prop in store.props(alloc, number)?.items() {
-                cells.push((u32::from(prop.number), number_in(Some(prop.value))))?;
-            }
-        }
-        Some(Kind::Table) => {
-            for pair in store.entries(alloc, number)?.items() {
-                cells.push((number_of(&pair.key), number_in(Some(pair.value))))?;
-            }
-        }
-        _ => {
-            for element in 1..store.length(number).unwrap_or(0).saturating_add(1) {
-                cells.push((element, number_in(store.get(number, &Cell::Elem(element)))))?;
-            }
-        }
-    }
-    Ok(cells)
-}
-
-fn number_in(value: Option<Holder>) -> i32 {
-    match value {
-        Some(Holder::Int(number)) => number,
-        _ => -1,
-    }
-}
-
-fn number_of(key: &Key) -> u32 {
-    match key {
-        Key::Int(number) if *number >= 0 => *number as u32,
-        _ => 0,
-    }
 }
 
 /// One run of random steps, after each of which both say the same.

@@ -12,6 +12,11 @@ use t3_lists::Holders;
 use t3_tadsobj::Props;
 use t3_undo::{Cell, Key, Numbers};
 
+/// No properties.
+pub(crate) fn no_props(alloc: Global) -> Props {
+    Props(Vec::new(alloc))
+}
+
 /// What a tads-object without anything is made of.
 pub(crate) fn plain(alloc: Global) -> NewObject
     ensures supers { supers_of (new_value result) ≡ Some [] }
@@ -20,7 +25,7 @@ pub(crate) fn plain(alloc: Global) -> NewObject
     NewObject::Tads {
         supers: Numbers(Vec::new(alloc)),
         class: false,
-        props: Props(Vec::new(alloc)),
+        props: no_props(alloc),
     }
 }
 

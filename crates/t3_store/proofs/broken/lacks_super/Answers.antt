@@ -1,6 +1,6 @@
 use Rattle.std.proofs.Common.{◌∙◌, ap, sym}
 use Rattle.std.specs.Option.{option_map}
-use Rattle.t3_store.proofs.Ancestors.{lacks-some}
+use Rattle.t3_store.proofs.Lacking.{lacks-some}
 use Rattle.t3_store.proofs.broken.lacks_super.Goals as goal
 
 pub returns-in-Some : goal.returns-in-Some
