@@ -1,4 +1,3 @@
 mod Cases
 mod Saying
 pub mod Runs
-pub mod Programs

@@ -1,3 +1,2 @@
 -- What only the contracts of private functions cite.
 pub mod Acting
-pub mod Launching

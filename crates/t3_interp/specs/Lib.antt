@@ -3,5 +3,4 @@ pub mod Values
 pub mod Instructions
 pub mod Step
 pub mod Run
-pub mod Loading
 pub mod Inner

@@ -2,13 +2,13 @@
 ghost use Rattle.std.specs.Prelude.{◌≡◌, IfOk};
 ghost use Rattle.t3_interp.specs.declared.event.Want.TheVariants.{Go};
 ghost use Rattle.t3_interp.specs.Machine.{initial};
-ghost use Rattle.t3_interp.specs.Step.{program_of, state_of, comes_to, Steps};
+ghost use Rattle.t3_interp.specs.Step.{state_of, comes_to, Steps};
 
 use crate::event::{Event, Want};
-use crate::loader::Program;
 use std::alloc::Global;
 use t3_frames::Frames;
 use t3_holder::{Holder, NoMemory};
+use t3_load::Program;
 
 /// What instructions see and change.
 #[derive(Debug, Drop)]
@@ -67,7 +67,7 @@ impl Machine {
     pub fn step(&mut self, alloc: Global, program: &Program) -> Result<Event, NoMemory>
         requires { (state_of self.old).wants ≡ Go }
         ensures { IfOk result
-            (λ event. Steps (program_of program.now) (state_of self.old) (comes_to self.new event)) }
+            (λ event. Steps program.now (state_of self.old) (comes_to self.new event)) }
     {
         match self.stage {
             Stage::Method => self.carry_out(alloc, program),

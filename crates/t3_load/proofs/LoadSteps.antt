@@ -75,6 +75,7 @@ same_methods meta entry is = by_kind (kind_named meta.name) refl
   where
     entry_by : MetaKind → KindEntry
     entry_by kind = record { kind = kind; props = numbers_of meta.props }
+
     by_kind : (kind : Option MetaKind) → kind_named meta.name ≡ kind → has_methods meta ≡ nat_lt 0 (length entry.props)
     by_kind None none =
         let clash : None ≡ Some entry = sym (ap (option_map entry_by) none) ∙ is in

@@ -1,5 +1,6 @@
 //! Which rule an image breaks first, and the program of one that breaks none.
-use crate::test_images::{GOOD, Parts, loaded, refusal, with};
+use crate::halves::Halves;
+use crate::test_images::{GOOD, Parts, halves, loaded, refusal, with};
 use crate::{LoadRefusal, Program};
 use std::test::Fail;
 use t3_holder::Holder;
@@ -149,7 +150,10 @@ fn an_object_breaks_a_rule(rt: HostRuntime) -> Result<(), Fail> {
             with(&[(2, false, 5, &[1, 0, 14, 0, 0, 0, 0])]),
             Some(LoadRefusal::ObjectData(5)),
         ),
-        (with(&[(3, false, 5, &[9, 0, 1, 0, 15, 1, 0, 0, 0])]), None),
+        (
+            with(&[(3, false, 5, &[9, 0, 1, 0, 15, 1, 0, 0, 0])]),
+            Some(LoadRefusal::Unbuilt),
+        ),
         // The first of two is told, and the earlier rule before it.
         (
             with(&[(0, false, 9, &[]), (0, false, 4, &[])]),
@@ -250,7 +254,7 @@ fn the_limits_hold_for_all_objects_together(rt: HostRuntime) -> Result<(), Fail>
         (Parts { objects: 2, ..pair }, None),
         (Parts { objects: 1, ..pair }, Some(LoadRefusal::Full)),
         // Two elements, two bytes and a property.
-        (Parts { units: 4, ..units }, None),
+        (Parts { units: 4, ..units }, Some(LoadRefusal::Unbuilt)),
         (Parts { units: 3, ..units }, Some(LoadRefusal::Full)),
         (
             Parts {
@@ -281,7 +285,7 @@ fn a_program_has_what_its_image_says(rt: HostRuntime) -> Result<(), Fail> {
         (0, true, 30, BELOW_1),
         (0, false, 2, PLAIN),
         (0, false, 1, WITH_PROP),
-        (1, false, 7, TEXT),
+        (0, false, 7, PLAIN),
     ]);
     let Ok(program) = loaded(rt.alloc(), &parts)? else {
         return Err(Fail::from("a good image is refused"));
@@ -303,10 +307,111 @@ fn a_program_has_what_its_image_says(rt: HostRuntime) -> Result<(), Fail> {
     assert_eq!(rt; sets.0.len(), 2);
     assert_eq!(rt; first.get(1, &Cell::Prop(3)), Some(Holder::Int(7)));
     assert_eq!(rt; first.is_class(1), true);
-    assert_eq!(rt; first.text(7), Some(b"ab".as_slice()));
     assert_eq!(rt; first.after(2), Some(7));
     assert_eq!(rt; first.after(9), None);
     assert_eq!(rt; passing.after(0), Some(30));
     assert_eq!(rt; passing.after(30), None);
+    Ok(())
+}
+
+#[test]
+fn strings_lists_and_vectors_are_in_their_halves(rt: HostRuntime) -> Result<(), Fail> {
+    let parts = with(&[
+        (1, false, 7, TEXT),
+        (3, true, 6, &[9, 0, 1, 0, 15, 1, 0, 0, 0]),
+        (2, false, 5, LIST),
+    ]);
+    let Halves { first, passing } = halves(rt.alloc(), &parts)?;
+    assert_eq!(rt; first.text(7), Some(b"ab".as_slice()));
+    assert_eq!(rt;
+        first.items(5),
+        Some([Holder::Int(1), Holder::Int(2)].as_slice())
+    );
+    assert_eq!(rt; first.length(6), None);
+    assert_eq!(rt; passing.length(6), Some(1));
+    assert_eq!(rt; passing.get(6, &Cell::Elem(1)), Some(Holder::Enum(1)));
+    Ok(())
+}
+
+/// Five bytes, and then a header that takes nothing and has no exception table; one that takes an argument; one
+/// that has a table; one whose second byte isn't 0; and one that is cut.
+const PLAIN_METHOD: &[u8] = &[9, 9, 9, 9, 9, 0, 0, 1, 0, 4, 0, 0, 0, 0, 0];
+
+const TAKING: &[u8] = &[9, 9, 9, 9, 9, 1, 0, 1, 0, 4, 0, 0, 0, 0, 0];
+
+const CATCHING: &[u8] = &[9, 9, 9, 9, 9, 0, 0, 1, 0, 4, 0, 0, 2, 0, 0];
+
+const NO_METHOD: &[u8] = &[9, 9, 9, 9, 9, 1, 7, 1, 0, 4, 0, 0, 2, 0, 0];
+
+const CUT_METHOD: &[u8] = &[9, 9, 9, 9, 9, 1, 0, 1, 0, 4, 0, 0, 2, 0];
+
+/// A tads-object whose property 3 is the constant string at 7.
+const WITH_TEXT: &[u8] = &[0, 0, 1, 0, 0, 0, 3, 0, 8, 7, 0, 0, 0];
+
+/// A tads-object whose property 3 is the text at 7, which is shown when it is evaluated.
+const WITH_SHOWN: &[u8] = &[0, 0, 1, 0, 0, 0, 3, 0, 9, 7, 0, 0, 0];
+
+#[test]
+fn what_cannot_be_run_yet_is_refused_last(rt: HostRuntime) -> Result<(), Fail> {
+    let unbuilt = Some(LoadRefusal::Unbuilt);
+    let full = Parts {
+        objects: 0,
+        ..with(&[(1, false, 7, TEXT)])
+    };
+    let rows = [
+        (with(&[(1, true, 7, TEXT)]), unbuilt),
+        (with(&[(2, false, 7, LIST)]), unbuilt),
+        (
+            with(&[(0, false, 8, PLAIN), (0, false, 7, WITH_TEXT)]),
+            unbuilt,
+        ),
+        (with(&[(0, false, 7, WITH_SHOWN)]), None),
+        (
+            Parts {
+                has_methods: true,
+                ..GOOD
+            },
+            unbuilt,
+        ),
+        (
+            Parts {
+                code: PLAIN_METHOD,
+                ..GOOD
+            },
+            None,
+        ),
+        (
+            Parts {
+                code: TAKING,
+                ..GOOD
+            },
+            unbuilt,
+        ),
+        (
+            Parts {
+                code: CATCHING,
+                ..GOOD
+            },
+            unbuilt,
+        ),
+        (
+            Parts {
+                code: NO_METHOD,
+                ..GOOD
+            },
+            None,
+        ),
+        (
+            Parts {
+                code: CUT_METHOD,
+                ..GOOD
+            },
+            None,
+        ),
+        (full, Some(LoadRefusal::Full)),
+    ];
+    for (parts, why) in &rows {
+        assert_eq!(rt; refusal(rt.alloc(), parts)?, *why);
+    }
     Ok(())
 }

@@ -2,13 +2,13 @@
 ghost use Rattle.t3_store.specs.Store.{AreLimits};
 ghost use Rattle.t3_load.specs.Loading.{Loads};
 
+use crate::basis::{Basis, basis_of};
 use crate::halves::{Halves, halve, is_past, next_number};
 use crate::kinds::Kinds;
 use crate::refusal::LoadRefusal;
 use crate::sets::Sets;
 use crate::supers::checked_objects;
 use crate::symbols::SymbolTable;
-use crate::basis::{Basis, basis_of};
 use crate::unbuilt::is_unbuilt;
 use std::alloc::Global;
 use std::marker::Model;

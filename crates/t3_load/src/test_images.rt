@@ -1,5 +1,8 @@
 //! Small images for tests of the loader.
-use crate::tests::{image, metas, sets, two};
+use crate::basis::basis_of;
+use crate::halves::{Halves, halve, is_past};
+use crate::supers::checked_objects;
+use crate::tests::{image, metas, plain_metas, sets, two};
 use crate::{LoadRefusal, Program, load};
 use std::alloc::{AllocError, Global};
 use std::test::Fail;
@@ -16,7 +19,11 @@ pub(crate) struct Parts<'a> {
     pub(crate) method_size: u8,
     pub(crate) exception_size: u8,
     pub(crate) has_pool: bool,
+    /// The bytes of code, at most 64. The entry method is to stand at the sixth.
+    pub(crate) code: &'a [u8],
     pub(crate) metas: &'a [&'a [u8]],
+    /// How many properties each has: none, or one.
+    pub(crate) has_methods: bool,
     pub(crate) sets: &'a [&'a [u8]],
     pub(crate) things: &'a [Thing<'a>],
     pub(crate) objects: u16,
@@ -40,7 +47,9 @@ pub(crate) const GOOD: Parts<'static> = Parts {
     method_size: 10,
     exception_size: 10,
     has_pool: true,
+    code: &[1, 2, 3],
     metas: &METAS,
+    has_methods: false,
     sets: &[b"tads-gen/030008", b"tads-io"],
     things: &[],
     objects: 100,
@@ -86,9 +95,15 @@ fn blocks(alloc: Global, parts: &Parts<'_>) -> Result<Vec<Vec<u8>>, AllocError> 
     }
     if parts.has_pool {
         blocks.push(block(alloc, b"CPDF", &[1, 0, 1, 0, 0, 0, 64, 0, 0, 0])?)?;
-        blocks.push(block(alloc, b"CPPG", &[1, 0, 0, 0, 0, 0, 0, 1, 2, 3])?)?;
+        let mut page = Vec::from_slice(alloc, &[1, 0, 0, 0, 0, 0, 0])?;
+        page.extend_from_slice(parts.code)?;
+        blocks.push(block(alloc, b"CPPG", &page)?)?;
     }
-    blocks.push(metas(alloc, parts.metas)?)?;
+    if parts.has_methods {
+        blocks.push(metas(alloc, parts.metas)?)?;
+    } else {
+        blocks.push(plain_metas(alloc, parts.metas)?)?;
+    }
     blocks.push(sets(alloc, parts.sets)?)?;
     Ok(blocks)
 }
@@ -105,6 +120,30 @@ pub(crate) fn loaded(
         savepoints: 1,
     };
     Ok(load(alloc, &image, [7; 32], limits))
+}
+
+/// The objects of a test image, whatever the machine can do with them.
+pub(crate) fn halves(alloc: Global, parts: &Parts<'_>) -> Result<Halves, Fail> {
+    let image = image(alloc, &blocks(alloc, parts)?)?;
+    let Ok(basis) = basis_of(alloc, &image) else {
+        return Err(Fail::from("the tables of a good image are refused"));
+    };
+    let Ok(objects) = checked_objects(alloc, &image, &basis.kinds) else {
+        return Err(Fail::from("the objects of a good image are refused"));
+    };
+    let limits = StoreLimits {
+        objects: 1_048_576,
+        units: 4_194_304,
+        records: 1,
+        savepoints: 1,
+    };
+    if is_past(objects.as_slice(), limits) {
+        return Err(Fail::from("the objects of a good image are too many"));
+    }
+    match halve(alloc, objects) {
+        Ok(halves) => Ok(halves),
+        Err(_why) => Err(Fail::from("no memory")),
+    }
 }
 
 /// The refusal of a test image.

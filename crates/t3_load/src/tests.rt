@@ -41,10 +41,20 @@ fn block(alloc: Global, name: &[u8], count: usize, items: &[u8]) -> Result<Vec<u
 
 /// The metaclasses of these names, each with the two properties 3 and 1.
 pub(crate) fn metas(alloc: Global, names: &[&[u8]]) -> Result<Vec<u8>, AllocError> {
+    metas_with(alloc, names, b"\x02\x00\x02\x00\x03\x00\x01\x00")
+}
+
+/// The metaclasses of these names, without properties.
+pub(crate) fn plain_metas(alloc: Global, names: &[&[u8]]) -> Result<Vec<u8>, AllocError> {
+    metas_with(alloc, names, b"\x00\x00\x02\x00")
+}
+
+/// The metaclasses of these names, each with these properties behind their count and size.
+fn metas_with(alloc: Global, names: &[&[u8]], props: &[u8]) -> Result<Vec<u8>, AllocError> {
     let mut items = Vec::new(alloc);
     for name in names {
         let mut entry = named(alloc, name)?;
-        entry.extend_from_slice(b"\x02\x00\x02\x00\x03\x00\x01\x00")?;
+        entry.extend_from_slice(props)?;
         items.extend_from_slice(&two(entry.len().wrapping_add(2)))?;
         items.extend_from_slice(&entry)?;
     }

@@ -71,9 +71,7 @@ fn is_later_method(pools: &Pools, method: u32) -> bool
     ensures { result ≡ is_later_method_at pools.now.code method }
 {
     has_header(pools, method)
-        && !(is_zero(pools, method)
-            && is_zero(pools, method + 6)
-            && is_zero(pools, method + 7))
+        && !(is_zero(pools, method) && is_zero(pools, method + 6) && is_zero(pools, method + 7))
 }
 
 /// Whether a method's header stands at an address: ten bytes, of which the second is 0.

@@ -1,21 +1,26 @@
 //! Built-in functions.
-ghost use Rattle.std.specs.Prelude.{◌≡◌, ◌≤◌, ◌++◌, length, take, drop, IfOk, reverse, option_map, string_bytes};
-ghost use Rattle.t3_interp.specs.Step.{program_of};
+ghost use Rattle.std.specs.Prelude.{◌≡◌, ◌≤◌, ◌++◌, if◌then◌else◌, length, take, drop, IfOk, reverse, option_map, string_bytes};
 ghost use Rattle.t3_interp.specs.Values.{said_text, said_texts};
-ghost use Rattle.t3_interp.specs.Instructions.{make_action, builtin_action, io_action, says};
+ghost use Rattle.t3_interp.specs.Instructions.{make_action, builtin_action, io_action, is_gen_function, says};
 ghost use Rattle.t3_interp.specs.Inner.Acting.{HasAction, Appends};
+ghost use Rattle.t3_interp.specs.declared.effect.Effect.TheVariants.{Stop, Fault as FaultEffect};
+ghost use Rattle.t3_interp.specs.declared.event.CodeWhy.TheVariants.{Unbuilt};
+ghost use Rattle.t3_ops.specs.declared.fault.Fault.TheVariants.{NoBuiltin};
 
 use crate::effect::Effect;
 use crate::event::CodeWhy;
-use crate::loader::Program;
 use crate::machine::Core;
 use std::alloc::{AllocError, Global};
 use t3_holder::{Bytes, Holder, NoMemory};
+use t3_load::{Program, SetKind};
 use t3_methods::MakeCode;
 use t3_ops::Fault;
 
 /// The index of the function that says values.
 const SAY: u8 = 0;
+
+/// The index of the function that sets by which function values are said, which isn't built yet.
+const SET_SAY: u8 = 1;
 
 /// The index of the function that takes a line of input, which isn't built yet.
 const INPUT_LINE: u8 = 4;
@@ -28,7 +33,7 @@ pub(super) fn make(
     core: &mut Core,
     code: MakeCode,
 ) -> Result<Effect, NoMemory>
-    ensures { IfOk result (λ effect. HasAction (make_action (program_of program.now) code) core.old effect
+    ensures { IfOk result (λ effect. HasAction (make_action program.now code) core.old effect
         core.new) }
 {
     match code {
@@ -41,8 +46,7 @@ pub(super) fn make(
     }
 }
 
-/// Calls a function of a set, with so many operands. Set 0 is that for input and output where the image has
-/// it, and there is no other.
+/// Calls a function of a set, with so many operands. The set is one of the image's table.
 fn builtin(
     alloc: Global,
     program: &Program,
@@ -51,17 +55,44 @@ fn builtin(
     index: u8,
     count: u8,
 ) -> Result<Effect, NoMemory>
-    ensures { IfOk result (λ effect. HasAction (builtin_action (program_of program.now) set index count) core.old
+    ensures { IfOk result (λ effect. HasAction (builtin_action program.now set index count) core.old
         effect core.new) }
 {
-    if !program.has_io || set != 0 {
-        return Ok(Effect::Fault(Fault::NoBuiltin));
+    match program.sets.0.get(usize::from(set)) {
+        Some(SetKind::Io) => io_builtin(alloc, core, index, count),
+        Some(SetKind::Gen) => Ok(unless_listed(is_gen_function(index))),
+        Some(SetKind::Vm) => Ok(unless_listed(index == SET_SAY)),
+        None => Ok(Effect::Fault(Fault::NoBuiltin)),
     }
+}
+
+/// Calls a function of the set for input and output.
+fn io_builtin(alloc: Global, core: &mut Core, index: u8, count: u8) -> Result<Effect, NoMemory>
+    ensures { IfOk result (λ effect. HasAction (io_action index count) core.old effect core.new) }
+{
     match index {
         SAY => say(alloc, core, count),
         INPUT_LINE => Ok(Effect::Stop(CodeWhy::Unbuilt)),
         _ => Ok(Effect::Fault(Fault::NoBuiltin)),
     }
+}
+
+/// What is asked for by a function that is listed, but not built yet, or by one that there isn't.
+fn unless_listed(listed: bool) -> Effect
+    ensures { result ≡ if listed then Stop Unbuilt else FaultEffect NoBuiltin }
+{
+    if listed {
+        Effect::Stop(CodeWhy::Unbuilt)
+    } else {
+        Effect::Fault(Fault::NoBuiltin)
+    }
+}
+
+/// Which functions there are of the general set.
+fn is_gen_function(index: u8) -> bool
+    ensures { result ≡ is_gen_function index }
+{
+    matches!(index, 0 | 6 | 7 | 13..=20)
 }
 
 /// Says so many operands, the topmost first.

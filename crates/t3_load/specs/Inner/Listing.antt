@@ -1,5 +1,5 @@
 -- What the functions answer that gather lists from blocks.
-use Rattle.std.specs.Prelude.{◌≡◌, ℕ, List, [], ◌++◌, Option, Some, Result, Ok, Err, length, map}
+use Rattle.std.specs.Prelude.{◌≡◌, ℕ, List, ◌++◌, Option, Some, Result, Ok, Err, length, map}
 use Rattle.std.specs.Global.{Vec}
 use Rattle.t3_blocks.specs.declared.items.Symbol.{Symbol}
 use Rattle.t3_holder.specs.declared.holder.Raw.{Raw}

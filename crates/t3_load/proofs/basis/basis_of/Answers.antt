@@ -1,5 +1,4 @@
-use Rattle.std.proofs.Common.{◌≡◌, ◌∙◌, ℕ, List, Err, ap, subst, arith}
-use Rattle.t3_store.specs.declared.limits.StoreLimits.{StoreLimits}
+use Rattle.std.proofs.Common.{◌≡◌, ◌∙◌, ℕ, Err, ap, subst, arith}
 use Rattle.t3_load.specs.Rules.{KeepsRules}
 use Rattle.t3_load.specs.Inner.Deciding.{Decides}
 use Rattle.t3_load.proofs.RuleSteps.{kept_both, kept_none, decides_behind}

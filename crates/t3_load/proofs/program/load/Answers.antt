@@ -1,4 +1,4 @@
-use Rattle.std.proofs.Common.{◌≡◌, ◌∙◌, ◌||◌, Bool, true, false, List, length, nat_lt, refl, sym, ap, subst, inr}
+use Rattle.std.proofs.Common.{◌≡◌, ◌∙◌, ◌||◌, true, false, length, nat_lt, refl, sym, ap, subst, inr}
 use Rattle.std.specs.List.{list_any}
 use Rattle.t3_load.specs.ImageObjects.{object_numbers, is_past}
 use Rattle.t3_load.specs.declared.objects.ImageObject.{ImageObject}
