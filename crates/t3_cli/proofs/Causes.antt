@@ -10,7 +10,7 @@ use Rattle.t3_cli.specs.declared.status.Status.TheVariants.{Done, Usage, Absent,
 use Rattle.t3_interp.specs.declared.event.End.{End}
 use Rattle.t3_interp.specs.declared.event.End.TheVariants as ends
 use Rattle.t3_cli.specs.Command.{CommandValue, Check, Show, Run, Rewrite, Listing, Asm, RunOptions}
-use Rattle.t3_cli.specs.Lines.{absent_line, refused_line, bad_line, unloaded_line}
+use Rattle.t3_cli.specs.Lines.{absent_line, refused_line, bad_line, load_line}
 use Rattle.t3_cli.specs.Outcome.{Outcome, showing, IsResult, IsInputOutcome, IsFileOutcome, IsImageOutcome, IsRunOutcome, IsTextOutcome, IsSourceOutcome, assembled, InputFile, ImageFile, SourceFile, input_of, BeginsWith, read_bytes, shown_of, status_of}
 use Rattle.t3_cli.specs.Cause.{Cause, WordsCause, CommandCause, IsAbsent, IsRefusedImage, IsRefusedSource, IsUnloadable, EndsBy, RunsFile}
 use Rattle.t3_cli.specs.Top.{CutsShort, HasExactCause}
@@ -33,12 +33,12 @@ end_cause (Some (ends.BadCode at cause)) command files input by = inr by
 
 run_cause : (name file : List ℕ) (image : ImageValue) (options : RunOptions) (files : Files) (input : List ℕ) (outcome : Outcome)
     → get files name ≡ Some file
-    → BeginsWith (read_bytes file) image → IsRunOutcome image.blocks options outcome
+    → BeginsWith (read_bytes file) image → IsRunOutcome image options outcome
     → HasCause outcome.status (Run name options) files input
-run_cause name file image options files input outcome there begins (inl none) =
+run_cause name file image options files input outcome there begins (inl (why, loaded, is)) =
     let runs : RunsFile (Run name options) files image options = record { name = name; file = file; command_is = refl; there = there; begins = begins } in
     let P : Status → Type 0 = λ s. HasCause s (Run name options) files input in
-    subst P (sym (ap (λ (o : Outcome). o.status) none.1)) (inr (image, options, runs, none.0))
+    subst P (sym (ap (λ (o : Outcome). o.status) is)) (inr (image, options, why, runs, loaded))
 run_cause name file image options files input outcome there begins (inr (ran, is_run, is)) =
     let runs : RunsFile (Run name options) files image options = record { name = name; file = file; command_is = refl; there = there; begins = begins } in
     let P : Status → Type 0 = λ s. HasCause s (Run name options) files input in
@@ -184,7 +184,7 @@ bad_status command (SourceFile name) files (file, refused, there, says) =
 -- a command that runs an image has the outcome of that
 runs_status : (command : CommandValue) (files : Files) (input : List ℕ) (image : ImageValue) (options : RunOptions) (outcome : Outcome)
     → RunsFile command files image options
-    → IsRunOutcome image.blocks options outcome → HasStatus outcome.status (Some command) files input
+    → IsRunOutcome image options outcome → HasStatus outcome.status (Some command) files input
 runs_status command files input image options outcome runs is =
     let P : Option (List ℕ) → Type 0 = λ o. IsFileOutcome (Run runs.name options) runs.name o outcome in
     let Q : CommandValue → Type 0 = λ c. IsResult (Some c) files input outcome in
@@ -201,8 +201,8 @@ as_status a b command files input same has = record { outcome = has.outcome; res
 
 unloaded_status : (command : CommandValue) (files : Files) (input : List ℕ) → IsUnloadable command files
     → HasStatus LoadRefused (Some command) files input
-unloaded_status command files input (image, options, runs, none) =
-    runs_status command files input image options (showing LoadRefused unloaded_line) runs (inl (none, refl))
+unloaded_status command files input (image, options, why, runs, loaded) =
+    runs_status command files input image options (showing LoadRefused (load_line why)) runs (inl (why, loaded, refl))
 
 ends_status : (status : Status) (command : CommandValue) (files : Files) (input : List ℕ) → EndsBy status command files
     → HasStatus status (Some command) files input

@@ -5,17 +5,17 @@ use Rattle.t3_io.specs.Files.{Files}
 use Rattle.t3_io.specs.Session.{Session}
 use Rattle.t3_io.specs.Putting.{PutsFile}
 use Rattle.t3_io.specs.declared.refusal.DeviceRefusal.{DeviceRefusal}
-use Rattle.t3_image_read.specs.declared.image.PlacedBlock.{PlacedBlock}
 use Rattle.t3_interp.specs.declared.event.End.{End}
 use Rattle.t3_cli.specs.declared.status.Status.{Status}
 use Rattle.t3_cli.specs.declared.status.Status.TheVariants.{Done, LoadRefused, NoMemory}
 use Rattle.t3_cli.specs.Act.{Act, Shows, Puts}
 use Rattle.t3_cli.specs.declared.images.read.ReadImage.{ReadImage}
 use Rattle.t3_cli.specs.Command.{CommandValue, RunOptions}
-use Rattle.t3_cli.specs.Lines.{closing_text, is_nonempty, put_line, unloaded_line}
-use Rattle.t3_interp.specs.Loading.{LoadsAs, IsUnloaded}
-use Rattle.t3_interp.specs.Machine.{ProgramValue}
-use Rattle.t3_cli.specs.Outcome.{showing, putting, shown_of, status_of, IsRunOutcome}
+use Rattle.t3_cli.specs.Lines.{closing_text, is_nonempty, put_line, load_line}
+use Rattle.t3_image_read.specs.ImageText.{ImageValue}
+use Rattle.t3_load.specs.declared.refusal.LoadRefusal.{LoadRefusal as LoadWhy}
+use Rattle.t3_load.specs.Loading.{ProgramValue}
+use Rattle.t3_cli.specs.Outcome.{showing, putting, shown_of, status_of, IsRunOutcome, IsLoaded}
 use Rattle.t3_interp.specs.Run.{Ran}
 use Rattle.t3_cli.specs.Top.{CutsShort, ShowsMore, IsShown}
 use Rattle.t3_cli.specs.Inner.Showing.{AnswersLine, ShowsOrWants}
@@ -213,26 +213,28 @@ run_cut program steps files before after answer begun cut =
     )
 
 -- an image that loads is run as its program
-pub image_follows : (blocks : List PlacedBlock) (program : ProgramValue) (options : RunOptions) (files : Option Files)
-    (before after : Option Session) (answer : Status) → LoadsAs blocks program
+pub image_follows : (image : ImageValue) (program : ProgramValue) (options : RunOptions) (files : Option Files)
+    (before after : Option Session) (answer : Status) → IsLoaded image (Ok program)
     → FollowsSome (IsProgramOutcome program options.steps) files files before after answer
-    → FollowsSome (IsRunOutcome blocks options) files files before after answer
-image_follows blocks program options files before after answer loads (outcome, (ran, runs, is), follows) =
-    (outcome, inr (ran, record { program = program; loads = loads; runs = runs }, is), follows)
+    → FollowsSome (IsRunOutcome image options) files files before after answer
+image_follows image program options files before after answer loaded (outcome, (ran, runs, is), follows) =
+    (outcome, inr (ran, record { program = program; loaded = loaded; runs = runs }, is), follows)
 
--- one that doesn't has one line
-pub unloaded_follows : (blocks : List PlacedBlock) (options : RunOptions) (files : Option Files) (before after : Option Session)
-    (answer : Status) → IsUnloaded blocks
-    → IsShown before after unloaded_line LoadRefused answer → FollowsSome (IsRunOutcome blocks options) files files before after answer
-unloaded_follows blocks options files before after answer none shown =
-    (showing LoadRefused unloaded_line, inl (none, refl), follows_shown files before before after [] unloaded_line LoadRefused answer (shows_nothing before) shown)
+-- of one that doesn't a line says why, if there was memory for it
+pub unloaded_follows : {Line Error : Type 0} (text_of : Line → List ℕ) (image : ImageValue) (why : LoadWhy) (options : RunOptions)
+    (files : Option Files) (before after : Option Session) (line : Result Line Error) (answer : Status) → IsLoaded image (Err why)
+    → IfOk line (λ l. text_of l ≡ load_line why) → AnswersLine text_of before after line LoadRefused answer
+    → FollowsSome (IsRunOutcome image options) files files before after answer
+unloaded_follows text_of image why options files before after line answer loaded told answers =
+    (showing LoadRefused (load_line why), inl (why, loaded, refl),
+    line_follows text_of files before after line (load_line why) LoadRefused answer told answers)
 
 -- no memory was there to load it
-pub loading_cut : (blocks : List PlacedBlock) (options : RunOptions) (files : Option Files) (before : Option Session) (answer : Status)
+pub loading_cut : (image : ImageValue) (options : RunOptions) (files : Option Files) (before : Option Session) (answer : Status)
     → CutsShort answer
-    → FollowsSome (IsRunOutcome blocks options) files files before before answer
-loading_cut blocks options files before answer cut =
-    let some = some_run_outcome blocks options in
+    → FollowsSome (IsRunOutcome image options) files files before before answer
+loading_cut image options files before answer cut =
+    let some = some_run_outcome image options in
     (showing some.0 some.1, some.2, follows_cut files before before some.1 [] some.1 some.0 answer cut refl (shows_nothing before))
 
 -- ---- what was matched

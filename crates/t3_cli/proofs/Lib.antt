@@ -9,3 +9,4 @@ pub mod Spelled
 pub mod Stories
 pub mod Causes
 pub mod OptionValues
+mod Digested

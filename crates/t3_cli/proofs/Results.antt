@@ -7,7 +7,6 @@ use Rattle.t3_blocks.proofs.Lists.{AreBytes-take}
 use Rattle.t3_image_read.specs.ImageText.{ImageValue, text}
 use Rattle.t3_image_read.specs.Refusal.{Refused}
 use Rattle.t3_image_read.specs.declared.refusal.ReadWhy.{ReadWhy}
-use Rattle.t3_image_read.specs.declared.image.PlacedBlock.{PlacedBlock}
 use Rattle.t3_image_read.proofs.Existence.{image_or_refused}
 use Rattle.t3_image_read.proofs.Uniqueness.{one_image, one_refusal, not_both}
 use Rattle.t3_asm.specs.declared.refusal.AsmRefusal.{AsmRefusal}
@@ -17,28 +16,44 @@ use Rattle.t3_cli.specs.declared.images.read.ReadImage.TheVariants as read
 use Rattle.t3_cli.specs.declared.status.Status.{Status}
 use Rattle.t3_cli.specs.declared.status.Status.TheVariants.{Done, Usage, Absent, ImageRefused, LoadRefused, SourceRefused}
 use Rattle.t3_cli.specs.Command.{CommandValue, Check, Show, Run, Rewrite, Listing, Asm, RunOptions}
-use Rattle.t3_cli.specs.Lines.{usage_line, absent_line, refused_line, bad_line, unloaded_line}
+use Rattle.t3_cli.specs.Lines.{usage_line, absent_line, refused_line, bad_line, load_line}
 use Rattle.t3_cli.specs.BlockLines.{check_text, show_text}
-use Rattle.t3_interp.specs.Machine.{ProgramValue, initial}
+use Rattle.t3_load.specs.declared.refusal.LoadRefusal.{LoadRefusal}
+use Rattle.t3_load.specs.Loading.{ProgramValue}
+use Rattle.t3_load.proofs.OneAnswer.{one_answer}
+use Rattle.t3_load.proofs.SomeAnswer.{some_answer}
+use Rattle.t3_interp.specs.Machine.{initial}
 use Rattle.t3_interp.specs.Run.{Ran, Runs}
-use Rattle.t3_cli.specs.Outcome.{Outcome, showing, putting, IsResult, IsInputOutcome, IsFileOutcome, IsImageOutcome, IsRunOutcome, IsSourceOutcome, IsTextOutcome, assembled, BeginsWith, InputFile, ImageFile, SourceFile, input_of, written_text, HoldBytes, read_bytes, read_limit, shown_of, status_of}
+use Rattle.t3_cli.specs.Outcome.{Outcome, showing, putting, IsResult, IsInputOutcome, IsFileOutcome, IsImageOutcome, IsRunOutcome, IsLoaded, fingerprint_of, run_limits, IsSourceOutcome, IsTextOutcome, assembled, BeginsWith, InputFile, ImageFile, SourceFile, input_of, written_text, HoldBytes, read_bytes, read_limit, shown_of, status_of}
 use Rattle.t3_cli.specs.Inner.Parsing.{file_of}
 use Rattle.t3_cli.specs.Inner.Reading.{ReadsBytes, ReadsText, Assembles, ReadsInput}
 use Rattle.t3_cli.specs.Inner.Following.{IsReadOutcome}
 use Rattle.t3_interp.proofs.Runs.{one_run, some_run}
-use Rattle.t3_interp.proofs.Programs.{one_program, some_program}
 
 -- ---- one outcome
 
-one_run_outcome : (blocks : List PlacedBlock) (options : RunOptions) (a b : Outcome) → IsRunOutcome blocks options a
-    → IsRunOutcome blocks options b → a ≡ b
-one_run_outcome blocks options a b (inl x) (inl y) = x.1 ∙ sym y.1
-one_run_outcome blocks options a b (inl x) (inr y) = absurd (x.0 y.1.program y.1.loads)
-one_run_outcome blocks options a b (inr x) (inl y) = absurd (y.0 x.1.program x.1.loads)
-one_run_outcome blocks options a b (inr x) (inr y) =
+-- loading gives one answer
+one_loaded : (image : ImageValue) (a b : Result ProgramValue LoadRefusal) → IsLoaded image a → IsLoaded image b → a ≡ b
+one_loaded image a b is_a is_b = one_answer image.blocks (fingerprint_of image) run_limits a b is_a.0 is_b.0 is_a.1 is_b.1
+
+one_run_outcome : (image : ImageValue) (options : RunOptions) (a b : Outcome) → IsRunOutcome image options a
+    → IsRunOutcome image options b → a ≡ b
+one_run_outcome image options a b (inl x) (inl y) =
+    let both : ◌≡◌ {A = Result ProgramValue LoadRefusal} (Err x.0) (Err y.0) = one_loaded image (Err x.0) (Err y.0) x.1 y.1 in
+    let same : x.0 ≡ y.0 = cc in
+    x.2 ∙ ap (λ why. showing LoadRefused (load_line why)) same ∙ sym y.2
+one_run_outcome image options a b (inl x) (inr y) =
+    let clash : ◌≡◌ {A = Result ProgramValue LoadRefusal} (Err x.0) (Ok y.1.program) =
+    one_loaded image (Err x.0) (Ok y.1.program) x.1 y.1.loaded in absurd cc
+one_run_outcome image options a b (inr x) (inl y) =
+    let clash : ◌≡◌ {A = Result ProgramValue LoadRefusal} (Ok x.1.program) (Err y.0) =
+    one_loaded image (Ok x.1.program) (Err y.0) x.1.loaded y.1 in absurd cc
+one_run_outcome image options a b (inr x) (inr y) =
+    let both : ◌≡◌ {A = Result ProgramValue LoadRefusal} (Ok y.1.program) (Ok x.1.program) =
+    one_loaded image (Ok y.1.program) (Ok x.1.program) y.1.loaded x.1.loaded in
+    let program : y.1.program ≡ x.1.program = cc in
     let P : ProgramValue → Type 0 = λ p. Runs p options.steps initial y.0 in
-    let runs = subst P (one_program blocks y.1.program x.1.program y.1.loads x.1.loads) y.1.runs in
-    let same = one_run x.1.program options.steps initial x.0 y.0 x.1.runs runs in
+    let same = one_run x.1.program options.steps initial x.0 y.0 x.1.runs (subst P program y.1.runs) in
     x.2 ∙ ap (λ (ran : Ran). showing (status_of ran.end) (shown_of ran)) same ∙ sym y.2
 
 one_image_outcome : (command : CommandValue) (image : ImageValue) (a b : Outcome) → IsImageOutcome command image a
@@ -48,7 +63,7 @@ one_image_outcome (Show name) image a b x y = x ∙ sym y
 one_image_outcome (Rewrite name out mask) image a b x y = x ∙ sym y
 one_image_outcome (Listing name out) image a b x y = x ∙ sym y
 one_image_outcome (Asm name out) image a b x y = x ∙ sym y
-one_image_outcome (Run name options) image a b x y = one_run_outcome image.blocks options a b x y
+one_image_outcome (Run name options) image a b x y = one_run_outcome image options a b x y
 
 -- bytes that begin with an image aren't refused
 begins_or_refused : (bytes : List ℕ) (place : ℕ) (why : ReadWhy) (image : ImageValue) → Refused bytes place why → BeginsWith bytes image → ⊥
@@ -95,15 +110,16 @@ one_outcome (Some command) files input a b x y = one_input_outcome command (inpu
 
 -- ---- some outcome
 
-pub some_run_outcome : (blocks : List PlacedBlock) (options : RunOptions)
-    → (status : Status) × (shown : List ℕ) × IsRunOutcome blocks options (showing status shown)
-some_run_outcome blocks options =
-    elim (some_program blocks) [
-      | inl (program, loads) ↦
-          let run = some_run program options.steps initial in
-          (status_of run.0.end, shown_of run.0, inr (run.0, record { program = program; loads = loads; runs = run.1 }, refl))
-      | inr none ↦ (LoadRefused, unloaded_line, inl (none, refl))
-    ]
+pub some_run_outcome : (image : ImageValue) (options : RunOptions)
+    → (status : Status) × (shown : List ℕ) × IsRunOutcome image options (showing status shown)
+some_run_outcome image options = by_answer (some_answer image.blocks (fingerprint_of image) run_limits)
+  where
+    by_answer : ((answer : Result ProgramValue LoadRefusal) × IsLoaded image answer)
+        → (status : Status) × (shown : List ℕ) × IsRunOutcome image options (showing status shown)
+    by_answer (Ok program, loaded) =
+        let run = some_run program options.steps initial in
+        (status_of run.0.end, shown_of run.0, inr (run.0, record { program = program; loaded = loaded; runs = run.1 }, refl))
+    by_answer (Err why, loaded) = (LoadRefused, load_line why, inl (why, loaded, refl))
 
 some_image_outcome : (command : CommandValue) (image : ImageValue) → (outcome : Outcome) × IsImageOutcome command image outcome
 some_image_outcome (Check name) image = (showing Done (check_text image), refl)
@@ -112,7 +128,7 @@ some_image_outcome (Rewrite name out mask) image = (putting out (written_text ma
 some_image_outcome (Listing name out) image = (putting out (listing image), refl)
 some_image_outcome (Asm name out) image = (putting out (text image), refl)
 some_image_outcome (Run name options) image =
-    let some = some_run_outcome image.blocks options in
+    let some = some_run_outcome image options in
     (showing some.0 some.1, some.2)
 
 some_file_outcome : (command : CommandValue) (name : List ℕ) (file : Option (List ℕ))

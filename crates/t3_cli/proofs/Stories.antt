@@ -7,7 +7,8 @@ use Rattle.t3_interp.specs.declared.event.Event.{Event}
 use Rattle.t3_interp.specs.declared.event.Event.TheVariants.{Went, Said, Ended}
 use Rattle.t3_interp.specs.declared.event.End.{End}
 use Rattle.t3_cli.specs.Lines.{is_nonempty}
-use Rattle.t3_interp.specs.Machine.{ProgramValue, State, initial}
+use Rattle.t3_load.specs.Loading.{ProgramValue}
+use Rattle.t3_interp.specs.Machine.{State, initial}
 use Rattle.t3_interp.specs.Step.{Steps}
 use Rattle.t3_interp.specs.Run.{Ran, Runs, preceded_by}
 use Rattle.t3_cli.specs.Top.{ShowsMore}

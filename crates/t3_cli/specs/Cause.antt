@@ -8,9 +8,9 @@ use Rattle.t3_asm.specs.declared.refusal.AsmRefusal.{AsmRefusal}
 use Rattle.t3_cli.specs.declared.status.Status.{Status}
 use Rattle.t3_cli.specs.declared.status.Status.TheVariants.{Done, Usage, Absent, ImageRefused, LoadRefused, Unhandled, BadCode, StepLimit, SourceRefused, DepotFault, ConsoleFault, NoMemory}
 use Rattle.t3_cli.specs.Command.{CommandValue, Run, RunOptions}
-use Rattle.t3_interp.specs.Loading.{IsUnloaded}
+use Rattle.t3_load.specs.declared.refusal.LoadRefusal.{LoadRefusal as LoadWhy}
 use Rattle.t3_interp.specs.Run.{Ran}
-use Rattle.t3_cli.specs.Outcome.{InputFile, ImageFile, SourceFile, input_of, assembled, BeginsWith, RunsImage, read_bytes, status_of}
+use Rattle.t3_cli.specs.Outcome.{InputFile, ImageFile, SourceFile, input_of, assembled, BeginsWith, IsLoaded, RunsImage, read_bytes, status_of}
 
 -- the file isn't there
 abbrev pub IsAbsent : InputFile → Files → Type 0
@@ -36,14 +36,15 @@ pub record RunsFile (command : CommandValue) (files : Files) (image : ImageValue
   pub there : get files name ≡ Some file
   pub begins : BeginsWith (read_bytes file) image
 
--- that image can't be run yet
+-- no program is made of that image
 abbrev pub IsUnloadable : CommandValue → Files → Type 0
-IsUnloadable command files = (image : ImageValue) × (options : RunOptions) × RunsFile command files image options × IsUnloaded image.blocks
+IsUnloadable command files =
+    (image : ImageValue) × (options : RunOptions) × (why : LoadWhy) × RunsFile command files image options × IsLoaded image (Err why)
 
 -- it is run, and the run ends by this status
 abbrev pub EndsBy : Status → CommandValue → Files → Type 0
 EndsBy status command files =
-    (image : ImageValue) × (options : RunOptions) × (ran : Ran) × RunsFile command files image options × RunsImage image.blocks options ran × (status_of ran.end ≡ status)
+    (image : ImageValue) × (options : RunOptions) × (ran : Ran) × RunsFile command files image options × RunsImage image options ran × (status_of ran.end ≡ status)
 
 -- why a command isn't done; a failing device and want of memory have no cause here
 abbrev pub CommandCause : Status → CommandValue → Files → List ℕ → Type 0

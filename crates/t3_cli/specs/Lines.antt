@@ -4,6 +4,10 @@ use Rattle.std.specs.Fmt.{decimal}
 use Rattle.t3_image_read.specs.declared.refusal.ReadWhy.{ReadWhy}
 use Rattle.t3_asm.specs.declared.refusal.AsmWhy.{AsmWhy}
 use Rattle.t3_asm.specs.declared.refusal.AsmWhy.TheVariants as rules
+use Rattle.t3_pools.specs.declared.refusal.PoolRefusal.{PoolRefusal}
+use Rattle.t3_pools.specs.declared.refusal.PoolRefusal.TheVariants as pools
+use Rattle.t3_load.specs.declared.refusal.LoadRefusal.{LoadRefusal}
+use Rattle.t3_load.specs.declared.refusal.LoadRefusal.TheVariants as load
 use Rattle.t3_interp.specs.declared.event.End.{End}
 use Rattle.t3_interp.specs.declared.event.End.TheVariants.{Returned, Unhandled, BadCode}
 use Rattle.t3_ops.specs.Faults.{fault_number}
@@ -70,9 +74,42 @@ source_why_name rules.NoMemory = codes "NoMemory"
 abbrev pub bad_line : ℕ → AsmWhy → List ℕ
 bad_line line why = codes "refused line " ++ (decimal line ++ (codes " " ++ (source_why_name why ++ newline)))
 
--- an image that can't be run yet
-abbrev pub unloaded_line : List ℕ
-unloaded_line = codes "load refused Unbuilt" ++ newline
+-- the name of a rule on pools
+abbrev pub pool_rule_name : PoolRefusal → List ℕ
+pool_rule_name pools.NoCode = codes "NoCode"
+pool_rule_name pools.TwoDefs = codes "TwoDefs"
+pool_rule_name pools.TooWide = codes "TooWide"
+pool_rule_name pools.PageIndex = codes "PageIndex"
+pool_rule_name pools.PageTwice = codes "PageTwice"
+pool_rule_name pools.PageMissing = codes "PageMissing"
+pool_rule_name pools.PageLong = codes "PageLong"
+pool_rule_name pools.NoMemory = codes "NoMemory"
+
+-- the name of a rule on images of which a program is made, and what of the image breaks it: an index, an object's number, or a rule on pools
+abbrev pub load_rule : LoadRefusal → List ℕ × Option (List ℕ)
+load_rule load.NoEntry = (codes "NoEntry", None)
+load_rule load.TwoEntries = (codes "TwoEntries", None)
+load_rule load.HeaderSizes = (codes "HeaderSizes", None)
+load_rule (load.Pool why) = (codes "Pool", Some (pool_rule_name why))
+load_rule (load.Metaclass index) = (codes "Metaclass", Some (decimal index))
+load_rule (load.FunctionSet index) = (codes "FunctionSet", Some (decimal index))
+load_rule (load.ObjectNumber number) = (codes "ObjectNumber", Some (decimal number))
+load_rule (load.ObjectTwice number) = (codes "ObjectTwice", Some (decimal number))
+load_rule (load.ObjectData number) = (codes "ObjectData", Some (decimal number))
+load_rule (load.SuperMissing number) = (codes "SuperMissing", Some (decimal number))
+load_rule (load.SuperCycle number) = (codes "SuperCycle", Some (decimal number))
+load_rule (load.TransientSuper number) = (codes "TransientSuper", Some (decimal number))
+load_rule load.Full = (codes "Full", None)
+load_rule load.Unbuilt = (codes "Unbuilt", None)
+load_rule load.NoMemory = (codes "NoMemory", None)
+
+abbrev pub load_text : List ℕ × Option (List ℕ) → List ℕ
+load_text (name, None) = codes "load refused " ++ (name ++ newline)
+load_text (name, Some detail) = codes "load refused " ++ (name ++ (codes " " ++ (detail ++ newline)))
+
+-- why no program is made of an image
+abbrev pub load_line : LoadRefusal → List ℕ
+load_line why = load_text (load_rule why)
 
 -- the name of a cause
 abbrev pub cause_name : CodeWhy → List ℕ

@@ -1,9 +1,8 @@
 -- What a command gives where nothing fails: a status, and what it does to the outside.
-use Rattle.std.specs.Prelude.{◌≡◌, ℕ, ◌⊎◌, List, [], ◌∷◌, ◌++◌, length, take, nat_lt, if◌then◌else◌, Option, Some, None, Result, Ok, Err}
+use Rattle.std.specs.Prelude.{◌≡◌, ◌≢◌, ℕ, ◌⊎◌, List, [], ◌∷◌, ◌++◌, length, take, nat_lt, if◌then◌else◌, Option, Some, None, Result, Ok, Err}
 use Rattle.std.specs.FinMap.{get}
 use Rattle.t3_holder.specs.NumberText.{AreBytes}
 use Rattle.t3_io.specs.Files.{Files}
-use Rattle.t3_image_read.specs.declared.image.PlacedBlock.{PlacedBlock}
 use Rattle.t3_image_read.specs.declared.refusal.ReadWhy.{ReadWhy}
 use Rattle.t3_image_read.specs.ImageText.{ImageValue, text}
 use Rattle.t3_image_read.specs.Validity.{IsValid}
@@ -20,10 +19,14 @@ use Rattle.t3_interp.specs.declared.event.End.{End}
 use Rattle.t3_interp.specs.declared.event.End.TheVariants as ends
 use Rattle.t3_cli.specs.Act.{Act, Shows, Puts}
 use Rattle.t3_cli.specs.Command.{CommandValue, Check, Show, Run, Rewrite, Listing, Asm, RunOptions}
-use Rattle.t3_cli.specs.Lines.{usage_line, absent_line, refused_line, put_line, bad_line, unloaded_line, closing_text, is_nonempty}
+use Rattle.t3_cli.specs.Lines.{usage_line, absent_line, refused_line, put_line, bad_line, load_line, closing_text, is_nonempty}
 use Rattle.t3_cli.specs.BlockLines.{check_text, show_text}
-use Rattle.t3_interp.specs.Machine.{ProgramValue, initial}
-use Rattle.t3_interp.specs.Loading.{LoadsAs, IsUnloaded}
+use Rattle.sha2.specs.Sha256.{sha256}
+use Rattle.t3_store.specs.declared.limits.StoreLimits.{StoreLimits}
+use Rattle.t3_load.specs.declared.refusal.LoadRefusal.{LoadRefusal}
+use Rattle.t3_load.specs.declared.refusal.LoadRefusal.TheVariants.{NoMemory as NoRoom}
+use Rattle.t3_load.specs.Loading.{ProgramValue, Loads}
+use Rattle.t3_interp.specs.Machine.{initial}
 use Rattle.t3_interp.specs.Run.{Ran, Runs}
 
 pub record Outcome : Type 0 where
@@ -71,24 +74,36 @@ status_of (Some (ends.Unhandled object fault)) = Unhandled
 status_of (Some (ends.BadCode at cause)) = BadCode
 status_of None = StepLimit
 
+-- the fingerprint of an image: the digest of its bytes
+abbrev pub fingerprint_of : ImageValue → List ℕ
+fingerprint_of image = sha256 (text image)
+
+-- how much a story has room for
+abbrev pub run_limits : StoreLimits
+run_limits = record { objects = 1048576; units = 4194304; records = 65536; savepoints = 128 }
+
+-- an image is loaded as this program, or refused by this rule
+abbrev pub IsLoaded : ImageValue → Result ProgramValue LoadRefusal → Type 0
+IsLoaded image answer = (answer ≢ Err NoRoom) × Loads image.blocks (fingerprint_of image) run_limits answer
+
 -- an image is run as its program
-pub record RunsImage (blocks : List PlacedBlock) (options : RunOptions) (ran : Ran) : Type 0 where
+pub record RunsImage (image : ImageValue) (options : RunOptions) (ran : Ran) : Type 0 where
   pub program : ProgramValue
-  pub loads : LoadsAs blocks program
+  pub loaded : IsLoaded image (Ok program)
   pub runs : Runs program options.steps initial ran
 
--- an image that can't be run yet, or is run
-abbrev pub IsRunOutcome : List PlacedBlock → RunOptions → Outcome → Type 0
-IsRunOutcome blocks options outcome =
-    (IsUnloaded blocks × (outcome ≡ showing LoadRefused unloaded_line))
-    ⊎ ((ran : Ran) × RunsImage blocks options ran × (outcome ≡ showing (status_of ran.end) (shown_of ran)))
+-- an image that is refused, or is run
+abbrev pub IsRunOutcome : ImageValue → RunOptions → Outcome → Type 0
+IsRunOutcome image options outcome =
+    ((why : LoadRefusal) × IsLoaded image (Err why) × (outcome ≡ showing LoadRefused (load_line why)))
+    ⊎ ((ran : Ran) × RunsImage image options ran × (outcome ≡ showing (status_of ran.end) (shown_of ran)))
 
 -- what a command gives of the image that it reads, or that its source says
 abbrev pub IsImageOutcome : CommandValue → ImageValue → Outcome → Type 0
 IsImageOutcome (Check name) image outcome = outcome ≡ showing Done (check_text image)
 IsImageOutcome (Show name) image outcome = outcome ≡ showing Done (show_text image)
 IsImageOutcome (Rewrite name out mask) image outcome = outcome ≡ putting out (written_text mask image)
-IsImageOutcome (Run name options) image outcome = IsRunOutcome image.blocks options outcome
+IsImageOutcome (Run name options) image outcome = IsRunOutcome image options outcome
 IsImageOutcome (Listing name out) image outcome = outcome ≡ putting out (listing image)
 IsImageOutcome (Asm name out) image outcome = outcome ≡ putting out (text image)
 

@@ -1,18 +1,18 @@
 //! The lines that are shown.
-ghost use Rattle.std.specs.Prelude.{◌≡◌, ◌++◌, Some, IfOk, string_bytes};
-ghost use Rattle.t3_cli.specs.Lines.{absent_line, refused_line, ok_line, put_line, why_name as name_of, items_of, closing_text, end_line, unhandled_line, bad_code_line, newline_if as newline_by, bad_line as bad_line_of, source_why_name as name_of_rule, cause_name as name_of_cause};
+ghost use Rattle.std.specs.Prelude.{◌≡◌, ◌++◌, Some, None, IfOk, codes, string_bytes};
+ghost use Rattle.std.specs.Fmt.{decimal};
+ghost use Rattle.t3_cli.specs.Lines.{absent_line, refused_line, ok_line, put_line, why_name as name_of, items_of, closing_text, end_line, unhandled_line, bad_code_line, newline_if as newline_by, bad_line as bad_line_of, source_why_name as name_of_rule, cause_name as name_of_cause, load_line, load_text, pool_rule_name};
 
 use std::alloc::{AllocError, Global};
 use t3_asm::AsmWhy;
 use t3_image_read::ReadWhy;
 use t3_interp::{CodeWhy, End};
+use t3_load::LoadRefusal;
+use t3_pools::PoolRefusal;
 
 /// Shown where the words are no command.
 pub(crate) const USAGE: &str =
     "usage: t3 check or show or list or run or rewrite or asm or drill\n";
-
-/// Shown where an image can't be run yet.
-pub(crate) const UNLOADED: &str = "load refused Unbuilt\n";
 
 pub(crate) fn absent(alloc: Global, name: &str) -> Result<String, AllocError>
     ensures { IfOk result (λ line. string_bytes line ≡ absent_line name.now) }
@@ -52,6 +52,62 @@ pub(crate) fn put(alloc: Global, bytes: usize) -> Result<String, AllocError>
     ensures { IfOk result (λ line. string_bytes line ≡ put_line bytes) }
 {
     format!(in alloc; "ok bytes={bytes}\n")
+}
+
+/// The line of an image of which no program is made.
+pub(crate) fn load_refused(alloc: Global, why: LoadRefusal) -> Result<String, AllocError>
+    ensures { IfOk result (λ line. string_bytes line ≡ load_line why) }
+{
+    match why {
+        LoadRefusal::NoEntry => load_rule(alloc, "NoEntry"),
+        LoadRefusal::TwoEntries => load_rule(alloc, "TwoEntries"),
+        LoadRefusal::HeaderSizes => load_rule(alloc, "HeaderSizes"),
+        LoadRefusal::Pool(why) => load_pool(alloc, pool_rule_name(why)),
+        LoadRefusal::Metaclass(index) => load_number(alloc, "Metaclass", index),
+        LoadRefusal::FunctionSet(index) => load_number(alloc, "FunctionSet", index),
+        LoadRefusal::ObjectNumber(number) => load_number(alloc, "ObjectNumber", number),
+        LoadRefusal::ObjectTwice(number) => load_number(alloc, "ObjectTwice", number),
+        LoadRefusal::ObjectData(number) => load_number(alloc, "ObjectData", number),
+        LoadRefusal::SuperMissing(number) => load_number(alloc, "SuperMissing", number),
+        LoadRefusal::SuperCycle(number) => load_number(alloc, "SuperCycle", number),
+        LoadRefusal::TransientSuper(number) => load_number(alloc, "TransientSuper", number),
+        LoadRefusal::Full => load_rule(alloc, "Full"),
+        LoadRefusal::Unbuilt => load_rule(alloc, "Unbuilt"),
+        LoadRefusal::NoMemory => load_rule(alloc, "NoMemory"),
+    }
+}
+
+fn load_rule(alloc: Global, name: &str) -> Result<String, AllocError>
+    ensures { IfOk result (λ line. string_bytes line ≡ load_text (name.now, None)) }
+{
+    format!(in alloc; "load refused {name}\n")
+}
+
+fn load_number(alloc: Global, name: &str, number: u32) -> Result<String, AllocError>
+    ensures { IfOk result (λ line. string_bytes line ≡ load_text (name.now, Some (decimal number))) }
+{
+    format!(in alloc; "load refused {name} {number}\n")
+}
+
+fn load_pool(alloc: Global, rule: &str) -> Result<String, AllocError>
+    ensures { IfOk result (λ line. string_bytes line ≡ load_text (codes "Pool", Some rule.now)) }
+{
+    format!(in alloc; "load refused Pool {rule}\n")
+}
+
+fn pool_rule_name(why: PoolRefusal) -> &'static str
+    ensures { result.now ≡ pool_rule_name why }
+{
+    match why {
+        PoolRefusal::NoCode => "NoCode",
+        PoolRefusal::TwoDefs => "TwoDefs",
+        PoolRefusal::TooWide => "TooWide",
+        PoolRefusal::PageIndex => "PageIndex",
+        PoolRefusal::PageTwice => "PageTwice",
+        PoolRefusal::PageMissing => "PageMissing",
+        PoolRefusal::PageLong => "PageLong",
+        PoolRefusal::NoMemory => "NoMemory",
+    }
 }
 
 fn why_name(why: ReadWhy) -> &'static str

@@ -2,8 +2,7 @@
 ghost use Rattle.std.specs.Prelude.{◌≡◌, ◌≢◌, ◌⊎◌, ◌<◌, ◌-◌, ◌^◌, Option};
 ghost use Rattle.t3_io.specs.Files.{Files};
 ghost use Rattle.t3_io.specs.Cause.{MovesFaults};
-ghost use Rattle.t3_interp.specs.Step.{program_of};
-ghost use Rattle.t3_cli.specs.Outcome.{IsRunOutcome, status_of as status_by};
+ghost use Rattle.t3_cli.specs.Outcome.{IsRunOutcome, fingerprint_of, status_of as status_by};
 ghost use Rattle.t3_cli.specs.Lines.{closing_text};
 ghost use Rattle.t3_cli.specs.Command.{options_value};
 ghost use Rattle.t3_cli.specs.Inner.Showing.{ShowsOrWants};
@@ -11,33 +10,45 @@ ghost use Rattle.t3_cli.specs.Inner.Following.{FollowsSome};
 ghost use Rattle.t3_cli.specs.Inner.Playing.{IsProgramOutcome, PlaysOn};
 
 use crate::commands::command::RunOptions;
-use crate::console::{answer, end_with, show};
+use crate::console::{answer, show};
 use crate::lines;
 use crate::status::Status;
 use std::alloc::Global;
 use t3_image_read::Image;
-use t3_interp::{End, Event, LoadRefusal, Machine, Program, load};
+use t3_interp::{End, Event, Machine};
 use t3_io::{Console, DeviceRefusal};
+use t3_load::{LoadRefusal, Program, load};
+use t3_store::StoreLimits;
+
+/// How much a story has room for.
+const LIMITS: StoreLimits = StoreLimits {
+    objects: 1_048_576,
+    units: 4_194_304,
+    records: 65_536,
+    savepoints: 128,
+};
 
 /// Runs an image, and shows what it says and how it ends.
 pub(crate) fn launch<C: Console>(
     alloc: Global,
     image: &Image,
+    fingerprint: [u8; 32],
     options: RunOptions,
     console: &mut C,
 ) -> Status
-    requires { C.faults console.old < 2 ^ 64 - 1 }
+    requires fingerprint { fingerprint ≡ fingerprint_of image.now }
+    requires faults { C.faults console.old < 2 ^ 64 - 1 }
     ensures follows { (files : Option Files) → FollowsSome
-        (IsRunOutcome image.now.blocks (options_value options)) files files (C.session console.old)
+        (IsRunOutcome image.now (options_value options)) files files (C.session console.old)
         (C.session console.new) result }
     ensures fault { result ≡ Status.ConsoleFault → C.faults console.old < C.faults console.new }
     ensures rise { (result ≡ Status.ConsoleFault) ⊎ (C.faults console.new ≡ C.faults console.old) }
     ensures no_depot { result ≢ Status.DepotFault }
 {
-    match load(alloc, image) {
+    match load(alloc, image, fingerprint, LIMITS) {
         Ok(program) => play(alloc, &program, options.steps, console),
-        Err(LoadRefusal::Unbuilt) => end_with(console, lines::UNLOADED, Status::LoadRefused),
         Err(LoadRefusal::NoMemory) => Status::NoMemory,
+        Err(why) => answer(console, lines::load_refused(alloc, why), Status::LoadRefused),
     }
 }
 
@@ -45,7 +56,7 @@ pub(crate) fn launch<C: Console>(
 fn play<C: Console>(alloc: Global, program: &Program, steps: u32, console: &mut C) -> Status
     requires { C.faults console.old < 2 ^ 64 - 1 }
     ensures follows { (files : Option Files) → FollowsSome
-        (IsProgramOutcome (program_of program.now) steps) files files (C.session console.old)
+        (IsProgramOutcome program.now steps) files files (C.session console.old)
         (C.session console.new) result }
     ensures fault { result ≡ Status.ConsoleFault → C.faults console.old < C.faults console.new }
     ensures rise { (result ≡ Status.ConsoleFault) ⊎ (C.faults console.new ≡ C.faults console.old) }
@@ -68,7 +79,7 @@ fn play_on<C: Console>(
     console: &mut C,
 ) -> Result<(bool, Option<End>), DeviceRefusal>
     requires { C.faults console.old < 2 ^ 64 - 1 }
-    ensures plays { PlaysOn (program_of program.now) steps (C.session console.old)
+    ensures plays { PlaysOn program.now steps (C.session console.old)
         (C.session console.new) result }
     ensures cause { MovesFaults (C.faults console.old) (C.faults console.new) result }
 {

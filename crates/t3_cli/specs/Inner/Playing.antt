@@ -4,7 +4,8 @@ use Rattle.t3_io.specs.Session.{Session}
 use Rattle.t3_io.specs.declared.refusal.DeviceRefusal.{DeviceRefusal}
 use Rattle.t3_interp.specs.declared.event.End.{End}
 use Rattle.t3_cli.specs.Lines.{is_nonempty}
-use Rattle.t3_interp.specs.Machine.{ProgramValue, State, initial}
+use Rattle.t3_load.specs.Loading.{ProgramValue}
+use Rattle.t3_interp.specs.Machine.{State, initial}
 use Rattle.t3_cli.specs.Outcome.{Outcome, showing, shown_of, status_of}
 use Rattle.t3_interp.specs.Run.{Ran, Runs, preceded_by}
 use Rattle.t3_cli.specs.Top.{ShowsMore}

@@ -1,5 +1,5 @@
 -- What is read of an image's file, as the commands hand it on.
-use Rattle.std.specs.Prelude.{◌≡◌, ℕ, ◌≤◌, List, length, take, drop, Option, Some, None, Result, Ok, Err}
+use Rattle.std.specs.Prelude.{◌≡◌, ℕ, ◌≤◌, Bool, true, false, List, [], length, take, drop, Option, Some, None, Result, Ok, Err}
 use Rattle.std.specs.FinMap.{get}
 use Rattle.std.specs.Option.{option_map}
 use Rattle.std.specs.Global.{Vec}
@@ -11,6 +11,11 @@ use Rattle.t3_io.specs.declared.depot.Got.TheVariants as got
 use Rattle.t3_io.specs.declared.refusal.DeviceRefusal.{DeviceRefusal}
 use Rattle.t3_io.specs.declared.refusal.DeviceRefusal.TheVariants as device
 use Rattle.t3_image_read.specs.declared.reader.Fed.{Fed}
+use Rattle.sha2.specs.Hashers.{Holds256}
+use Rattle.sha2.specs.declared.Sha256.{Sha256}
+use Rattle.t3_image_read.specs.declared.reader.Fed.TheVariants as fed
+use Rattle.t3_image_read.specs.ImageText.{text}
+use Rattle.t3_cli.specs.Command.{CommandValue, Run}
 use Rattle.t3_image_read.specs.declared.refusal.ReadRefusal.{ReadRefusal}
 use Rattle.t3_image_read.specs.declared.refusal.ReadRefusal.TheVariants as refusal
 use Rattle.t3_image_read.specs.declared.refusal.ReadWhy.TheVariants.{Truncated}
@@ -111,3 +116,30 @@ HasRead files name (Failed refusal.NoMemory) at = Unit {0}
 -- a piece was fed
 abbrev pub IsFed : Reading → List ℕ → Reading → Type 0
 IsFed before piece after = (answer : Result Fed ReadRefusal) × Feeds before piece answer after
+
+-- ---- the digest of what is read
+
+-- the bytes of a piece that a reader took
+abbrev pub taken_of : List ℕ → Result Fed ReadRefusal → List ℕ
+taken_of piece (Ok fed.More) = piece
+taken_of piece (Ok (fed.Done used)) = take used piece
+taken_of piece (Err refusal) = []
+
+-- the hasher holds what the reader took, where it is to
+abbrev pub Digests : Bool → Reading → Sha256 → Type 0
+Digests false reading hasher = Unit {0}
+Digests true (Taking taken) hasher = Holds256 hasher taken
+Digests true (Ended image) hasher = Holds256 hasher (text image)
+Digests true (Failed refusal) hasher = Unit {0}
+
+-- it holds the image that was read, where it is to
+abbrev pub DigestsRead : Bool → Result ReadImage DeviceRefusal → Sha256 → Type 0
+DigestsRead false answer hasher = Unit {0}
+DigestsRead true (Ok (read.Image image)) hasher = Holds256 hasher (text image)
+DigestsRead true (Ok _) hasher = Unit {0}
+DigestsRead true (Err _) hasher = Unit {0}
+
+-- it holds the image that is run
+abbrev pub IsDigested : CommandValue → ReadImage → Sha256 → Type 0
+IsDigested (Run name options) (read.Image image) hasher = Holds256 hasher (text image)
+IsDigested _ _ hasher = Unit {0}

@@ -1,11 +1,12 @@
 //! Carries commands out: reads their image or source, and shows what it is or what it says, or writes it
 //! anew.
-ghost use Rattle.std.specs.Prelude.{◌≡◌, ◌≢◌, ◌<◌, ◌-◌, ◌^◌, ◌⊎◌, Some, IfSome};
+ghost use Rattle.std.specs.Prelude.{◌≡◌, ◌≢◌, ◌<◌, ◌-◌, ◌^◌, ◌⊎◌, [], Some, IfSome, IfOk};
 ghost use Rattle.t3_holder.specs.FileName.{IsFileName};
 ghost use Rattle.t3_io.specs.Cause.{MovesFaults};
 ghost use Rattle.t3_asm.specs.Listing.{listing};
 ghost use Rattle.t3_cli.specs.Outcome.{putting, written_text, input_of};
-ghost use Rattle.t3_cli.specs.Inner.Reading.{ReadsInput};
+ghost use Rattle.t3_cli.specs.Inner.Reading.{ReadsInput, IsDigested};
+ghost use Rattle.sha2.specs.Hashers.{Holds256};
 ghost use Rattle.t3_cli.specs.Top.{CutsShort, ShowsSome};
 ghost use Rattle.t3_cli.specs.Command.{command_value, HasFileNames};
 ghost use Rattle.t3_cli.specs.Inner.Following.{Answers, FollowsSome, Follows, IsReadOutcome};
@@ -19,6 +20,7 @@ use crate::images::source::read_source;
 use crate::lines;
 use crate::status::Status;
 use crate::story::launch;
+use sha2::{Digest, Sha256};
 use std::alloc::Global;
 use t3_image_read::Image;
 use t3_io::{Console, Depot, DeviceRefusal};
@@ -44,31 +46,37 @@ pub(crate) fn carry_out<D: Depot, C: Console>(
     ensures console_rise { (result ≡ Status.ConsoleFault) ⊎
         (C.faults console.new ≡ C.faults console.old) }
 {
-    match read_input(alloc, command, depot) {
-        Ok(read) => act(alloc, command, read, depot, console),
+    let mut hasher = Sha256::new();
+    match read_input(alloc, command, depot, &mut hasher) {
+        Ok(read) => act(alloc, command, read, hasher, depot, console),
         Err(refusal) => depot_status(refusal),
     }
 }
 
-/// Reads the command's file: an image, or a source that says one.
+/// Reads the command's file: an image, or a source that says one. The hasher gets the bytes of an image that is run.
 fn read_input<D: Depot>(
     alloc: Global,
     command: Command,
     depot: &mut D,
+    hasher: &mut Sha256,
 ) -> Result<ReadImage, DeviceRefusal>
     requires names { HasFileNames (command_value command) }
     requires faults { D.faults depot.old < 2 ^ 64 - 1 }
+    requires fresh { Holds256 hasher.old [] }
     ensures read { ReadsInput (D.files depot.old) (input_of (command_value command.entry)) result }
+    ensures digest { IfOk result (λ read. IsDigested (command_value command.entry) read hasher.new) }
     ensures files { D.files depot.new ≡ D.files depot.old }
     ensures cause { MovesFaults (D.faults depot.old) (D.faults depot.new) result }
 {
     match command {
         Command::Asm { source, .. } => read_source(alloc, source.as_bytes(), depot),
+        Command::Run { image, .. } => read_image(alloc, image.as_bytes(), depot, hasher, true),
         Command::Check { image }
         | Command::Show { image }
-        | Command::Run { image, .. }
         | Command::Rewrite { image, .. }
-        | Command::List { image, .. } => read_image(alloc, image.as_bytes(), depot),
+        | Command::List { image, .. } => {
+            read_image(alloc, image.as_bytes(), depot, hasher, false)
+        }
     }
 }
 
@@ -90,10 +98,12 @@ fn act<D: Depot, C: Console>(
     alloc: Global,
     command: Command,
     read: ReadImage,
+    hasher: Sha256,
     depot: &mut D,
     console: &mut C,
 ) -> Status
     requires names { HasFileNames (command_value command) }
+    requires digest { IsDigested (command_value command) read hasher }
     requires depot { D.faults depot.old < 2 ^ 64 - 1 }
     requires console { C.faults console.old < 2 ^ 64 - 1 }
     ensures follows { FollowsSome (IsReadOutcome (command_value command.entry) read)
@@ -122,7 +132,9 @@ fn act<D: Depot, C: Console>(
         ReadImage::Image(image) => match command {
             Command::Check { .. } => answer(console, check_line(alloc, &image), Status::Done),
             Command::Show { .. } => answer(console, image_lines(alloc, &image), Status::Done),
-            Command::Run { options, .. } => launch(alloc, &image, options, console),
+            Command::Run { options, .. } => {
+                launch(alloc, &image, hasher.finalize(), options, console)
+            }
             Command::Rewrite { out, mask, .. } => rewrite(alloc, image, out, mask, depot, console),
             Command::Asm { out, .. } => rewrite(alloc, image, out, None, depot, console),
             Command::List { out, .. } => write_listing(alloc, &image, out, depot, console),

@@ -4,11 +4,13 @@ ghost use Rattle.t3_holder.specs.FileName.{IsFileName};
 ghost use Rattle.t3_io.specs.Cause.{MovesFaults};
 ghost use Rattle.t3_io.specs.Reading.{IsAtMost};
 ghost use Rattle.t3_image_read.specs.Reader.{Taking};
-ghost use Rattle.t3_cli.specs.Inner.Reading.{ReadsImage, GivesPiece, IsFed, Concludes};
+ghost use Rattle.t3_cli.specs.Inner.Reading.{ReadsImage, GivesPiece, IsFed, Concludes, taken_of, Digests, DigestsRead};
+ghost use Rattle.sha2.specs.Hashers.{Holds256};
 
+use sha2::{Digest, Sha256};
 use std::alloc::{AllocError, Global};
 use t3_asm::AsmWhy;
-use t3_image_read::{Image, ImageReader, ReadRefusal, ReadWhy};
+use t3_image_read::{Fed, Image, ImageReader, ReadRefusal, ReadWhy};
 use t3_io::{Depot, DeviceRefusal, Got};
 
 /// A file is read up to so many bytes: one more than an image has.
@@ -30,20 +32,25 @@ pub(crate) enum ReadImage {
     Image(Image),
 }
 
-/// Reads a file from its start to its end, or to the limit, and gives the image that it begins with.
+/// Reads a file from its start to its end, or to the limit, and gives the image that it begins with. The hasher
+/// gets the bytes of that image as they are read, where they are to be digested.
 pub(crate) fn read_image<D: Depot>(
     alloc: Global,
     name: &[u8],
     depot: &mut D,
+    hasher: &mut Sha256,
+    is_digested: bool,
 ) -> Result<ReadImage, DeviceRefusal>
     requires name { IsFileName name.now }
     requires faults { D.faults depot.old < 2 ^ 64 - 1 }
+    requires fresh { Holds256 hasher.old [] }
     ensures read { ReadsImage (D.files depot.old) name.now result }
+    ensures digest { DigestsRead is_digested result hasher.new }
     ensures files { D.files depot.new ≡ D.files depot.old }
     ensures cause { MovesFaults (D.faults depot.old) (D.faults depot.new) result }
 {
     let mut buf = zeroed(alloc, PIECE)?;
-    read_pieces(name, depot, ImageReader::new(alloc), &mut buf)
+    read_pieces(name, depot, ImageReader::new(alloc), hasher, is_digested, &mut buf)
 }
 
 pub(super) fn zeroed(alloc: Global, size: usize) -> Result<Vec<u8>, AllocError>
@@ -58,13 +65,17 @@ fn read_pieces<D: Depot>(
     name: &[u8],
     depot: &mut D,
     mut reader: ImageReader,
+    hasher: &mut Sha256,
+    is_digested: bool,
     buf: &mut [u8],
 ) -> Result<ReadImage, DeviceRefusal>
     requires name { IsFileName name.now }
     requires faults { D.faults depot.old < 2 ^ 64 - 1 }
     requires fresh { reader ≡ Taking [] }
+    requires digest { Holds256 hasher.old [] }
     requires room { 0 < length buf.old }
     ensures read { ReadsImage (D.files depot.old) name.now result }
+    ensures digest { DigestsRead is_digested result hasher.new }
     ensures files { D.files depot.new ≡ D.files depot.old }
     ensures cause { MovesFaults (D.faults depot.old) (D.faults depot.new) result }
 {
@@ -75,7 +86,7 @@ fn read_pieces<D: Depot>(
             Got::Absent => return Ok(ReadImage::Absent),
             Got::Count(0) => return concluded(reader),
             Got::Count(count) => {
-                feed(&mut reader, &buf[..count]);
+                feed(&mut reader, hasher, is_digested, &buf[..count]);
                 at += count as u64;
             }
         }
@@ -84,10 +95,25 @@ fn read_pieces<D: Depot>(
 }
 
 /// Feeds a piece. What the reader answers is told again when it is done with.
-fn feed(reader: &mut ImageReader, piece: &[u8])
-    ensures { IsFed reader.old piece.now reader.new }
+fn feed(reader: &mut ImageReader, hasher: &mut Sha256, is_digested: bool, piece: &[u8])
+    ensures fed { IsFed reader.old piece.now reader.new }
+    ensures digest { Digests is_digested reader.old hasher.old → Digests is_digested reader.new hasher.new }
 {
-    let _answer = reader.feed(piece);
+    let answer = reader.feed(piece);
+    if is_digested {
+        hasher.update(taken(piece, answer));
+    }
+}
+
+/// The bytes of a piece that a reader took.
+fn taken(piece: &[u8], answer: Result<Fed, ReadRefusal>) -> &[u8]
+    ensures { result.now ≡ taken_of piece.now answer }
+{
+    match answer {
+        Ok(Fed::More) => piece,
+        Ok(Fed::Done { used }) => piece.get(..used).unwrap_or(piece),
+        Err(_) => &[],
+    }
 }
 
 /// Reads at most so many bytes into the first bytes of the buffer.

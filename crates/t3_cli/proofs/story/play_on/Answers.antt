@@ -3,14 +3,14 @@ use Rattle.std.proofs.lemmas.Result.{err_from_is_err_and}
 use Rattle.t3_interp.specs.declared.event.Event.TheVariants.{Went, Said, Ended}
 use Rattle.t3_cli.specs.Lines.{is_nonempty}
 use Rattle.t3_cli.specs.Inner.Showing.{ShowsAll}
-use Rattle.t3_interp.specs.Step.{program_of, state_of}
+use Rattle.t3_interp.specs.Step.{state_of}
 use Rattle.t3_interp.proofs.Runs.{wants_on}
 use Rattle.t3_cli.proofs.Stories.{come_unbegun, come_went, come_said, come_cut, come_wanting, come_ended, come_last, takes_event, nonempty_by_length, or_said, plays_cut}
 use Rattle.t3_cli.proofs.story.play_on.Goals as goal
 
 pub loop-left-preserved-in-Went : goal.loop-left-preserved-in-Went
 loop-left-preserved-in-Went g c =
-    let program = program_of c.args.program.now in
+    let program = c.args.program.now in
     let left = c.loop-left.left in
     let old = state_of c.loop-left.machine in
     let new = state_of c.step.new.self in
@@ -26,7 +26,7 @@ loop-left-preserved-in-Went g c =
 
 pub returns-in_err-show-in-Said-clause-plays : goal.returns-in_err-show-in-Said-clause-plays
 returns-in_err-show-in-Said-clause-plays g c =
-    let program = program_of c.args.program.now in
+    let program = c.args.program.now in
     let left = c.loop-left.left in
     let old = state_of c.loop-left.machine in
     let new = state_of c.step.new.self in
@@ -43,7 +43,7 @@ returns-in_err-show-in-Said-clause-plays g c =
 
 pub loop-left-preserved : goal.loop-left-preserved
 loop-left-preserved g c =
-    let program = program_of c.args.program.now in
+    let program = c.args.program.now in
     let left = c.loop-left.left in
     let old = state_of c.loop-left.machine in
     let new = state_of c.step.new.self in
@@ -63,7 +63,7 @@ loop-left-preserved g c =
 
 pub returns-in-Ended-clause-plays : goal.returns-in-Ended-clause-plays
 returns-in-Ended-clause-plays g c =
-    let program = program_of c.args.program.now in
+    let program = c.args.program.now in
     let left = c.loop-left.left in
     let old = state_of c.loop-left.machine in
     let new = state_of c.step.new.self in
@@ -72,11 +72,11 @@ returns-in-Ended-clause-plays g c =
 
 pub returns-clause-plays : goal.returns-clause-plays
 returns-clause-plays g c =
-    come_last (program_of c.args.program.now) c.args.steps c.loop-left.left (state_of c.loop-left.machine) (g.C.Console.session c.args.console.now) (g.C.Console.session c.loop-left.console) c.loop-left.has_said (omega (arith, c.loop-left-test.false)) c.loop-left.invariant.come
+    come_last c.args.program.now c.args.steps c.loop-left.left (state_of c.loop-left.machine) (g.C.Console.session c.args.console.now) (g.C.Console.session c.loop-left.console) c.loop-left.has_said (omega (arith, c.loop-left-test.false)) c.loop-left.invariant.come
 
 pub returns-in_err-step-clause-plays : goal.returns-in_err-step-clause-plays
 returns-in_err-step-clause-plays g c =
-    let program = program_of c.args.program.now in
+    let program = c.args.program.now in
     let before = g.C.Console.session c.args.console.now in
     let mid = g.C.Console.session c.loop-left.console in
     let begun = come_wanting program c.args.steps c.loop-left.left (state_of c.loop-left.machine) before mid c.loop-left.has_said c.loop-left.invariant.come in
@@ -85,7 +85,7 @@ returns-in_err-step-clause-plays g c =
 
 pub returns-in_err-machine-clause-plays : goal.returns-in_err-machine-clause-plays
 returns-in_err-machine-clause-plays g c =
-    let program = program_of c.args.program.now in
+    let program = c.args.program.now in
     let before = g.C.Console.session c.args.console.now in
     let p = err_from_is_err_and c.from_residual.result c.from_residual.ensures.1 in
     plays_cut program c.args.steps before before _ c.from_residual.result p.1 (come_unbegun program c.args.steps before)
