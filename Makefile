@@ -45,6 +45,7 @@ test:
 bench: build/t3 build/t3_page build/t3_store_bench
 	bench/asm
 	bench/check
+	bench/load
 	bench/page
 	bench/pools
 	bench/rewrite

@@ -107,7 +107,7 @@ image_not_usage (Listing name out) image outcome is =
     λ same. let clash : Done ≡ Usage = sym (ap (λ (o : Outcome). o.status) is) ∙ same in absurd cc
 image_not_usage (Asm name out) image outcome is =
     λ same. let clash : Done ≡ Usage = sym (ap (λ (o : Outcome). o.status) is) ∙ same in absurd cc
-image_not_usage (Run name options) image outcome (inl none) = other_status outcome LoadRefused _ none.1 (λ e. absurd cc)
+image_not_usage (Run name options) image outcome (inl (why, loaded, is)) = other_status outcome LoadRefused _ is (λ e. absurd cc)
 image_not_usage (Run name options) image outcome (inr (ran, runs, is)) =
     other_status outcome (status_of ran.end) _ is (end_not_usage ran.end)
 

@@ -1,5 +1,5 @@
 -- How what was shown and put follows an outcome.
-use Rattle.std.proofs.Common.{◌≡◌, ℕ, Bool, List, [], ◌∷◌, ◌++◌, length, Option, Some, None, Result, Ok, Err, IfOk, refl, sym, ap, subst, ◌∙◌, inl, inr, append_assoc}
+use Rattle.std.proofs.Common.{◌≡◌, ◌≢◌, ℕ, Bool, List, [], ◌∷◌, ◌++◌, length, Option, Some, None, Result, Ok, Err, IfOk, refl, sym, ap, subst, ◌∙◌, inl, inr, append_assoc}
 use Rattle.std.proofs.lemmas.List.{append-nil}
 use Rattle.t3_io.specs.Files.{Files}
 use Rattle.t3_io.specs.Session.{Session}
@@ -14,8 +14,10 @@ use Rattle.t3_cli.specs.Command.{CommandValue, RunOptions}
 use Rattle.t3_cli.specs.Lines.{closing_text, is_nonempty, put_line, load_line}
 use Rattle.t3_image_read.specs.ImageText.{ImageValue}
 use Rattle.t3_load.specs.declared.refusal.LoadRefusal.{LoadRefusal as LoadWhy}
-use Rattle.t3_load.specs.Loading.{ProgramValue}
-use Rattle.t3_cli.specs.Outcome.{showing, putting, shown_of, status_of, IsRunOutcome, IsLoaded}
+use Rattle.t3_load.specs.declared.refusal.LoadRefusal.TheVariants.{NoMemory as NoRoom}
+use Rattle.t3_load.specs.Rules.{Breaks}
+use Rattle.t3_load.specs.Loading.{ProgramValue, Loads}
+use Rattle.t3_cli.specs.Outcome.{showing, putting, shown_of, status_of, IsRunOutcome, IsLoaded, fingerprint_of, run_limits}
 use Rattle.t3_interp.specs.Run.{Ran}
 use Rattle.t3_cli.specs.Top.{CutsShort, ShowsMore, IsShown}
 use Rattle.t3_cli.specs.Inner.Showing.{AnswersLine, ShowsOrWants}
@@ -220,15 +222,6 @@ pub image_follows : (image : ImageValue) (program : ProgramValue) (options : Run
 image_follows image program options files before after answer loaded (outcome, (ran, runs, is), follows) =
     (outcome, inr (ran, record { program = program; loaded = loaded; runs = runs }, is), follows)
 
--- of one that doesn't a line says why, if there was memory for it
-pub unloaded_follows : {Line Error : Type 0} (text_of : Line → List ℕ) (image : ImageValue) (why : LoadWhy) (options : RunOptions)
-    (files : Option Files) (before after : Option Session) (line : Result Line Error) (answer : Status) → IsLoaded image (Err why)
-    → IfOk line (λ l. text_of l ≡ load_line why) → AnswersLine text_of before after line LoadRefused answer
-    → FollowsSome (IsRunOutcome image options) files files before after answer
-unloaded_follows text_of image why options files before after line answer loaded told answers =
-    (showing LoadRefused (load_line why), inl (why, loaded, refl),
-    line_follows text_of files before after line (load_line why) LoadRefused answer told answers)
-
 -- no memory was there to load it
 pub loading_cut : (image : ImageValue) (options : RunOptions) (files : Option Files) (before : Option Session) (answer : Status)
     → CutsShort answer
@@ -236,6 +229,24 @@ pub loading_cut : (image : ImageValue) (options : RunOptions) (files : Option Fi
 loading_cut image options files before answer cut =
     let some = some_run_outcome image options in
     (showing some.0 some.1, some.2, follows_cut files before before some.1 [] some.1 some.0 answer cut refl (shows_nothing before))
+
+-- of one that doesn't a line says why, unless no memory was there
+pub unloaded_follows : (image : ImageValue) (why : LoadWhy) (options : RunOptions) (files : Option Files) (before after : Option Session)
+    (answer : Status) → Loads image.blocks (fingerprint_of image) run_limits (Err why)
+    → (why ≡ NoRoom → (answer ≡ NoMemory) × (after ≡ before))
+    → (why ≢ NoRoom → ShowsOrWants before after (load_line why) LoadRefused answer)
+    → FollowsSome (IsRunOutcome image options) files files before after answer
+unloaded_follows image why options files before after answer (inl none) wants shown =
+    let wanting = wants none in
+    subst (λ session. FollowsSome (IsRunOutcome image options) files files before session answer) (sym wanting.1)
+    (loading_cut image options files before answer (subst CutsShort (sym wanting.0) tt))
+unloaded_follows image why options files before after answer (inr (broken, kept)) wants shown =
+    let known : why ≢ NoRoom = λ is. subst (Breaks image.blocks run_limits) is broken in
+    let refused : ◌≢◌ {A = Result ProgramValue LoadWhy} (Err why) (Err NoRoom) = λ same. known cc in (
+      showing LoadRefused (load_line why),
+      inl (why, (refused, inr (broken, kept)), refl),
+      follows_or_wants files before before after [] (load_line why) LoadRefused answer (shows_nothing before) (shown known),
+    )
 
 -- ---- what was matched
 

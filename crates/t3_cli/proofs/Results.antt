@@ -1,5 +1,5 @@
 -- The words give exactly one outcome.
-use Rattle.std.proofs.Common.{◌≡◌, ℕ, List, Option, Some, None, Result, Ok, Err, refl, sym, ap, subst, ◌∙◌, inl, inr}
+use Rattle.std.proofs.Common.{◌≡◌, ◌≢◌, ℕ, List, Option, Some, None, Result, Ok, Err, refl, sym, ap, subst, ◌∙◌, inl, inr}
 use Rattle.std.specs.FinMap.{get}
 use Rattle.t3_io.specs.Files.{Files}
 use Rattle.t3_holder.specs.NumberText.{AreBytes}
@@ -19,7 +19,8 @@ use Rattle.t3_cli.specs.Command.{CommandValue, Check, Show, Run, Rewrite, Listin
 use Rattle.t3_cli.specs.Lines.{usage_line, absent_line, refused_line, bad_line, load_line}
 use Rattle.t3_cli.specs.BlockLines.{check_text, show_text}
 use Rattle.t3_load.specs.declared.refusal.LoadRefusal.{LoadRefusal}
-use Rattle.t3_load.specs.Loading.{ProgramValue}
+use Rattle.t3_load.specs.declared.refusal.LoadRefusal.TheVariants.{NoMemory as NoRoom}
+use Rattle.t3_load.specs.Loading.{ProgramValue, Loads}
 use Rattle.t3_load.proofs.OneAnswer.{one_answer}
 use Rattle.t3_load.proofs.SomeAnswer.{some_answer}
 use Rattle.t3_interp.specs.Machine.{initial}
@@ -114,12 +115,12 @@ pub some_run_outcome : (image : ImageValue) (options : RunOptions)
     → (status : Status) × (shown : List ℕ) × IsRunOutcome image options (showing status shown)
 some_run_outcome image options = by_answer (some_answer image.blocks (fingerprint_of image) run_limits)
   where
-    by_answer : ((answer : Result ProgramValue LoadRefusal) × IsLoaded image answer)
+    by_answer : ((answer : Result ProgramValue LoadRefusal) × (answer ≢ Err NoRoom) × Loads image.blocks (fingerprint_of image) run_limits answer)
         → (status : Status) × (shown : List ℕ) × IsRunOutcome image options (showing status shown)
-    by_answer (Ok program, loaded) =
+    by_answer (Ok program, known, loads) =
         let run = some_run program options.steps initial in
-        (status_of run.0.end, shown_of run.0, inr (run.0, record { program = program; loaded = loaded; runs = run.1 }, refl))
-    by_answer (Err why, loaded) = (LoadRefused, load_line why, inl (why, loaded, refl))
+        (status_of run.0.end, shown_of run.0, inr (run.0, record { program = program; loaded = (known, loads); runs = run.1 }, refl))
+    by_answer (Err why, known, loads) = (LoadRefused, load_line why, inl (why, (known, loads), refl))
 
 some_image_outcome : (command : CommandValue) (image : ImageValue) → (outcome : Outcome) × IsImageOutcome command image outcome
 some_image_outcome (Check name) image = (showing Done (check_text image), refl)

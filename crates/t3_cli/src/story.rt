@@ -3,7 +3,7 @@ ghost use Rattle.std.specs.Prelude.{◌≡◌, ◌≢◌, ◌⊎◌, ◌<◌, �
 ghost use Rattle.t3_io.specs.Files.{Files};
 ghost use Rattle.t3_io.specs.Cause.{MovesFaults};
 ghost use Rattle.t3_cli.specs.Outcome.{IsRunOutcome, fingerprint_of, status_of as status_by};
-ghost use Rattle.t3_cli.specs.Lines.{closing_text};
+ghost use Rattle.t3_cli.specs.Lines.{closing_text, load_line};
 ghost use Rattle.t3_cli.specs.Command.{options_value};
 ghost use Rattle.t3_cli.specs.Inner.Showing.{ShowsOrWants};
 ghost use Rattle.t3_cli.specs.Inner.Following.{FollowsSome};
@@ -47,8 +47,28 @@ pub(crate) fn launch<C: Console>(
 {
     match load(alloc, image, fingerprint, LIMITS) {
         Ok(program) => play(alloc, &program, options.steps, console),
-        Err(LoadRefusal::NoMemory) => Status::NoMemory,
-        Err(why) => answer(console, lines::load_refused(alloc, why), Status::LoadRefused),
+        Err(why) => unloaded(alloc, why, console),
+    }
+}
+
+/// Shows why no program was made, unless that was for want of memory.
+fn unloaded<C: Console>(alloc: Global, why: LoadRefusal, console: &mut C) -> Status
+    requires { C.faults console.old < 2 ^ 64 - 1 }
+    ensures wants { why ≡ LoadRefusal.NoMemory
+        → (result ≡ Status.NoMemory) × (C.session console.new ≡ C.session console.old) }
+    ensures shown { why ≢ LoadRefusal.NoMemory → ShowsOrWants (C.session console.old)
+        (C.session console.new) (load_line why) Status.LoadRefused result }
+    ensures fault { result ≡ Status.ConsoleFault → C.faults console.old < C.faults console.new }
+    ensures rise { (result ≡ Status.ConsoleFault) ⊎ (C.faults console.new ≡ C.faults console.old) }
+    ensures no_depot { result ≢ Status.DepotFault }
+{
+    match why {
+        LoadRefusal::NoMemory => Status::NoMemory,
+        _ => answer(
+            console,
+            lines::load_refused(alloc, why),
+            Status::LoadRefused,
+        ),
     }
 }
 

@@ -10,7 +10,7 @@ const STORY: &str =
                      block \"FNSD\" 1 / function-set \"tads-io/030007\" / block \"CPPG\" 1 / page 1 0 0 / main: / \
                      method 0 0 2 0 / pushint8 42 / builtin_a 1 0 / retnil / end 0";
 
-/// A story with a metaclass that can't be run.
+/// A story with a metaclass that isn't known.
 const OTHER: &str =
     "image / block \"ENTP\" 1 / entry @main 10 10 0 0 0 0 - / block \"CPDF\" 1 / pool 1 1 64 / \
                      block \"MCLD\" 1 / metaclass \"tads-object/030005\" 2 - / \
@@ -53,6 +53,59 @@ fn assembles_metaclasses(rt: HostRuntime) -> Result<(), Fail> {
     assert_eq!(rt; shown.as_slice(), b"ok bytes=215\n".as_slice());
     let (_, shown) = outcome(alloc, &["check", "a.t3"], Some(&image))?;
     assert_eq!(rt; shown.as_slice(), b"ok blocks=5 bytes=215\n".as_slice());
+    let (status, shown) = outcome(alloc, &["run", "a.t3"], Some(&image))?;
+    assert_eq!(rt; shown.as_slice(), b"load refused Metaclass 1\n".as_slice());
+    assert_eq!(rt; status, Status::LoadRefused);
+    Ok(())
+}
+
+/// The front of a source with the metaclass of tads-objects and all function sets, and its end.
+const FRONT: &str =
+    "image / block \"ENTP\" 1 / entry @main 10 10 0 0 0 0 - / block \"CPDF\" 1 / pool 1 1 64 / \
+                     block \"MCLD\" 1 / metaclass \"tads-object/030005\" 2 - / block \"FNSD\" 1 / \
+                     function-set \"tads-gen/030008\" / function-set \"t3vm\" / function-set \"tads-io\" / ";
+
+const BACK: &str = " / end 0";
+
+/// Objects, code, and what the run shows.
+const WITH_OBJECTS: [(&str, &str, &str); 8] = [
+    // The exception of a fault would be the next object.
+    (
+        PLAIN_7,
+        "push_1 / push_0 / div",
+        "[unhandled object=8 fault=4]\n",
+    ),
+    (PLAIN_7, "push_1 / builtin_c 1 0 / retnil", "1\n"),
+    (PLAIN_7, "builtin_a 0 13", "[bad code at=10 why=Unbuilt]\n"),
+    (PLAIN_7, "builtin_a 0 12", "[unhandled object=8 fault=8]\n"),
+    (PLAIN_7, "builtin_b 0 1", "[bad code at=10 why=Unbuilt]\n"),
+    (PLAIN_7, "builtin_b 0 0", "[unhandled object=8 fault=8]\n"),
+    (
+        "block \"OBJS\" 1 / objects 0 0 / object 0 / u2 0 / u2 0 / u2 0",
+        "retnil",
+        "load refused ObjectNumber 0\n",
+    ),
+    (
+        "block \"OBJS\" 1 / objects 0 0 / object 3 / u2 1 / u2 0 / u2 0 / u4 3",
+        "retnil",
+        "load refused SuperCycle 3\n",
+    ),
+];
+
+/// A tads-object without superclasses and properties.
+const PLAIN_7: &str = "block \"OBJS\" 1 / objects 0 0 / object 7 / u2 0 / u2 0 / u2 0";
+
+#[test]
+fn runs_images_with_objects(rt: HostRuntime) -> Result<(), Fail> {
+    let alloc = rt.alloc();
+    for (objects, code, want) in WITH_OBJECTS {
+        let source = format!(in alloc;
+            "{FRONT}{objects} / block \"CPPG\" 1 / page 1 0 0 / main: / method 0 0 4 0 / {code}{BACK}"
+        )?;
+        let (_, image) = written(alloc, "asm", &lines(alloc, &source)?)?;
+        let (_, shown) = outcome(alloc, &["run", "a.t3"], Some(&image))?;
+        assert_eq!(rt; shown.as_slice(), want.as_bytes());
+    }
     Ok(())
 }
 

@@ -138,7 +138,7 @@ fn enters_subroutines(rt: HostRuntime) -> Result<(), Fail> {
     Ok(())
 }
 
-/// Functions of sets: there is set 0 alone, that for input and output.
+/// Functions of sets, in an image with the set for input and output alone.
 const CALLS_FUNCTIONS: [Row; 13] = [
     (
         "push_1 / builtin1 1 0 0 / pushnil / pushtrue / builtin1 2 0 0 / retnil",

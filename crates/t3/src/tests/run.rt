@@ -47,7 +47,10 @@ fn code_goes_on_in_the_next_page(rt: HostRuntime) -> Result<(), Fail> {
     let rows: [(&[&[u8]], &str); 2] = [
         (&[ENTRY, second, FUNCTIONS, two_pages], "42\n"),
         // The second page is missing.
-        (&[ENTRY, FUNCTIONS, two_pages], "load refused Unbuilt\n"),
+        (
+            &[ENTRY, FUNCTIONS, two_pages],
+            "load refused Pool PageMissing\n",
+        ),
     ];
     for (blocks, want) in rows {
         let (_, shown) = ran(
@@ -179,35 +182,48 @@ fn a_full_stack_is_a_fault(rt: HostRuntime) -> Result<(), Fail> {
 }
 
 #[test]
-fn images_of_other_blocks_are_not_run(rt: HostRuntime) -> Result<(), Fail> {
+fn images_that_break_a_rule_are_not_run(rt: HostRuntime) -> Result<(), Fail> {
     let alloc = rt.alloc();
     let other_method_size =
         b"ENTP\x10\x00\x00\x00\x01\x00\x00\x00\x00\x00\x0B\x00\x0A\x00\x00\x00\x00\x00\x00\x00\x00\x00";
     let other_exception_size =
         b"ENTP\x10\x00\x00\x00\x01\x00\x00\x00\x00\x00\x0A\x00\x09\x00\x00\x00\x00\x00\x00\x00\x00\x00";
-    let metaclasses = b"MCLD\x02\x00\x00\x00\x01\x00\x00\x00";
-    let objects = b"OBJS\x06\x00\x00\x00\x01\x00\x00\x00\x00\x00\x00\x00";
-    let symbols = b"SYMD\x02\x00\x00\x00\x01\x00\x00\x00";
-    let rows: [&[&[u8]]; 8] = [
-        &[POOL, FUNCTIONS],
-        &[ENTRY, ENTRY, POOL],
-        &[other_method_size, POOL],
-        &[other_exception_size, POOL],
-        &[ENTRY],
-        &[ENTRY, POOL, metaclasses],
-        &[ENTRY, POOL, objects],
-        &[ENTRY, POOL, symbols],
+    let rows: [(&[&[u8]], &str); 5] = [
+        (&[POOL, FUNCTIONS], "load refused NoEntry\n"),
+        (&[ENTRY, ENTRY, POOL], "load refused TwoEntries\n"),
+        (&[other_method_size, POOL], "load refused HeaderSizes\n"),
+        (&[other_exception_size, POOL], "load refused HeaderSizes\n"),
+        (&[ENTRY], "load refused Pool NoCode\n"),
     ];
-    for blocks in rows {
+    for (blocks, want) in rows {
         let (status, shown) = ran(alloc, &code_image(alloc, blocks, METHOD, SAYS_42)?, &[])?;
-        assert_eq!(rt; shown.as_slice(), b"load refused Unbuilt\n".as_slice());
+        assert_eq!(rt; shown.as_slice(), want.as_bytes());
         assert_eq!(rt; status, Status::LoadRefused);
     }
     Ok(())
 }
 
 #[test]
-fn one_set_of_functions_is_known(rt: HostRuntime) -> Result<(), Fail> {
+fn images_with_empty_lists_are_run(rt: HostRuntime) -> Result<(), Fail> {
+    let alloc = rt.alloc();
+    let metaclasses = b"MCLD\x02\x00\x00\x00\x01\x00\x00\x00";
+    let objects = b"OBJS\x06\x00\x00\x00\x01\x00\x00\x00\x00\x00\x00\x00";
+    let symbols = b"SYMD\x02\x00\x00\x00\x01\x00\x00\x00";
+    let rows: [&[&[u8]]; 3] = [
+        &[ENTRY, POOL, FUNCTIONS, metaclasses],
+        &[ENTRY, POOL, FUNCTIONS, objects],
+        &[ENTRY, POOL, FUNCTIONS, symbols],
+    ];
+    for blocks in rows {
+        let (status, shown) = ran(alloc, &code_image(alloc, blocks, METHOD, SAYS_42)?, &[])?;
+        assert_eq!(rt; shown.as_slice(), b"42\n".as_slice());
+        assert_eq!(rt; status, Status::Done);
+    }
+    Ok(())
+}
+
+#[test]
+fn sets_of_functions_are_one_list(rt: HostRuntime) -> Result<(), Fail> {
     let alloc = rt.alloc();
     let bare = b"FNSD\x0A\x00\x00\x00\x01\x00\x01\x00\x07tads-io";
     let other = b"FNSD\x0A\x00\x00\x00\x01\x00\x01\x00\x07tads-ix";
@@ -218,11 +234,11 @@ fn one_set_of_functions_is_known(rt: HostRuntime) -> Result<(), Fail> {
         (&[ENTRY, POOL, bare], "42\n"),
         // Without a list of sets there is no set 0, so no function of it is known.
         (&[ENTRY, POOL], "[unhandled object=1 fault=8]\n"),
-        (&[ENTRY, POOL, other], "load refused Unbuilt\n"),
-        (&[ENTRY, POOL, longer], "load refused Unbuilt\n"),
-        (&[ENTRY, POOL, none], "load refused Unbuilt\n"),
-        (&[ENTRY, POOL, two], "load refused Unbuilt\n"),
-        (&[ENTRY, POOL, bare, bare], "load refused Unbuilt\n"),
+        (&[ENTRY, POOL, other], "load refused FunctionSet 0\n"),
+        (&[ENTRY, POOL, bare, longer], "load refused FunctionSet 1\n"),
+        (&[ENTRY, POOL, none], "[unhandled object=1 fault=8]\n"),
+        (&[ENTRY, POOL, two], "42\n"),
+        (&[ENTRY, POOL, bare, bare], "42\n"),
     ];
     for (blocks, want) in rows {
         let (_, shown) = ran(alloc, &code_image(alloc, blocks, METHOD, SAYS_42)?, &[])?;

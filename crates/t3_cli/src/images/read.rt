@@ -50,7 +50,14 @@ pub(crate) fn read_image<D: Depot>(
     ensures cause { MovesFaults (D.faults depot.old) (D.faults depot.new) result }
 {
     let mut buf = zeroed(alloc, PIECE)?;
-    read_pieces(name, depot, ImageReader::new(alloc), hasher, is_digested, &mut buf)
+    read_pieces(
+        name,
+        depot,
+        ImageReader::new(alloc),
+        hasher,
+        is_digested,
+        &mut buf,
+    )
 }
 
 pub(super) fn zeroed(alloc: Global, size: usize) -> Result<Vec<u8>, AllocError>
