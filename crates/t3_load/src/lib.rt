@@ -27,6 +27,8 @@ mod rows;
 mod sets;
 mod standing;
 mod statics;
+#[cfg(test)]
+mod store_tests;
 mod supers;
 mod symbols;
 #[cfg(test)]
@@ -34,6 +36,8 @@ mod test_images;
 #[cfg(test)]
 mod tests;
 mod unbuilt;
+#[cfg(test)]
+mod unbuilt_tests;
 
 pub use kinds::{KindEntry, Kinds, MetaKind, PropNumbers};
 pub use laws::one_answer;

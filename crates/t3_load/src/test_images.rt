@@ -80,8 +80,12 @@ fn thing_block(alloc: Global, thing: Thing<'_>) -> Result<Vec<u8>, AllocError> {
     block(alloc, b"OBJS", &payload)
 }
 
-/// The blocks of a test image.
-fn blocks(alloc: Global, parts: &Parts<'_>) -> Result<Vec<Vec<u8>>, AllocError> {
+/// The blocks of a test image with these objects.
+fn blocks(
+    alloc: Global,
+    parts: &Parts<'_>,
+    things: &[Thing<'_>],
+) -> Result<Vec<Vec<u8>>, AllocError> {
     let mut blocks = Vec::new(alloc);
     let mut entry = [0; 16];
     entry[0] = 5;
@@ -90,7 +94,7 @@ fn blocks(alloc: Global, parts: &Parts<'_>) -> Result<Vec<Vec<u8>>, AllocError> 
     for _entry in 0..parts.entries {
         blocks.push(block(alloc, b"ENTP", &entry)?)?;
     }
-    for thing in parts.things {
+    for thing in things {
         blocks.push(thing_block(alloc, *thing)?)?;
     }
     if parts.has_pool {
@@ -112,7 +116,16 @@ pub(crate) fn loaded(
     alloc: Global,
     parts: &Parts<'_>,
 ) -> Result<Result<Program, LoadRefusal>, Fail> {
-    let image = image(alloc, &blocks(alloc, parts)?)?;
+    loaded_with(alloc, parts, parts.things)
+}
+
+/// What is made of a test image with these objects in place of its own.
+fn loaded_with(
+    alloc: Global,
+    parts: &Parts<'_>,
+    things: &[Thing<'_>],
+) -> Result<Result<Program, LoadRefusal>, Fail> {
+    let image = image(alloc, &blocks(alloc, parts, things)?)?;
     let limits = StoreLimits {
         objects: u32::from(parts.objects),
         units: u32::from(parts.units),
@@ -124,7 +137,7 @@ pub(crate) fn loaded(
 
 /// The objects of a test image, whatever the machine can do with them.
 pub(crate) fn halves(alloc: Global, parts: &Parts<'_>) -> Result<Halves, Fail> {
-    let image = image(alloc, &blocks(alloc, parts)?)?;
+    let image = image(alloc, &blocks(alloc, parts, parts.things)?)?;
     let Ok(basis) = basis_of(alloc, &image) else {
         return Err(Fail::from("the tables of a good image are refused"));
     };
@@ -148,7 +161,16 @@ pub(crate) fn halves(alloc: Global, parts: &Parts<'_>) -> Result<Halves, Fail> {
 
 /// The refusal of a test image.
 pub(crate) fn refusal(alloc: Global, parts: &Parts<'_>) -> Result<Option<LoadRefusal>, Fail> {
-    match loaded(alloc, parts)? {
+    refusal_with(alloc, parts, parts.things)
+}
+
+/// The refusal of a test image with these objects in place of its own.
+pub(crate) fn refusal_with(
+    alloc: Global,
+    parts: &Parts<'_>,
+    things: &[Thing<'_>],
+) -> Result<Option<LoadRefusal>, Fail> {
+    match loaded_with(alloc, parts, things)? {
         Ok(_program) => Ok(None),
         Err(why) => Ok(Some(why)),
     }
