@@ -181,18 +181,21 @@ fn a_full_stack_is_a_fault(rt: HostRuntime) -> Result<(), Fail> {
     Ok(())
 }
 
+/// Entries whose method headers, or exception entries, have another size.
+const OTHER_METHOD_SIZE: &[u8] =
+    b"ENTP\x10\x00\x00\x00\x01\x00\x00\x00\x00\x00\x0B\x00\x0A\x00\x00\x00\x00\x00\x00\x00\x00\x00";
+
+const OTHER_EXCEPTION_SIZE: &[u8] =
+    b"ENTP\x10\x00\x00\x00\x01\x00\x00\x00\x00\x00\x0A\x00\x09\x00\x00\x00\x00\x00\x00\x00\x00\x00";
+
 #[test]
 fn images_that_break_a_rule_are_not_run(rt: HostRuntime) -> Result<(), Fail> {
     let alloc = rt.alloc();
-    let other_method_size =
-        b"ENTP\x10\x00\x00\x00\x01\x00\x00\x00\x00\x00\x0B\x00\x0A\x00\x00\x00\x00\x00\x00\x00\x00\x00";
-    let other_exception_size =
-        b"ENTP\x10\x00\x00\x00\x01\x00\x00\x00\x00\x00\x0A\x00\x09\x00\x00\x00\x00\x00\x00\x00\x00\x00";
     let rows: [(&[&[u8]], &str); 5] = [
         (&[POOL, FUNCTIONS], "load refused NoEntry\n"),
         (&[ENTRY, ENTRY, POOL], "load refused TwoEntries\n"),
-        (&[other_method_size, POOL], "load refused HeaderSizes\n"),
-        (&[other_exception_size, POOL], "load refused HeaderSizes\n"),
+        (&[OTHER_METHOD_SIZE, POOL], "load refused HeaderSizes\n"),
+        (&[OTHER_EXCEPTION_SIZE, POOL], "load refused HeaderSizes\n"),
         (&[ENTRY], "load refused Pool NoCode\n"),
     ];
     for (blocks, want) in rows {
