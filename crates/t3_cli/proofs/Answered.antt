@@ -92,6 +92,7 @@ end_not_usage None = λ e. absurd cc
 end_not_usage (Some ends.Returned) = λ e. absurd cc
 end_not_usage (Some (ends.Unhandled object fault)) = λ e. absurd cc
 end_not_usage (Some (ends.BadCode at cause)) = λ e. absurd cc
+end_not_usage (Some ends.StoreFull) = λ e. absurd cc
 
 -- an outcome with another status
 other_status : (outcome : Outcome) (status : Status) (text : List ℕ) → outcome ≡ showing status text → status ≢ Usage

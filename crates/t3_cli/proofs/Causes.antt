@@ -6,7 +6,7 @@ use Rattle.t3_io.specs.Session.{Session}
 use Rattle.t3_image_read.specs.ImageText.{ImageValue}
 use Rattle.t3_asm.specs.declared.refusal.AsmRefusal.{AsmRefusal}
 use Rattle.t3_cli.specs.declared.status.Status.{Status}
-use Rattle.t3_cli.specs.declared.status.Status.TheVariants.{Done, Usage, Absent, ImageRefused, LoadRefused, Unhandled, BadCode, StepLimit, SourceRefused, DepotFault, ConsoleFault, NoMemory}
+use Rattle.t3_cli.specs.declared.status.Status.TheVariants.{Done, Usage, Absent, ImageRefused, LoadRefused, Unhandled, BadCode, StoreFull, StepLimit, SourceRefused, DepotFault, ConsoleFault, NoMemory}
 use Rattle.t3_interp.specs.declared.event.End.{End}
 use Rattle.t3_interp.specs.declared.event.End.TheVariants as ends
 use Rattle.t3_cli.specs.Command.{CommandValue, Check, Show, Run, Rewrite, Listing, Asm, RunOptions}
@@ -30,6 +30,7 @@ end_cause None command files input by = inr by
 end_cause (Some ends.Returned) command files input by = inl refl
 end_cause (Some (ends.Unhandled object fault)) command files input by = inr by
 end_cause (Some (ends.BadCode at cause)) command files input by = inr by
+end_cause (Some ends.StoreFull) command files input by = inr by
 
 run_cause : (name file : List ℕ) (image : ImageValue) (options : RunOptions) (files : Files) (input : List ℕ) (outcome : Outcome)
     → get files name ≡ Some file
@@ -126,6 +127,7 @@ cause_not_cut ImageRefused command files input cause = λ cut. cut
 cause_not_cut LoadRefused command files input cause = λ cut. cut
 cause_not_cut Unhandled command files input cause = λ cut. cut
 cause_not_cut BadCode command files input cause = λ cut. cut
+cause_not_cut StoreFull command files input cause = λ cut. cut
 cause_not_cut StepLimit command files input cause = λ cut. cut
 cause_not_cut SourceRefused command files input cause = λ cut. cut
 
@@ -222,6 +224,7 @@ command_status SourceRefused command files input cause =
 command_status LoadRefused command files input cause = unloaded_status command files input cause
 command_status Unhandled command files input cause = ends_status Unhandled command files input cause
 command_status BadCode command files input cause = ends_status BadCode command files input cause
+command_status StoreFull command files input cause = ends_status StoreFull command files input cause
 command_status StepLimit command files input cause = ends_status StepLimit command files input cause
 command_status DepotFault command files input cause = absurd cause
 command_status ConsoleFault command files input cause = absurd cause
@@ -284,6 +287,7 @@ cause_of ImageRefused = other_cause ImageRefused (λ e. absurd cc)
 cause_of LoadRefused = other_cause LoadRefused (λ e. absurd cc)
 cause_of Unhandled = other_cause Unhandled (λ e. absurd cc)
 cause_of BadCode = other_cause BadCode (λ e. absurd cc)
+cause_of StoreFull = other_cause StoreFull (λ e. absurd cc)
 cause_of StepLimit = other_cause StepLimit (λ e. absurd cc)
 cause_of SourceRefused = other_cause SourceRefused (λ e. absurd cc)
 cause_of DepotFault = other_cause DepotFault (λ e. absurd cc)

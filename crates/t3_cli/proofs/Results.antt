@@ -53,8 +53,8 @@ one_run_outcome image options a b (inr x) (inr y) =
     let both : ◌≡◌ {A = Result ProgramValue LoadRefusal} (Ok y.1.program) (Ok x.1.program) =
     one_loaded image (Ok y.1.program) (Ok x.1.program) y.1.loaded x.1.loaded in
     let program : y.1.program ≡ x.1.program = cc in
-    let P : ProgramValue → Type 0 = λ p. Runs p options.steps initial y.0 in
-    let same = one_run x.1.program options.steps initial x.0 y.0 x.1.runs (subst P program y.1.runs) in
+    let P : ProgramValue → Type 0 = λ p. Runs p options.steps (initial p) y.0 in
+    let same = one_run x.1.program options.steps (initial x.1.program) x.0 y.0 x.1.runs (subst P program y.1.runs) in
     x.2 ∙ ap (λ (ran : Ran). showing (status_of ran.end) (shown_of ran)) same ∙ sym y.2
 
 one_image_outcome : (command : CommandValue) (image : ImageValue) (a b : Outcome) → IsImageOutcome command image a
@@ -118,7 +118,7 @@ some_run_outcome image options = by_answer (some_answer image.blocks (fingerprin
     by_answer : ((answer : Result ProgramValue LoadRefusal) × (answer ≢ Err NoRoom) × Loads image.blocks (fingerprint_of image) run_limits answer)
         → (status : Status) × (shown : List ℕ) × IsRunOutcome image options (showing status shown)
     by_answer (Ok program, known, loads) =
-        let run = some_run program options.steps initial in
+        let run = some_run program options.steps (initial program) in
         (status_of run.0.end, shown_of run.0, inr (run.0, record { program = program; loaded = (known, loads); runs = run.1 }, refl))
     by_answer (Err why, known, loads) = (LoadRefused, load_line why, inl (why, (known, loads), refl))
 

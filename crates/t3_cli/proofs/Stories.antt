@@ -1,5 +1,5 @@
 -- A run that has come so far, and one step more of it.
-use Rattle.std.proofs.Common.{◌≡◌, ℕ, suc, Bool, true, false, not, ◌||◌, nat_eq, List, [], ◌∷◌, ◌++◌, length, Option, Some, None, Result, Err, refl, sym, ap, subst, ◌∙◌, append_assoc, arith}
+use Rattle.std.proofs.Common.{◌≡◌, ℕ, suc, ◌+◌, Bool, true, false, not, ◌||◌, nat_eq, List, [], ◌∷◌, ◌++◌, length, Option, Some, None, Result, Err, refl, sym, ap, subst, ◌∙◌, append_assoc, arith}
 use Rattle.std.proofs.lemmas.List.{append-nil}
 use Rattle.t3_io.specs.Session.{Session}
 use Rattle.t3_io.specs.declared.refusal.DeviceRefusal.{DeviceRefusal}
@@ -14,7 +14,7 @@ use Rattle.t3_interp.specs.Run.{Ran, Runs, preceded_by}
 use Rattle.t3_cli.specs.Top.{ShowsMore}
 use Rattle.t3_cli.specs.Inner.Showing.{ShowsPrefixOf}
 use Rattle.t3_cli.specs.Inner.Playing.{HasCome, HasPlayed, HasBegun, PlaysOn}
-use Rattle.t3_interp.proofs.Runs.{no_step_left, step_and, some_run, preceded_by-preceded_by}
+use Rattle.t3_interp.proofs.Runs.{no_step_left, step_and, some_run, preceded_by-preceded_by, wants_on}
 use Rattle.t3_cli.proofs.Shown.{shows_after, shows_nothing}
 
 -- ---- what is said
@@ -29,10 +29,11 @@ goes_on_by : (program : ProgramValue) (steps left next : ℕ) (state then : Stat
     → left ≡ suc next → HasCome program steps left state before mid has_said
     → ((rest : Ran) → Runs program next then rest → Runs program (suc next) state (preceded_by text rest))
     → ((said : List ℕ) → ShowsMore before mid said → ShowsMore before after (said ++ text)) → now ≡ (has_said || is_nonempty text)
-    → HasCome program steps next then before after now
-goes_on_by program steps left next state then before mid after has_said now text is come step shows has =
-    let P : Ran → Type 0 = Runs program steps initial in
+    → then.steps ≡ state.steps + 1 → HasCome program steps next then before after now
+goes_on_by program steps left next state then before mid after has_said now text is come step shows has more =
+    let P : Ran → Type 0 = Runs program steps (initial program) in
     record {
+      made = let made = come.made in omega (arith, is, made, more);
       said = come.said ++ text;
       shows = shows come.said come.shows;
       has = has ∙ ap (λ h. h || is_nonempty text) come.has ∙ sym (nonempty-append come.said text);
@@ -55,6 +56,7 @@ pub come_went : (program : ProgramValue) (steps left next : ℕ) (state then : S
 come_went program steps left next state then before mid has_said is come takes =
     goes_on_by program steps left next state then before mid mid has_said has_said [] is come
     (λ rest runs. step_and program next state then Went rest takes runs) (nothing_more before mid) (or_nothing has_said)
+    (wants_on program state (record { state = then; event = Went }) takes).0
 
 pub come_said : (program : ProgramValue) (steps left next : ℕ) (state then : State) (before mid after : Option Session) (has_said now : Bool) (text : List ℕ)
     → left ≡ suc next → HasCome program steps left state before mid has_said → Steps program state (record { state = then; event = Said text })
@@ -64,6 +66,7 @@ come_said program steps left next state then before mid after has_said now text 
     goes_on_by program steps left next state then before mid after has_said now text is come
     (λ rest runs. step_and program next state then (Said text) (preceded_by text rest) takes (rest, runs, refl))
     (λ said shown. shows_after before mid after said text shown shows) has
+    (wants_on program state (record { state = then; event = Said text }) takes).0
 
 -- showing what a step said failed
 pub come_cut : (program : ProgramValue) (steps left next : ℕ) (state then : State) (before mid after : Option Session) (has_said : Bool) (text : List ℕ)
@@ -104,7 +107,7 @@ come_wanting program steps left state before mid has_said come =
 -- no machine could be made
 pub come_unbegun : (program : ProgramValue) (steps : ℕ) (before : Option Session) → HasBegun program steps before before
 come_unbegun program steps before =
-    let rest = some_run program steps initial in
+    let rest = some_run program steps (initial program) in
     record {
       said = [];
       unsaid = rest.0.said;
@@ -121,7 +124,7 @@ pub come_ended : (program : ProgramValue) (steps left next : ℕ) (state then : 
 come_ended program steps left next state then before mid has_said end is come takes =
     let Q : ℕ → Type 0 = λ n. Runs program n state (record { said = []; end = Some end }) in
     let last = subst Q (sym is) (step_and program next state then (Ended end) (record { said = []; end = Some end }) takes refl) in
-    let P : List ℕ → Type 0 = λ said. Runs program steps initial (record { said = said; end = Some end }) in
+    let P : List ℕ → Type 0 = λ said. Runs program steps (initial program) (record { said = said; end = Some end }) in
     record {
       said =
           come.said;
@@ -136,7 +139,7 @@ pub come_last : (program : ProgramValue) (steps left : ℕ) (state : State) (bef
 come_last program steps left state before mid has_said is come =
     let Q : ℕ → Type 0 = λ n. Runs program n state (record { said = []; end = None }) in
     let last = subst Q (sym is) (no_step_left program state) in
-    let P : List ℕ → Type 0 = λ said. Runs program steps initial (record { said = said; end = None }) in
+    let P : List ℕ → Type 0 = λ said. Runs program steps (initial program) (record { said = said; end = None }) in
     record {
       said =
           come.said;

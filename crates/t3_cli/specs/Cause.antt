@@ -6,7 +6,7 @@ use Rattle.t3_image_read.specs.ImageText.{ImageValue}
 use Rattle.t3_image_read.specs.Refusal.{IsRefused}
 use Rattle.t3_asm.specs.declared.refusal.AsmRefusal.{AsmRefusal}
 use Rattle.t3_cli.specs.declared.status.Status.{Status}
-use Rattle.t3_cli.specs.declared.status.Status.TheVariants.{Done, Usage, Absent, ImageRefused, LoadRefused, Unhandled, BadCode, StepLimit, SourceRefused, DepotFault, ConsoleFault, NoMemory}
+use Rattle.t3_cli.specs.declared.status.Status.TheVariants.{Done, Usage, Absent, ImageRefused, LoadRefused, Unhandled, BadCode, StoreFull, StepLimit, SourceRefused, DepotFault, ConsoleFault, NoMemory}
 use Rattle.t3_cli.specs.Command.{CommandValue, Run, RunOptions}
 use Rattle.t3_load.specs.declared.refusal.LoadRefusal.{LoadRefusal as LoadWhy}
 use Rattle.t3_interp.specs.Run.{Ran}
@@ -55,6 +55,7 @@ CommandCause ImageRefused command files input = IsRefusedImage (input_of command
 CommandCause LoadRefused command files input = IsUnloadable command files
 CommandCause Unhandled command files input = EndsBy Unhandled command files
 CommandCause BadCode command files input = EndsBy BadCode command files
+CommandCause StoreFull command files input = EndsBy StoreFull command files
 CommandCause StepLimit command files input = EndsBy StepLimit command files
 CommandCause SourceRefused command files input = IsRefusedSource (input_of command) files
 CommandCause DepotFault command files input = ⊥

@@ -9,7 +9,8 @@ use Rattle.t3_pools.specs.declared.refusal.PoolRefusal.TheVariants as pools
 use Rattle.t3_load.specs.declared.refusal.LoadRefusal.{LoadRefusal}
 use Rattle.t3_load.specs.declared.refusal.LoadRefusal.TheVariants as load
 use Rattle.t3_interp.specs.declared.event.End.{End}
-use Rattle.t3_interp.specs.declared.event.End.TheVariants.{Returned, Unhandled, BadCode}
+use Rattle.t3_interp.specs.declared.event.End.TheVariants.{Returned, Unhandled, BadCode, StoreFull}
+use Rattle.t3_ops.specs.declared.fault.Fault.{Fault}
 use Rattle.t3_ops.specs.Faults.{fault_number}
 use Rattle.t3_interp.specs.declared.event.CodeWhy.{CodeWhy}
 use Rattle.t3_interp.specs.declared.event.CodeWhy.TheVariants as why
@@ -123,7 +124,12 @@ cause_name why.Local = codes "Local"
 cause_name why.Argument = codes "Argument"
 cause_name why.Unbuilt = codes "Unbuilt"
 
--- an object was thrown by a fault, and nothing caught it
+-- the number of the fault by which an object was thrown, and 0 for one that an instruction threw
+abbrev pub thrown_number : Option Fault → ℕ
+thrown_number None = 0
+thrown_number (Some fault) = fault_number fault
+
+-- an object was thrown, and nothing caught it
 abbrev pub unhandled_line : ℕ → ℕ → List ℕ
 unhandled_line object fault =
     codes "[unhandled object=" ++ (decimal object ++ (codes " fault=" ++ (decimal fault ++ (codes "]" ++ newline))))
@@ -135,8 +141,9 @@ bad_code_line at name = codes "[bad code at=" ++ (decimal at ++ (codes " why=" +
 -- how a run ended, or that it had no step left; a return shows nothing
 abbrev pub end_line : Option End → List ℕ
 end_line (Some Returned) = []
-end_line (Some (Unhandled object fault)) = unhandled_line object (fault_number fault)
+end_line (Some (Unhandled object fault)) = unhandled_line object (thrown_number fault)
 end_line (Some (BadCode at cause)) = bad_code_line at (cause_name cause)
+end_line (Some StoreFull) = codes "[store full]" ++ newline
 end_line None = codes "[step limit]" ++ newline
 
 abbrev pub is_nonempty : List ℕ → Bool

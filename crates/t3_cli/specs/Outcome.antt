@@ -14,7 +14,7 @@ use Rattle.t3_asm.specs.Refusals.{refusal}
 use Rattle.t3_asm.specs.Source.{source}
 use Rattle.t3_asm.specs.Listing.{listing}
 use Rattle.t3_cli.specs.declared.status.Status.{Status}
-use Rattle.t3_cli.specs.declared.status.Status.TheVariants.{Done, Usage, Absent, ImageRefused, LoadRefused, Unhandled, BadCode, StepLimit, SourceRefused}
+use Rattle.t3_cli.specs.declared.status.Status.TheVariants.{Done, Usage, Absent, ImageRefused, LoadRefused, Unhandled, BadCode, StoreFull, StepLimit, SourceRefused}
 use Rattle.t3_interp.specs.declared.event.End.{End}
 use Rattle.t3_interp.specs.declared.event.End.TheVariants as ends
 use Rattle.t3_cli.specs.Act.{Act, Shows, Puts}
@@ -72,6 +72,7 @@ abbrev pub status_of : Option End → Status
 status_of (Some ends.Returned) = Done
 status_of (Some (ends.Unhandled object fault)) = Unhandled
 status_of (Some (ends.BadCode at cause)) = BadCode
+status_of (Some ends.StoreFull) = StoreFull
 status_of None = StepLimit
 
 -- the fingerprint of an image: the digest of its bytes
@@ -90,7 +91,7 @@ IsLoaded image answer = (answer ≢ Err NoRoom) × Loads image.blocks (fingerpri
 pub record RunsImage (image : ImageValue) (options : RunOptions) (ran : Ran) : Type 0 where
   pub program : ProgramValue
   pub loaded : IsLoaded image (Ok program)
-  pub runs : Runs program options.steps initial ran
+  pub runs : Runs program options.steps (initial program) ran
 
 -- an image that is refused, or is run
 abbrev pub IsRunOutcome : ImageValue → RunOptions → Outcome → Type 0

@@ -1,13 +1,14 @@
 //! The lines that are shown.
 ghost use Rattle.std.specs.Prelude.{◌≡◌, ◌++◌, Some, None, IfOk, codes, string_bytes};
 ghost use Rattle.std.specs.Fmt.{decimal};
-ghost use Rattle.t3_cli.specs.Lines.{absent_line, refused_line, ok_line, put_line, why_name as name_of, items_of, closing_text, end_line, unhandled_line, bad_code_line, newline_if as newline_by, bad_line as bad_line_of, source_why_name as name_of_rule, cause_name as name_of_cause, load_line, load_text, pool_rule_name};
+ghost use Rattle.t3_cli.specs.Lines.{absent_line, refused_line, ok_line, put_line, why_name as name_of, items_of, closing_text, end_line, unhandled_line, bad_code_line, newline_if as newline_by, bad_line as bad_line_of, source_why_name as name_of_rule, cause_name as name_of_cause, thrown_number as number_of_thrown, load_line, load_text, pool_rule_name};
 
 use std::alloc::{AllocError, Global};
 use t3_asm::AsmWhy;
 use t3_image_read::ReadWhy;
 use t3_interp::{CodeWhy, End};
 use t3_load::LoadRefusal;
+use t3_ops::Fault;
 use t3_pools::PoolRefusal;
 
 /// Shown where the words are no command.
@@ -166,8 +167,19 @@ fn ended(alloc: Global, prefix: &str, end: End) -> Result<String, AllocError>
 {
     match end {
         End::Returned => format!(in alloc; "{prefix}"),
-        End::Unhandled { object, fault } => unhandled(alloc, prefix, object, fault.number()),
+        End::Unhandled { object, fault } => unhandled(alloc, prefix, object, thrown_number(fault)),
         End::BadCode { at, why } => bad_code(alloc, prefix, at, cause_name(why)),
+        End::StoreFull => format!(in alloc; "{prefix}[store full]\n"),
+    }
+}
+
+/// The number of the fault by which an object was thrown, and 0 for one that an instruction threw.
+fn thrown_number(fault: Option<Fault>) -> u16
+    ensures { result ≡ number_of_thrown fault }
+{
+    match fault {
+        Some(fault) => fault.number(),
+        None => 0,
     }
 }
 

@@ -20,6 +20,8 @@ pub enum Status {
     Unhandled = 5,
     /// The run came to an instruction or a method that can't be carried out.
     BadCode = 6,
+    /// The store of objects had no room.
+    StoreFull = 7,
     /// The run had no step left.
     StepLimit = 8,
     /// The source breaks a rule.

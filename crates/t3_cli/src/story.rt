@@ -15,7 +15,7 @@ use crate::lines;
 use crate::status::Status;
 use std::alloc::Global;
 use t3_image_read::Image;
-use t3_interp::{End, Event, Machine};
+use t3_interp::{End, Event, Input, Machine};
 use t3_io::{Console, DeviceRefusal};
 use t3_load::{LoadRefusal, Program, load};
 use t3_store::StoreLimits;
@@ -46,7 +46,7 @@ pub(crate) fn launch<C: Console>(
     ensures no_depot { result ≢ Status.DepotFault }
 {
     match load(alloc, image, fingerprint, LIMITS) {
-        Ok(program) => play(alloc, &program, options.steps, console),
+        Ok(program) => play(alloc, program, options.steps, console),
         Err(why) => unloaded(alloc, why, console),
     }
 }
@@ -73,10 +73,10 @@ fn unloaded<C: Console>(alloc: Global, why: LoadRefusal, console: &mut C) -> Sta
 }
 
 /// Runs a program by at most so many steps, and shows what it says and how it ends.
-fn play<C: Console>(alloc: Global, program: &Program, steps: u32, console: &mut C) -> Status
+fn play<C: Console>(alloc: Global, program: Program, steps: u32, console: &mut C) -> Status
     requires { C.faults console.old < 2 ^ 64 - 1 }
     ensures follows { (files : Option Files) → FollowsSome
-        (IsProgramOutcome program.now steps) files files (C.session console.old)
+        (IsProgramOutcome program steps) files files (C.session console.old)
         (C.session console.new) result }
     ensures fault { result ≡ Status.ConsoleFault → C.faults console.old < C.faults console.new }
     ensures rise { (result ≡ Status.ConsoleFault) ⊎ (C.faults console.new ≡ C.faults console.old) }
@@ -94,21 +94,23 @@ fn play<C: Console>(alloc: Global, program: &Program, steps: u32, console: &mut 
 #[inline(never)]
 fn play_on<C: Console>(
     alloc: Global,
-    program: &Program,
+    program: Program,
     steps: u32,
     console: &mut C,
 ) -> Result<(bool, Option<End>), DeviceRefusal>
     requires { C.faults console.old < 2 ^ 64 - 1 }
-    ensures plays { PlaysOn program.now steps (C.session console.old)
+    ensures plays { PlaysOn program steps (C.session console.old)
         (C.session console.new) result }
     ensures cause { MovesFaults (C.faults console.old) (C.faults console.new) result }
 {
-    let mut machine = Machine::start(alloc)?;
+    let mut machine = Machine::start(alloc, program)?;
     let mut has_said = false;
     let mut left = steps;
     while left > 0 {
         left -= 1;
-        match machine.step(alloc, program)? {
+        let (next, event) = machine.step(Input::Go)?;
+        machine = next;
+        match event {
             Event::Went => {}
             Event::Said(text) => {
                 show(console, &text.0)?;
@@ -144,6 +146,7 @@ fn status_of(end: Option<End>) -> Status
         Some(End::Returned) => Status::Done,
         Some(End::Unhandled { .. }) => Status::Unhandled,
         Some(End::BadCode { .. }) => Status::BadCode,
+        Some(End::StoreFull) => Status::StoreFull,
         None => Status::StepLimit,
     }
 }

@@ -117,7 +117,7 @@ impl Frames {
     }
 
     /// Drops the topmost operands, so many, or as many as there are.
-    pub fn drop_operands(&mut self, count: u8)
+    pub fn drop_operands(&mut self, count: u16)
         ensures { self.new ≡ of_newest (with_operands (drop count self.old.newest.operands)) self.old }
     {
         let dropped = usize::from(count).min(self.newest.operands);
@@ -227,6 +227,14 @@ impl Frames {
         ensures { result ≡ self.now.newest.this }
     {
         self.newest.this
+    }
+
+    /// The object that defines the method, or 0 in a function.
+    #[inline(always)]
+    pub fn defining(&self) -> u32
+        ensures { result ≡ self.now.newest.defining }
+    {
+        self.newest.defining
     }
 
     /// Begins to carry out the instruction at the frame's place, which has so many bytes.

@@ -1,3 +1,4 @@
 mod Cases
 mod Saying
+mod Searching
 pub mod Runs

@@ -1,8 +1,13 @@
 -- The texts of values, joined one by one.
-use Rattle.std.proofs.Common.{◌≡◌, ℕ, ◌+◌, ◌-◌, ◌<◌, List, [], ◌∷◌, ◌++◌, length, get_or, take, drop, reverse, Option, Some, None, refl, sym, ap, ◌∙◌, append_assoc, append-nil, Bool, true, false, arith}
-use Rattle.std.proofs.lemmas.List.{length-reverse, take_more, take-append-drop, get_or-reverse}
+use Rattle.std.proofs.Common.{◌≡◌, ℕ, ◌+◌, ◌-◌, ◌<◌, List, [], ◌∷◌, ◌++◌, length, get_or, take, drop, reverse, Option, Some, None, refl, sym, ap, ◌∙◌, append_assoc, append-nil, Bool, true, false, ◌||◌, if◌then◌else◌, arith}
+use Rattle.std.proofs.lemmas.List.{length-reverse, take_more, take-append-drop, get_or-reverse, reverse-append}
 use Rattle.std.proofs.lemmas.Option.{slice_get-get_or}
 use Rattle.std.specs.Fmt.{option_append}
+use Rattle.std.specs.List.{list_any}
+use Rattle.std.proofs.lemmas.List.Folds.{list_any-append}
+use Rattle.t3_ops.specs.declared.fault.Fault.TheVariants.{Stale, Kind}
+use Rattle.t3_store.specs.Store.{StoreValue}
+use Rattle.t3_interp.specs.Search.{is_stale, kind_fault}
 use Rattle.t3_holder.specs.declared.holder.Holder.{Holder}
 use Rattle.t3_interp.specs.Values.{said_text, said_texts}
 use Rattle.t3_interp.specs.Inner.Acting.{Appends}
@@ -96,3 +101,20 @@ said_none_by values nth v before after has less appends is = none (said_text her
     none : (text : Option (List ℕ)) → said_text here ≡ text → Appends before text has after → None ≡ said_texts (reverse values)
     none None said told = said_none values nth here less stays said
     none (Some text) said told = let clash : true ≡ false = sym told.0 ∙ is in absurd cc
+
+-- ---- what has no text
+
+either_way : (a b : Bool) → (a || (b || false)) ≡ (b || a)
+either_way true true = refl
+either_way true false = refl
+either_way false true = refl
+either_way false false = refl
+
+list_any-reverse : (test : Holder → Bool) (values : List Holder) → list_any test (reverse values) ≡ list_any test values
+list_any-reverse test [] = refl
+list_any-reverse test (v ∷ values) =
+    ap (list_any test) (reverse-append (v ∷ []) values) ∙ list_any-append test (reverse values) (v ∷ [])
+    ∙ either_way (list_any test (reverse values)) (test v) ∙ ap (λ b. test v || b) (list_any-reverse test values)
+
+pub kind_fault-reverse : (store : StoreValue) (values : List Holder) → kind_fault store (reverse values) ≡ kind_fault store values
+kind_fault-reverse store values = ap (λ b. if b then Stale else Kind) (list_any-reverse (is_stale store) values)

@@ -1,5 +1,8 @@
 pub mod Machine
 pub mod Values
+pub mod Search
+pub mod Objects
+pub mod Builtins
 pub mod Instructions
 pub mod Step
 pub mod Run

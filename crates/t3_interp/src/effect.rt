@@ -17,4 +17,8 @@ pub(crate) enum Effect {
     Fault(Fault),
     /// To end the run, since nothing can be carried out at the frame's place.
     Stop(CodeWhy),
+    /// To throw the object of a number.
+    Throw(u32),
+    /// To end the run, since the store has no room.
+    StoreFull,
 }

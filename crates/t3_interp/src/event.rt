@@ -30,10 +30,13 @@ pub enum CodeWhy {
 pub enum End {
     /// The entry method returned.
     Returned,
-    /// An object was thrown, by this fault, and nothing caught it.
-    Unhandled { object: u32, fault: Fault },
+    /// An object was thrown, and nothing caught it: by this fault, of which it is the exception, or by an
+    /// instruction.
+    Unhandled { object: u32, fault: Option<Fault> },
     /// At an address of code nothing could be carried out.
     BadCode { at: u32, why: CodeWhy },
+    /// The store had no room for an object or a property.
+    StoreFull,
 }
 
 /// What a step did.
@@ -54,4 +57,11 @@ pub enum Want {
     Go,
     /// Nothing: the run has ended.
     Nothing,
+}
+
+/// What a machine is given.
+#[derive(Clone, Copy, Debug, PartialEq, Eq)]
+pub enum Input {
+    /// To make a step.
+    Go,
 }

@@ -2,23 +2,32 @@
 //!
 //! ```text
 //! let program = load(alloc, &image, fingerprint, limits)?;
-//! let mut machine = Machine::start(alloc)?;
+//! let mut machine = Machine::start(alloc, program)?;
 //! while machine.wants() == Want::Go {
-//!     if let Event::Said(text) = machine.step(alloc, &program)? { .. }
+//!     let (next, event) = machine.step(Input::Go)?;
+//!     machine = next;
+//!     if let Event::Said(text) = event { .. }
 //! }
 //! ```
 //!
-//! What a step is is defined in `specs/`, apart from the code. So far there is one frame, and no instruction that
-//! looks into an object. A fault makes no object yet: what is told is the number that its exception would have.
+//! What a step is is defined in `specs/`, apart from the code. So far there is one frame: no method is called.
+//! Properties of objects are searched, evaluated and set, and tads-objects are made; an instruction that would
+//! do more stops the run by `Unbuilt`.
 #![tactic(auto)]
 
 mod act;
 mod effect;
 mod event;
+mod exception;
 mod machine;
+mod methods;
 mod relation;
+mod running;
+mod search;
 mod settle;
 mod step;
+mod symbols;
+mod values;
 
-pub use event::{CodeWhy, End, Event, Want};
+pub use event::{CodeWhy, End, Event, Input, Want};
 pub use machine::Machine;

@@ -1,77 +1,122 @@
-//! The machine: its state, and what one step of it is.
-ghost use Rattle.std.specs.Prelude.{◌≡◌, IfOk};
+//! The machine: a program, and the state of its run.
+ghost use Rattle.std.specs.Prelude.{◌≡◌, ◌<◌, ◌≤◌, ◌^◌, IfOk};
 ghost use Rattle.t3_interp.specs.declared.event.Want.TheVariants.{Go};
 ghost use Rattle.t3_interp.specs.Machine.{initial};
-ghost use Rattle.t3_interp.specs.Step.{state_of, comes_to, Steps};
+ghost use Rattle.t3_interp.specs.Step.{Steps, state_of};
 
-use crate::event::{Event, Want};
+use crate::event::{Event, Input, Want};
+use crate::running::{Core, Running, Stage};
 use std::alloc::Global;
+use std::marker::Model;
 use t3_frames::Frames;
 use t3_holder::{Holder, NoMemory};
 use t3_load::Program;
+use t3_store::Store;
 
-/// What instructions see and change.
-#[derive(Debug, Drop)]
-pub(crate) struct Core {
-    pub(crate) frames: Frames,
-    /// Where calls answer.
-    pub(crate) register: Holder,
-}
-
-/// How far a run has come.
-#[derive(Clone, Copy, Debug)]
-pub(crate) enum Stage {
-    /// The entry method is to be called.
-    Entry,
-    /// A method is carried out.
-    Method,
-    /// The run has ended.
-    Over,
-}
-
-/// What changes from step to step. Contracts see a state by `state_of`.
-#[derive(Debug, Drop)]
+/// A program, and how far its run has come. Contracts see both.
+#[derive(Drop)]
 pub struct Machine {
-    /// Its frames count while a method is carried out.
-    pub(crate) core: Core,
-    pub(crate) stage: Stage,
+    /// Behind one pointer, since a machine is handed on at each step.
+    whole: Box<Whole>,
+}
+
+#[derive(Drop)]
+pub(crate) struct Whole {
+    alloc: Global,
+    program: Program,
+    running: Running,
+}
+
+impl Model for Machine {
+    ghost use Rattle.t3_interp.specs.Machine.{MachineValue};
+
+    ghost Value = { MachineValue };
+
+    ghost use Rattle.std.specs.Coded.{codes};
+    ghost use Rattle.t3_pools.specs.Pool.{coded_pools};
+    ghost use Rattle.t3_store.specs.Value.{coded_objects};
+    ghost use Rattle.t3_interp.specs.Machine.{coded_store};
+
+    ghost coded = { Prim.hlevel (codes, coded_pools, coded_objects, coded_store) };
+
+    ghost use Rattle.std.specs.Prelude.{◌≤◌, ◌+◌};
+    ghost use Rattle.t3_interp.specs.Step.{state_of};
+
+    ghost view = { λ m. record { program = m.whole.value.program; state = state_of m.whole.value.running } };
+
+    // A step makes one write at most, and a store begins with as many as its objects have units.
+    ghost invariant = { λ m. m.whole.value.running.core.store.writes ≤ 4194304 + m.whole.value.running.steps };
 }
 
 impl Machine {
-    /// A machine that hasn't made a step. It takes all the room that the values of a run may want.
-    pub fn start(alloc: Global) -> Result<Machine, NoMemory>
-        ensures { IfOk result (λ machine. state_of machine ≡ initial) }
+    /// A machine that hasn't made a step. It takes all the room that the values of a run may want, and copies
+    /// the objects of the program.
+    pub fn start(alloc: Global, program: Program) -> Result<Machine, NoMemory>
+        ensures program { IfOk result (λ machine. machine.program ≡ program) }
+        ensures state { IfOk result (λ machine. machine.state ≡ initial program) }
     {
+        let running = begin(alloc, &program)?;
         Ok(Machine {
-            core: Core {
-                frames: Frames::new(alloc)?,
-                register: Holder::Nil,
-            },
-            stage: Stage::Entry,
+            whole: Box::new(
+                alloc,
+                Whole {
+                    alloc,
+                    program,
+                    running,
+                },
+            )?,
         })
     }
 
     /// What the machine wants next.
     pub fn wants(&self) -> Want
-        ensures { result ≡ (state_of self.now).wants }
+        ensures { result ≡ self.now.state.wants }
     {
-        match self.stage {
+        match self.whole.running.stage {
             Stage::Entry | Stage::Method => Want::Go,
             Stage::Over => Want::Nothing,
         }
     }
 
-    /// Makes a step: calls the entry method at first, and then carries out an instruction. The run may not
-    /// have ended. Where memory was wanting, nothing is said of the state that is left.
-    #[inline(always)]
-    pub fn step(&mut self, alloc: Global, program: &Program) -> Result<Event, NoMemory>
-        requires { (state_of self.old).wants ≡ Go }
-        ensures { IfOk result
-            (λ event. Steps program.now (state_of self.old) (comes_to self.new event)) }
+    /// How many steps were made.
+    pub fn steps(&self) -> u64
+        ensures { result ≡ self.now.state.steps }
     {
-        match self.stage {
-            Stage::Method => self.carry_out(alloc, program),
-            _ => Ok(self.enter(program)),
-        }
+        self.whole.running.steps
     }
+
+    /// Makes a step: calls the entry method at first, and then carries out an instruction. The run may not
+    /// have ended, and fewer than 2^40 steps were made. Want of memory takes the machine with it.
+    #[inline(always)]
+    pub fn step(mut self, input: Input) -> Result<(Machine, Event), NoMemory>
+        requires wants { self.state.wants ≡ Go }
+        requires few { self.state.steps < 2 ^ 40 }
+        ensures program { IfOk result (λ stepped. stepped.0.program ≡ self.program) }
+        ensures step { IfOk result (λ stepped. Steps self.program self.state
+            (record { state = stepped.0.state; event = stepped.1 })) }
+    {
+        let Input::Go = input;
+        let whole = &mut *self.whole;
+        let event = whole.running.step(whole.alloc, &whole.program)?;
+        Ok((self, event))
+    }
+}
+
+/// The state before the first step.
+fn begin(alloc: Global, program: &Program) -> Result<Running, NoMemory>
+    ensures state { IfOk result (λ running. state_of running ≡ initial program.now) }
+    ensures writes { IfOk result (λ running. running.core.store.writes ≤ 4194304) }
+{
+    let first = program.first.copy(alloc)?;
+    let passing = program.passing.copy(alloc)?;
+    let store = Store::start(alloc, program.limits, first, passing, program.next)?;
+    Ok(Running {
+        core: Core {
+            frames: Frames::new(alloc)?,
+            register: Holder::Nil,
+            store,
+        },
+        stage: Stage::Entry,
+        steps: 0,
+    })
 }

@@ -2,8 +2,10 @@
 ghost use Rattle.std.specs.Prelude.{◌≡◌};
 ghost use Rattle.t3_interp.specs.Values.{equal_of, related as related_by};
 
+use crate::values::kind_fault;
 use t3_holder::Holder;
 use t3_ops::Fault;
+use t3_store::Store;
 
 /// How one value is to another.
 #[derive(Clone, Copy)]
@@ -24,11 +26,16 @@ pub(crate) fn equal(left: Holder, right: Holder) -> bool
     left == right
 }
 
-/// Whether the left value is so to the right one. `Kind` where an order is asked for of what are no
-/// integers.
+/// Whether the left value is so to the right one. Where an order is asked for of what are no integers,
+/// `Stale` comes where one is a reference to an object that isn't there, and else `Kind`.
 #[inline(always)]
-pub(crate) fn related(relation: Relation, left: Holder, right: Holder) -> Result<bool, Fault>
-    ensures { result ≡ related_by relation left right }
+pub(crate) fn related(
+    relation: Relation,
+    store: &Store,
+    left: Holder,
+    right: Holder,
+) -> Result<bool, Fault>
+    ensures { result ≡ related_by store.now.store relation left right }
 {
     match (relation, left, right) {
         (Relation::Equal, _, _) => Ok(equal(left, right)),
@@ -37,6 +44,6 @@ pub(crate) fn related(relation: Relation, left: Holder, right: Holder) -> Result
         (Relation::AtMost, Holder::Int(x), Holder::Int(y)) => Ok(x <= y),
         (Relation::Greater, Holder::Int(x), Holder::Int(y)) => Ok(x > y),
         (Relation::AtLeast, Holder::Int(x), Holder::Int(y)) => Ok(x >= y),
-        _ => Err(Fault::Kind),
+        _ => Err(kind_fault(store, &[left, right])),
     }
 }

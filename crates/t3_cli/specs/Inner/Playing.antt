@@ -1,5 +1,5 @@
 -- What the functions that run a program answer.
-use Rattle.std.specs.Prelude.{◌≡◌, ℕ, Bool, List, ◌++◌, Option, Result, Ok, Err}
+use Rattle.std.specs.Prelude.{◌≡◌, ℕ, ◌+◌, Bool, List, ◌++◌, Option, Result, Ok, Err}
 use Rattle.t3_io.specs.Session.{Session}
 use Rattle.t3_io.specs.declared.refusal.DeviceRefusal.{DeviceRefusal}
 use Rattle.t3_interp.specs.declared.event.End.{End}
@@ -13,12 +13,12 @@ use Rattle.t3_cli.specs.Top.{ShowsMore}
 -- the outcome of a program's run
 abbrev pub IsProgramOutcome : ProgramValue → ℕ → Outcome → Type 0
 IsProgramOutcome program steps outcome =
-    (ran : Ran) × Runs program steps initial ran × (outcome ≡ showing (status_of ran.end) (shown_of ran))
+    (ran : Ran) × Runs program steps (initial program) ran × (outcome ≡ showing (status_of ran.end) (shown_of ran))
 
 -- all that a run says was shown
 pub record HasPlayed (program : ProgramValue) (steps : ℕ) (before after : Option Session) (has_said : Bool) (end : Option End) : Type 0 where
   pub said : List ℕ
-  pub runs : Runs program steps initial (record { said = said; end = end })
+  pub runs : Runs program steps (initial program) (record { said = said; end = end })
   pub shows : ShowsMore before after said
   pub has : has_said ≡ is_nonempty said
 
@@ -27,7 +27,7 @@ pub record HasBegun (program : ProgramValue) (steps : ℕ) (before after : Optio
   pub said : List ℕ
   pub unsaid : List ℕ
   pub ran : Ran
-  pub runs : Runs program steps initial ran
+  pub runs : Runs program steps (initial program) ran
   pub is : ran.said ≡ said ++ unsaid
   pub shows : ShowsMore before after said
 
@@ -40,4 +40,5 @@ pub record HasCome (program : ProgramValue) (steps left : ℕ) (state : State) (
   pub said : List ℕ
   pub shows : ShowsMore before after said
   pub has : has_said ≡ is_nonempty said
-  pub onward : (rest : Ran) → Runs program left state rest → Runs program steps initial (preceded_by said rest)
+  pub made : state.steps + left ≡ steps
+  pub onward : (rest : Ran) → Runs program left state rest → Runs program steps (initial program) (preceded_by said rest)

@@ -1,28 +1,61 @@
-//! Returning.
-ghost use Rattle.t3_interp.specs.Instructions.{call_action};
+//! Returning, and evaluating properties.
+ghost use Rattle.std.specs.Prelude.{IfOk};
+ghost use Rattle.t3_holder.specs.declared.holder.Holder.TheVariants.{Obj};
+ghost use Rattle.t3_interp.specs.Instructions.{call_action, retval_on};
 ghost use Rattle.t3_interp.specs.Machine.{returns};
 ghost use Rattle.t3_interp.specs.Inner.Acting.{HasAction};
 
+use super::evaluate::{evaluate, evaluate_by_pointer, evaluate_popped, evaluate_self_by_pointer};
+use super::inherit::{delegate, delegate_popped, inherit};
 use crate::effect::Effect;
 use crate::event::CodeWhy;
-use crate::machine::Core;
-use t3_holder::Holder;
+use crate::running::Core;
+use std::alloc::Global;
+use t3_holder::{Holder, NoMemory};
+use t3_load::Program;
 use t3_methods::CallCode;
 
-/// Carries out an instruction that returns. Those that call aren't built yet.
+/// Carries out an instruction that returns, or that evaluates a property. No method and no function can be
+/// called yet.
 #[inline(always)]
-pub(super) fn call(core: &mut Core, code: CallCode) -> Effect
-    ensures { HasAction (call_action code) core.old result core.new }
+pub(super) fn call(
+    alloc: Global,
+    program: &Program,
+    core: &mut Core,
+    code: CallCode,
+) -> Result<Effect, NoMemory>
+    ensures { IfOk result (λ effect. HasAction (call_action program.now code) core.old effect core.new) }
 {
+    let this = core.frames.this();
     match code {
-        CallCode::Retval => match core.frames.pop() {
-            Some(value) => return_with(core, value),
-            None => Effect::Stop(CodeWhy::Underflow),
-        },
-        CallCode::Retnil => return_with(core, Holder::Nil),
-        CallCode::Rettrue => return_with(core, Holder::True),
-        CallCode::Ret => Effect::Return,
-        _ => Effect::Stop(CodeWhy::Unbuilt),
+        CallCode::Retval => Ok(return_popped(core)),
+        CallCode::Retnil => Ok(return_with(core, Holder::Nil)),
+        CallCode::Rettrue => Ok(return_with(core, Holder::True)),
+        CallCode::Ret => Ok(Effect::Return),
+        CallCode::Getprop(p) => evaluate_popped(alloc, program, core, p, 0),
+        CallCode::Callprop(count, p) => evaluate_popped(alloc, program, core, p, count),
+        CallCode::Ptrcallprop(count) => evaluate_by_pointer(alloc, program, core, count),
+        CallCode::Getpropself(p) => evaluate(alloc, program, core, this, p, 0),
+        CallCode::Callpropself(count, p) => evaluate(alloc, program, core, this, p, count),
+        CallCode::Ptrcallpropself(count) => evaluate_self_by_pointer(alloc, program, core, count),
+        CallCode::Objgetprop(n, p) => evaluate(alloc, program, core, Holder::Obj(n), p, 0),
+        CallCode::Objcallprop(count, n, p) => {
+            evaluate(alloc, program, core, Holder::Obj(n), p, count)
+        }
+        CallCode::Inherit(count, p) => inherit(alloc, core, p, count),
+        CallCode::Expinherit(count, p, n) => delegate(alloc, core, Holder::Obj(n), p, count),
+        CallCode::Delegate(count, p) => delegate_popped(alloc, core, p, count),
+        CallCode::Call(_, _) | CallCode::Ptrcall(_) => Ok(Effect::Stop(CodeWhy::Unbuilt)),
+    }
+}
+
+/// Returns the topmost operand.
+fn return_popped(core: &mut Core) -> Effect
+    ensures { HasAction (λ context. retval_on context.frame.operands context) core.old result core.new }
+{
+    match core.frames.pop() {
+        Some(value) => return_with(core, value),
+        None => Effect::Stop(CodeWhy::Underflow),
     }
 }
 

@@ -7,8 +7,8 @@ ghost use Rattle.t3_interp.specs.Inner.Acting.{HasAction, HasCasesOf, context_of
 
 use crate::effect::Effect;
 use crate::event::CodeWhy;
-use crate::machine::Core;
 use crate::relation::{Relation, equal, related};
+use crate::running::Core;
 use t3_holder::Holder;
 use t3_methods::{JumpCode, case_at};
 use t3_ops::{Fault, truth};
@@ -84,7 +84,7 @@ fn jump_by(core: &mut Core, relation: Relation, distance: i16) -> Effect
     let Some(left) = core.frames.pop() else {
         return Effect::Stop(CodeWhy::Underflow);
     };
-    match related(relation, left, right) {
+    match related(relation, &core.store, left, right) {
         Ok(true) => Effect::Jump(target(core, distance)),
         Ok(false) => Effect::Next,
         Err(fault) => Effect::Fault(fault),

@@ -1,41 +1,50 @@
-//! The variables of a method.
-ghost use Rattle.std.specs.Prelude.{◌≡◌};
-ghost use Rattle.t3_interp.specs.Instructions.{local_action, becomes, changes, changes_by, takes_local, takes_argument, with_number, sets_local};
+//! The variables of a method, and the properties of objects.
+ghost use Rattle.std.specs.Prelude.{◌<◌, ◌^◌, IfOk};
+ghost use Rattle.t3_interp.specs.Instructions.{local_action, becomes, changes, changes_by, takes_local, takes_argument, with_number, both, sum_of, sets_local};
 ghost use Rattle.t3_ops.specs.declared.arithmetic.ArithOp.TheVariants as ops;
 ghost use Rattle.t3_interp.specs.Inner.Acting.{HasAction};
 
-use super::math::computed;
+use super::math::{computed, sum};
+use super::set::{set_by_pointer, set_of_popped, set_popped};
 use crate::effect::Effect;
 use crate::event::CodeWhy;
-use crate::machine::Core;
-use t3_holder::Holder;
+use crate::running::Core;
+use t3_holder::{Holder, NoMemory};
 use t3_methods::LocalCode;
 use t3_ops::{ArithOp, Fault};
 
-/// Carries out an instruction on a variable. Those on elements and properties aren't built yet.
+/// Carries out an instruction on a variable or a property. That on elements isn't built yet.
 #[inline(always)]
-pub(super) fn local(core: &mut Core, code: LocalCode) -> Effect
-    ensures { HasAction (local_action code) core.old result core.new }
+pub(super) fn local(core: &mut Core, code: LocalCode) -> Result<Effect, NoMemory>
+    requires { core.old.store.writes < 2 ^ 63 }
+    ensures { IfOk result (λ effect. HasAction (local_action code) core.old effect core.new) }
 {
     match code {
-        LocalCode::Inclcl(n) => add(core, n, 1),
-        LocalCode::Declcl(n) => add(core, n, -1),
-        LocalCode::Addilcl1(n, number) => add(core, u16::from(n), i32::from(number)),
-        LocalCode::Addilcl4(n, number) => add(core, n, number),
-        LocalCode::Addtolcl(n) => change_by(core, n, ArithOp::Add),
-        LocalCode::Subfromlcl(n) => change_by(core, n, ArithOp::Sub),
-        LocalCode::Zerolcl1(n) => set(core, u16::from(n), Holder::Int(0)),
-        LocalCode::Zerolcl2(n) => set(core, n, Holder::Int(0)),
-        LocalCode::Nillcl1(n) => set(core, u16::from(n), Holder::Nil),
-        LocalCode::Nillcl2(n) => set(core, n, Holder::Nil),
-        LocalCode::Onelcl1(n) => set(core, u16::from(n), Holder::Int(1)),
-        LocalCode::Onelcl2(n) => set(core, n, Holder::Int(1)),
-        LocalCode::Setlcl1(n) => take_local(core, u16::from(n)),
-        LocalCode::Setlcl2(n) => take_local(core, n),
-        LocalCode::Setarg1(n) => take_argument(core, u16::from(n)),
-        LocalCode::Setarg2(n) => take_argument(core, n),
-        LocalCode::Nop => Effect::Next,
-        _ => Effect::Stop(CodeWhy::Unbuilt),
+        LocalCode::Inclcl(n) => Ok(add(core, n, 1)),
+        LocalCode::Declcl(n) => Ok(add(core, n, -1)),
+        LocalCode::Addilcl1(n, number) => Ok(add(core, u16::from(n), i32::from(number))),
+        LocalCode::Addilcl4(n, number) => Ok(add(core, n, number)),
+        LocalCode::Addtolcl(n) => Ok(add_popped(core, n)),
+        LocalCode::Subfromlcl(n) => Ok(subtract_popped(core, n)),
+        LocalCode::Zerolcl1(n) => Ok(set(core, u16::from(n), Holder::Int(0))),
+        LocalCode::Zerolcl2(n) => Ok(set(core, n, Holder::Int(0))),
+        LocalCode::Nillcl1(n) => Ok(set(core, u16::from(n), Holder::Nil)),
+        LocalCode::Nillcl2(n) => Ok(set(core, n, Holder::Nil)),
+        LocalCode::Onelcl1(n) => Ok(set(core, u16::from(n), Holder::Int(1))),
+        LocalCode::Onelcl2(n) => Ok(set(core, n, Holder::Int(1))),
+        LocalCode::Setlcl1(n) => Ok(take_local(core, u16::from(n))),
+        LocalCode::Setlcl2(n) => Ok(take_local(core, n)),
+        LocalCode::Setarg1(n) => Ok(take_argument(core, u16::from(n))),
+        LocalCode::Setarg2(n) => Ok(take_argument(core, n)),
+        LocalCode::Setind => Ok(Effect::Stop(CodeWhy::Unbuilt)),
+        LocalCode::Setprop(p) => set_of_popped(core, p),
+        LocalCode::Ptrsetprop => set_by_pointer(core),
+        LocalCode::Setpropself(p) => {
+            let this = core.frames.this();
+            set_popped(core, p, this)
+        }
+        LocalCode::Objsetprop(n, p) => set_popped(core, p, Holder::Obj(n)),
+        LocalCode::Nop => Ok(Effect::Next),
     }
 }
 
@@ -71,10 +80,11 @@ fn add(core: &mut Core, n: u16, number: i32) -> Effect
     set_or_throw(core, n, computed(ArithOp::Add, Holder::Int(number), value))
 }
 
-/// Computes of a local and the topmost operand, which goes, and sets the local.
+/// Adds the topmost operand, which goes, to a local.
 #[inline(always)]
-fn change_by(core: &mut Core, n: u16, op: ArithOp) -> Effect
-    ensures { HasAction (λ context. changes_by n op context.frame.operands context) core.old result core.new }
+fn add_popped(core: &mut Core, n: u16) -> Effect
+    ensures { HasAction (λ context. changes_by n (sum_of context.store) context.frame.operands context)
+        core.old result core.new }
 {
     let Some(right) = core.frames.pop() else {
         return Effect::Stop(CodeWhy::Underflow);
@@ -82,7 +92,23 @@ fn change_by(core: &mut Core, n: u16, op: ArithOp) -> Effect
     let Some(left) = core.frames.local(n) else {
         return Effect::Stop(CodeWhy::Local);
     };
-    set_or_throw(core, n, computed(op, left, right))
+    let sum = sum(&core.store, left, right);
+    set_or_throw(core, n, sum)
+}
+
+/// Takes the topmost operand, which goes, from a local.
+#[inline(always)]
+fn subtract_popped(core: &mut Core, n: u16) -> Effect
+    ensures { HasAction (λ context. changes_by n (both ops.Sub) context.frame.operands context) core.old
+        result core.new }
+{
+    let Some(right) = core.frames.pop() else {
+        return Effect::Stop(CodeWhy::Underflow);
+    };
+    let Some(left) = core.frames.local(n) else {
+        return Effect::Stop(CodeWhy::Local);
+    };
+    set_or_throw(core, n, computed(ArithOp::Sub, left, right))
 }
 
 /// Sets a local to the topmost operand, which goes.

@@ -1,17 +1,19 @@
 //! Computing of the topmost operands, which the result takes the place of.
 ghost use Rattle.std.specs.Prelude.{◌≡◌, ◌<◌};
 ghost use Rattle.t3_frames.specs.Frame.{values, room};
-ghost use Rattle.t3_interp.specs.Instructions.{math_action, one, two, with_number, both, telling, truth_told, gives};
+ghost use Rattle.t3_interp.specs.Instructions.{math_action, one, two, with_number, both, sum_of, telling, truth_told, gives};
 ghost use Rattle.t3_interp.specs.Values.{truth_value as truth_value_of};
 ghost use Rattle.t3_interp.specs.Inner.Acting.{HasAction};
 
 use crate::effect::Effect;
 use crate::event::CodeWhy;
-use crate::machine::Core;
 use crate::relation::{Relation, related};
+use crate::running::Core;
+use crate::values::kind_fault;
 use t3_holder::Holder;
 use t3_methods::MathCode;
 use t3_ops::{ArithOp, Fault, arith, truth};
+use t3_store::Store;
 
 /// Carries out an instruction that computes.
 #[inline(always)]
@@ -21,7 +23,7 @@ pub(super) fn math(core: &mut Core, code: MathCode) -> Effect
     match code {
         MathCode::Neg => number_and(core, ArithOp::Sub, 0),
         MathCode::Bnot => number_and(core, ArithOp::Sub, -1),
-        MathCode::Add => pair(core, ArithOp::Add),
+        MathCode::Add => add(core),
         MathCode::Sub => pair(core, ArithOp::Sub),
         MathCode::Mul => pair(core, ArithOp::Mul),
         MathCode::Band => pair(core, ArithOp::And),
@@ -70,10 +72,10 @@ fn pair(core: &mut Core, op: ArithOp) -> Effect
     give(core, computed(op, left, right))
 }
 
-/// Tells whether the two topmost operands are so to each other, of which the topmost is the right one.
+/// Adds the two topmost operands, of which the topmost is the right one.
 #[inline(always)]
-fn tell(core: &mut Core, relation: Relation) -> Effect
-    ensures { HasAction (two (telling relation)) core.old result core.new }
+fn add(core: &mut Core) -> Effect
+    ensures { HasAction (λ context. two (sum_of context.store) context) core.old result core.new }
 {
     let Some(right) = core.frames.pop() else {
         return Effect::Stop(CodeWhy::Underflow);
@@ -81,7 +83,23 @@ fn tell(core: &mut Core, relation: Relation) -> Effect
     let Some(left) = core.frames.pop() else {
         return Effect::Stop(CodeWhy::Underflow);
     };
-    give(core, told(relation, left, right))
+    let sum = sum(&core.store, left, right);
+    give(core, sum)
+}
+
+/// Tells whether the two topmost operands are so to each other, of which the topmost is the right one.
+#[inline(always)]
+fn tell(core: &mut Core, relation: Relation) -> Effect
+    ensures { HasAction (λ context. two (telling context.store relation) context) core.old result core.new }
+{
+    let Some(right) = core.frames.pop() else {
+        return Effect::Stop(CodeWhy::Underflow);
+    };
+    let Some(left) = core.frames.pop() else {
+        return Effect::Stop(CodeWhy::Underflow);
+    };
+    let outcome = told(relation, &core.store, left, right);
+    give(core, outcome)
 }
 
 /// Tells whether the topmost operand has this truth.
@@ -121,10 +139,23 @@ pub(super) fn computed(op: ArithOp, left: Holder, right: Holder) -> Result<Holde
     }
 }
 
-fn told(relation: Relation, left: Holder, right: Holder) -> Result<Holder, Fault>
-    ensures { result ≡ telling relation left right }
+/// The sum of two values.
+#[inline(always)]
+pub(super) fn sum(store: &Store, left: Holder, right: Holder) -> Result<Holder, Fault>
+    ensures { result ≡ sum_of store.now.store left right }
 {
-    Ok(truth_value(related(relation, left, right)?))
+    match (left, right) {
+        (Holder::Int(left), Holder::Int(right)) => {
+            Ok(Holder::Int(arith(ArithOp::Add, left, right)?))
+        }
+        _ => Err(kind_fault(store, &[left])),
+    }
+}
+
+fn told(relation: Relation, store: &Store, left: Holder, right: Holder) -> Result<Holder, Fault>
+    ensures { result ≡ telling store.now.store relation left right }
+{
+    Ok(truth_value(related(relation, store, left, right)?))
 }
 
 /// The value by which a truth is told.

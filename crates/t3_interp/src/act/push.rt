@@ -6,7 +6,7 @@ ghost use Rattle.t3_interp.specs.Inner.Acting.{HasAction};
 
 use crate::effect::Effect;
 use crate::event::CodeWhy;
-use crate::machine::Core;
+use crate::running::Core;
 use t3_holder::Holder;
 use t3_methods::PushCode;
 use t3_ops::Fault;
@@ -49,6 +49,7 @@ fn pushed(code: PushCode) -> Option<Holder>
         PushCode::Pushpropid(number) => Some(Holder::Prop(number)),
         PushCode::Pushfnptr(address) => Some(Holder::Func(address)),
         PushCode::Pushenum(number) => Some(Holder::Enum(number)),
+        PushCode::Pushobj(number) => Some(Holder::Obj(number)),
         _ => None,
     }
 }

@@ -10,7 +10,7 @@ ghost use Rattle.t3_interp.specs.Inner.Acting.{HasAction};
 use super::push::push_value;
 use crate::effect::Effect;
 use crate::event::CodeWhy;
-use crate::machine::Core;
+use crate::running::Core;
 use t3_holder::Holder;
 use t3_methods::StackCode;
 
@@ -29,7 +29,7 @@ pub(super) fn stack(core: &mut Core, code: StackCode) -> Effect
         StackCode::Dup => dup(core),
         StackCode::Disc => disc(core),
         StackCode::Disc1(count) => {
-            core.frames.drop_operands(count);
+            core.frames.drop_operands(u16::from(count));
             Effect::Next
         }
         StackCode::Getr0 => push_register(core),

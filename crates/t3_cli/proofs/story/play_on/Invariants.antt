@@ -1,13 +1,13 @@
 use Rattle.std.proofs.Common.{◌≡◌}
-use Rattle.t3_interp.specs.Step.{state_of}
 use Rattle.t3_interp.specs.declared.event.Want.TheVariants.{Go}
 use Rattle.t3_cli.specs.Inner.Playing.{HasCome}
 use Rattle.t3_cli.proofs.story.play_on.Given as goal
 
 abbrev pub invariant-loop-left : goal.invariant-loop-left
 invariant-loop-left g l = record {
-  come : HasCome l.program l.steps l.left (state_of l.machine) (g.C.Console.session l.initial.console) (g.C.Console.session l.console) l.has_said;
-  wants : (state_of l.machine).wants ≡ Go;
+  program : l.machine.program ≡ l.initial.program;
+  come : HasCome l.initial.program l.steps l.left l.machine.state (g.C.Console.session l.initial.console) (g.C.Console.session l.console) l.has_said;
+  wants : l.machine.state.wants ≡ Go;
   faults : g.C.Console.faults l.console ≡ g.C.Console.faults l.initial.console;
 }
 

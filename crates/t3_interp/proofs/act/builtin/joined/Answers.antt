@@ -1,5 +1,5 @@
 use Rattle.t3_interp.proofs.Saying.{said_more_by, said_none_by}
-use Rattle.t3_interp.proofs.act.make.joined.Goals as goal
+use Rattle.t3_interp.proofs.act.builtin.joined.Goals as goal
 
 pub returns-then-not-branch : goal.returns-then-not-branch
 returns-then-not-branch c =

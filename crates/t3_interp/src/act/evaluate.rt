@@ -1,0 +1,146 @@
+//! Evaluating a property of a value.
+ghost use Rattle.std.specs.Prelude.{IfOk};
+ghost use Rattle.t3_store.specs.Store.{value_at};
+ghost use Rattle.t3_interp.specs.Machine.{answers};
+ghost use Rattle.t3_interp.specs.Objects.{pops, by_property, evaluates, of_object, found_action, asks};
+ghost use Rattle.t3_interp.specs.Inner.Acting.{HasAction};
+
+use crate::effect::Effect;
+use crate::event::CodeWhy;
+use crate::methods::{is_method, metaclasses_of, method_of};
+use crate::running::Core;
+use crate::search::find_property;
+use std::alloc::Global;
+use t3_holder::{Holder, NoMemory};
+use t3_load::Program;
+use t3_ops::Fault;
+use t3_store::Kind;
+
+/// Evaluates a property of a value, with so many operands as arguments.
+#[inline(always)]
+pub(super) fn evaluate(
+    alloc: Global,
+    program: &Program,
+    core: &mut Core,
+    value: Holder,
+    property: u16,
+    count: u8,
+) -> Result<Effect, NoMemory>
+    ensures { IfOk result
+        (λ effect. HasAction (evaluates program.now property count value) core.old effect core.new) }
+{
+    match value {
+        Holder::Obj(number) => evaluate_object(alloc, program, core, number, property, count),
+        Holder::Text(_) => Ok(ask(program, core, property, count, Kind::Text)),
+        Holder::List(_) => Ok(ask(program, core, property, count, Kind::List)),
+        _ => Ok(Effect::Fault(Fault::NotObject)),
+    }
+}
+
+/// Of the topmost operand, which goes.
+#[inline(always)]
+pub(super) fn evaluate_popped(
+    alloc: Global,
+    program: &Program,
+    core: &mut Core,
+    property: u16,
+    count: u8,
+) -> Result<Effect, NoMemory>
+    ensures { IfOk result
+        (λ effect. HasAction (pops (evaluates program.now property count)) core.old effect core.new) }
+{
+    match core.frames.pop() {
+        Some(value) => evaluate(alloc, program, core, value, property, count),
+        None => Ok(Effect::Stop(CodeWhy::Underflow)),
+    }
+}
+
+/// The property that is the topmost operand, of the next one.
+pub(super) fn evaluate_by_pointer(
+    alloc: Global,
+    program: &Program,
+    core: &mut Core,
+    count: u8,
+) -> Result<Effect, NoMemory>
+    ensures { IfOk result (λ effect. HasAction
+        (pops (by_property (λ p. pops (evaluates program.now p count)))) core.old effect core.new) }
+{
+    match core.frames.pop() {
+        Some(Holder::Prop(property)) => evaluate_popped(alloc, program, core, property, count),
+        Some(_) => Ok(Effect::Fault(Fault::Kind)),
+        None => Ok(Effect::Stop(CodeWhy::Underflow)),
+    }
+}
+
+/// The property that is the topmost operand, of self.
+pub(super) fn evaluate_self_by_pointer(
+    alloc: Global,
+    program: &Program,
+    core: &mut Core,
+    count: u8,
+) -> Result<Effect, NoMemory>
+    ensures { IfOk result (λ effect. HasAction (λ context. pops
+        (by_property (λ p. evaluates program.now p count context.frame.this)) context) core.old effect
+        core.new) }
+{
+    let this = core.frames.this();
+    match core.frames.pop() {
+        Some(Holder::Prop(property)) => evaluate(alloc, program, core, this, property, count),
+        Some(_) => Ok(Effect::Fault(Fault::Kind)),
+        None => Ok(Effect::Stop(CodeWhy::Underflow)),
+    }
+}
+
+/// Of an object.
+fn evaluate_object(
+    alloc: Global,
+    program: &Program,
+    core: &mut Core,
+    number: u32,
+    property: u16,
+    count: u8,
+) -> Result<Effect, NoMemory>
+    ensures { IfOk result (λ effect. HasAction
+        (λ context. of_object program.now property count number (value_at context.store number) context)
+        core.old effect core.new) }
+{
+    let Some(kind) = core.store.kind(number) else {
+        return Ok(Effect::Fault(Fault::Stale));
+    };
+    match find_property(alloc, &core.store, number, property)? {
+        Some(found) => Ok(give_found(core, found.value, count)),
+        None => Ok(ask(program, core, property, count, kind)),
+    }
+}
+
+/// What comes of a value that was found for a property.
+pub(super) fn give_found(core: &mut Core, value: Holder, count: u8) -> Effect
+    ensures { HasAction (found_action value count) core.old result core.new }
+{
+    match value {
+        Holder::Code(_) => Effect::Stop(CodeWhy::Unbuilt),
+        Holder::Shown(_) if count == 0 => Effect::Fault(Fault::NoSay),
+        _ if count == 0 => answer(core, value, 0),
+        _ => Effect::Fault(Fault::ArgCount),
+    }
+}
+
+/// Asks the methods of a kind.
+fn ask(program: &Program, core: &mut Core, property: u16, count: u8, kind: Kind) -> Effect
+    ensures { HasAction (asks program.now property count kind) core.old result core.new }
+{
+    match method_of(program.kinds.0.as_slice(), property, metaclasses_of(kind)) {
+        Some((metaclass, index)) if is_method(metaclass, index) => Effect::Stop(CodeWhy::Unbuilt),
+        Some(_) => Effect::Fault(Fault::NoMethod),
+        None => answer(core, Holder::Nil, u16::from(count)),
+    }
+}
+
+/// Drops the topmost operands, so many, and answers a value.
+pub(super) fn answer(core: &mut Core, value: Holder, count: u16) -> Effect
+    ensures { HasAction (answers value count) core.old result core.new }
+{
+    core.frames.drop_operands(count);
+    core.register = value;
+    Effect::Next
+}

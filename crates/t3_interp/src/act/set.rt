@@ -1,0 +1,104 @@
+//! Setting a property of an object.
+ghost use Rattle.std.specs.Prelude.{◌≡◌, ◌<◌, ◌^◌, IfOk, IsSome, option_and_then};
+ghost use Rattle.t3_undo.specs.declared.cell.Cell.TheVariants.{Prop};
+ghost use Rattle.t3_store.specs.Value.{supers_of};
+ghost use Rattle.t3_store.specs.Store.{value_at, written};
+ghost use Rattle.t3_interp.specs.Objects.{pops, by_property, sets, sets_in, sets_popped, keeps};
+ghost use Rattle.t3_interp.specs.Inner.Acting.{HasAction};
+
+use crate::effect::Effect;
+use crate::event::CodeWhy;
+use crate::running::Core;
+use t3_holder::{Holder, NoMemory};
+use t3_ops::Fault;
+use t3_store::{Kind, StoreRefusal};
+use t3_undo::Cell;
+
+/// Sets a property of the topmost operand to the next one.
+#[inline(always)]
+pub(super) fn set_of_popped(core: &mut Core, property: u16) -> Result<Effect, NoMemory>
+    requires { core.old.store.writes < 2 ^ 63 }
+    ensures { IfOk result
+        (λ effect. HasAction (pops (sets_popped property)) core.old effect core.new) }
+{
+    match core.frames.pop() {
+        Some(object) => set_popped(core, property, object),
+        None => Ok(Effect::Stop(CodeWhy::Underflow)),
+    }
+}
+
+/// Sets the property that is the topmost operand, of the next one, to the one behind it.
+pub(super) fn set_by_pointer(core: &mut Core) -> Result<Effect, NoMemory>
+    requires { core.old.store.writes < 2 ^ 63 }
+    ensures { IfOk result (λ effect. HasAction (pops (by_property (λ p. pops (sets_popped p))))
+        core.old effect core.new) }
+{
+    match core.frames.pop() {
+        Some(Holder::Prop(property)) => set_of_popped(core, property),
+        Some(_) => Ok(Effect::Fault(Fault::Kind)),
+        None => Ok(Effect::Stop(CodeWhy::Underflow)),
+    }
+}
+
+/// Sets a property of an object to the topmost operand.
+#[inline(always)]
+pub(super) fn set_popped(core: &mut Core, property: u16, object: Holder) -> Result<Effect, NoMemory>
+    requires { core.old.store.writes < 2 ^ 63 }
+    ensures { IfOk result
+        (λ effect. HasAction (sets_popped property object) core.old effect core.new) }
+{
+    match core.frames.pop() {
+        Some(value) => set(core, property, object, value),
+        None => Ok(Effect::Stop(CodeWhy::Underflow)),
+    }
+}
+
+/// Sets a property of an object to a value.
+fn set(core: &mut Core, property: u16, object: Holder, value: Holder) -> Result<Effect, NoMemory>
+    requires { core.old.store.writes < 2 ^ 63 }
+    ensures { IfOk result
+        (λ effect. HasAction (sets property object value) core.old effect core.new) }
+{
+    match object {
+        Holder::Obj(number) => set_of_object(core, property, number, value),
+        Holder::Text(_) | Holder::List(_) => Ok(Effect::Fault(Fault::CannotSet)),
+        _ => Ok(Effect::Fault(Fault::NotObject)),
+    }
+}
+
+/// Sets a property of the object of a number.
+fn set_of_object(
+    core: &mut Core,
+    property: u16,
+    number: u32,
+    value: Holder,
+) -> Result<Effect, NoMemory>
+    requires { core.old.store.writes < 2 ^ 63 }
+    ensures { IfOk result (λ effect. HasAction (λ context. sets_in property number value
+        (value_at context.store number) context) core.old effect core.new) }
+{
+    match core.store.kind(number) {
+        Some(Kind::Tads) => write(core, property, number, value),
+        Some(_) => Ok(Effect::Fault(Fault::CannotSet)),
+        None => Ok(Effect::Fault(Fault::Stale)),
+    }
+}
+
+/// Sets a property of a tads-object. One that it has takes no memory.
+fn write(core: &mut Core, property: u16, number: u32, value: Holder) -> Result<Effect, NoMemory>
+    requires few { core.old.store.writes < 2 ^ 63 }
+    requires tads { IsSome (option_and_then supers_of (value_at core.old.store.store number)) }
+    ensures { IfOk result (λ effect. HasAction
+        (λ context. keeps (written number (Prop property) value context.store) context) core.old effect
+        core.new) }
+{
+    if core.store.get(number, &Cell::Prop(property)).is_some() {
+        core.store.overwrite(number, Cell::Prop(property), value);
+        return Ok(Effect::Next);
+    }
+    match core.store.write(number, Cell::Prop(property), Some(value)) {
+        Ok(()) => Ok(Effect::Next),
+        Err(StoreRefusal::Full) => Ok(Effect::StoreFull),
+        Err(StoreRefusal::NoMemory) => Err(NoMemory),
+    }
+}
