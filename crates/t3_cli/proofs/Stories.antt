@@ -117,6 +117,19 @@ come_unbegun program steps before =
       shows = shows_nothing before;
     }
 
+-- a machine was made
+pub come_begun : (program : ProgramValue) (steps : ℕ) (state : State) (before : Option Session) → state ≡ initial program
+    → HasCome program steps steps state before before false
+come_begun program steps state before is =
+    let none : 0 + steps ≡ steps = omega arith in
+    record {
+      said = [];
+      shows = shows_nothing before;
+      has = refl;
+      made = ap (λ (s : State). s.steps + steps) is ∙ none;
+      onward = λ rest runs. subst (λ (s : State). Runs program steps s rest) is runs;
+    }
+
 -- the run has ended
 pub come_ended : (program : ProgramValue) (steps left next : ℕ) (state then : State) (before mid : Option Session) (has_said : Bool)
     (end : End) → left ≡ suc next → HasCome program steps left state before mid has_said → Steps program state (record { state = then; event = Ended end })
@@ -150,10 +163,12 @@ come_last program steps left state before mid has_said is come =
 
 -- ---- what the loop has at hand
 
-pub takes_event : (program : ProgramValue) (state next : State) (event is : Event) → event ≡ is
-    → Steps program state (record { state = next; event = event }) → Steps program state (record { state = next; event = is })
-takes_event program state next event is same takes =
-    let P : Event → Type 0 = λ e. Steps program state (record { state = next; event = e }) in subst P same takes
+pub takes_event : (own program : ProgramValue) (state next : State) (event is : Event) → own ≡ program → event ≡ is
+    → Steps own state (record { state = next; event = event }) → Steps program state (record { state = next; event = is })
+takes_event own program state next event is its same takes =
+    let P : Event → Type 0 = λ e. Steps program state (record { state = next; event = e }) in
+    let Q : ProgramValue → Type 0 = λ p. Steps p state (record { state = next; event = event }) in
+    subst P same (subst Q its takes)
 
 pub nonempty_by_length : (text : List ℕ) (size : ℕ) → size ≡ length text → not (nat_eq size 0) ≡ is_nonempty text
 nonempty_by_length [] size is = ap (λ n. not (nat_eq n 0)) is

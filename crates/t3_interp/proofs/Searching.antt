@@ -19,7 +19,7 @@ use Rattle.t3_load.specs.declared.kinds.MetaKind.{MetaKind}
 use Rattle.t3_load.specs.declared.kinds.MetaKind.TheVariants.{Root}
 use Rattle.t3_load.specs.declared.kinds.KindEntry.{KindEntry}
 use Rattle.t3_interp.specs.declared.search.Place.TheVariants.{Here, Above, Nowhere}
-use Rattle.t3_interp.specs.Search.{order_of, searched, or_behind, property_of, method_of, methods_of, or_next}
+use Rattle.t3_interp.specs.Search.{order_of, searched, here_or_behind, property_of, method_of, methods_of, this_or_next}
 use Rattle.t3_interp.specs.Inner.Finding.{place_at, place_by}
 
 -- ---- the order is the one that there is
@@ -124,8 +124,8 @@ live_by (Some (Vector items)) p v is = absurd cc
 live_by (Some (Table entries default)) p v is = absurd cc
 
 first_of : (s : StoreValue) (p n : ℕ) (rest : List ℕ) (o : Option Holder) → has_prop s n p ≡ o
-    → searched s p (n ∷ rest) ≡ or_behind n o (searched s p rest)
-first_of s p n rest o is = ap (λ h. or_behind n h (searched s p rest)) is
+    → searched s p (n ∷ rest) ≡ here_or_behind n o (searched s p rest)
+first_of s p n rest o is = ap (λ h. here_or_behind n h (searched s p rest)) is
 
 pub found_here : (s : StoreValue) (n p : ℕ) (v : Holder) → IsAcyclicFrom (supers_of_live s) n → has_prop s n p ≡ Some v
     → property_of s n p ≡ Some (n, v)
@@ -213,5 +213,5 @@ pub method_here : (entries : List KindEntry) (p : ℕ) (kinds : List MetaKind) (
 method_here entries p kinds at index less so_far is =
     let kind = slice_index_or kinds at Root in
     let next : drop at kinds ≡ kind ∷ drop (at + 1) kinds = drop_more kinds at Root less in
-    ap (λ i. or_next (option_map (λ j. (kind, j)) i) (method_of entries p (drop (at + 1) kinds))) (sym is)
+    ap (λ i. this_or_next (option_map (λ j. (kind, j)) i) (method_of entries p (drop (at + 1) kinds))) (sym is)
     ∙ ap (method_of entries p) (sym next) ∙ so_far

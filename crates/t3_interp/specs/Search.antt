@@ -51,15 +51,15 @@ tads_object store _ = Err NotObject
 unfoldable pub order_of : StoreValue → ℕ → List ℕ
 order_of store number = last_places (preorder (supers_of_live store) (objects_in store) number)
 
-abbrev pub or_behind : ℕ → Option Holder → Option (ℕ × Holder) → Option (ℕ × Holder)
-or_behind number (Some value) rest = Some (number, value)
-or_behind number None rest = rest
+abbrev pub here_or_behind : ℕ → Option Holder → Option (ℕ × Holder) → Option (ℕ × Holder)
+here_or_behind number (Some value) rest = Some (number, value)
+here_or_behind number None rest = rest
 
 -- the first of these objects that has the property, with its value
 abbrev pub searched : StoreValue → ℕ → List ℕ → Option (ℕ × Holder)
 searched store property [] = None
 searched store property (number ∷ numbers) =
-    or_behind number (holder_at (value_at store number) (Prop property)) (searched store property numbers)
+    here_or_behind number (holder_at (value_at store number) (Prop property)) (searched store property numbers)
 
 -- where a property of an object is found: the object that defines it, and the value
 abbrev pub property_of : StoreValue → ℕ → ℕ → Option (ℕ × Holder)
@@ -70,7 +70,7 @@ abbrev pub behind : ℕ → List ℕ → List ℕ
 behind number [] = []
 behind number (first ∷ rest) = if first == number then rest else behind number rest
 
--- where it is found behind the object that defines it here
+-- where a property of an object is found behind another one, which is that by which the method is defined that asks
 abbrev pub inherited_of : StoreValue → ℕ → ℕ → ℕ → Option (ℕ × Holder)
 inherited_of store defining number property = searched store property (behind defining (order_of store number))
 
@@ -99,15 +99,15 @@ abbrev pub methods_of : List KindEntry → MetaKind → List ℕ
 methods_of [] kind = []
 methods_of (entry ∷ entries) kind = if same_kind entry.kind kind then entry.props else methods_of entries kind
 
-abbrev pub or_next : {A : Type 0} → Option A → Option A → Option A
-or_next (Some found) rest = Some found
-or_next None rest = rest
+abbrev pub this_or_next : {A : Type 0} → Option A → Option A → Option A
+this_or_next (Some found) rest = Some found
+this_or_next None rest = rest
 
 -- the first of these metaclasses that has a method by the property, and that method's first index
 abbrev pub method_of : List KindEntry → ℕ → List MetaKind → Option (MetaKind × ℕ)
 method_of entries property [] = None
 method_of entries property (kind ∷ rest) =
-    or_next (option_map (λ index. (kind, index)) (position_from (λ p. p == property) 0 (methods_of entries kind)))
+    this_or_next (option_map (λ index. (kind, index)) (position_from (λ p. p == property) 0 (methods_of entries kind)))
     (method_of entries property rest)
 
 -- which methods there are of each metaclass

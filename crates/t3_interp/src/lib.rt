@@ -19,6 +19,7 @@ mod act;
 mod effect;
 mod event;
 mod exception;
+mod laws;
 mod machine;
 mod methods;
 mod relation;
@@ -30,4 +31,5 @@ mod symbols;
 mod values;
 
 pub use event::{CodeWhy, End, Event, Input, Want};
+pub use laws::search_order;
 pub use machine::Machine;

@@ -3,7 +3,7 @@ ghost use Rattle.std.specs.Prelude.{◌≡◌, ◌<◌, ◌^◌, IfOk, IsSome, o
 ghost use Rattle.t3_undo.specs.declared.cell.Cell.TheVariants.{Prop};
 ghost use Rattle.t3_store.specs.Value.{supers_of};
 ghost use Rattle.t3_store.specs.Store.{value_at, written};
-ghost use Rattle.t3_interp.specs.Objects.{pops, by_property, sets, sets_in, sets_popped, keeps};
+ghost use Rattle.t3_interp.specs.Objects.{pops, by_property, sets, sets_in, sets_popped, takes_store};
 ghost use Rattle.t3_interp.specs.Inner.Acting.{HasAction};
 
 use crate::effect::Effect;
@@ -89,7 +89,7 @@ fn write(core: &mut Core, property: u16, number: u32, value: Holder) -> Result<E
     requires few { core.old.store.writes < 2 ^ 63 }
     requires tads { IsSome (option_and_then supers_of (value_at core.old.store.store number)) }
     ensures { IfOk result (λ effect. HasAction
-        (λ context. keeps (written number (Prop property) value context.store) context) core.old effect
+        (λ context. takes_store (written number (Prop property) value context.store) context) core.old effect
         core.new) }
 {
     if core.store.get(number, &Cell::Prop(property)).is_some() {

@@ -1,10 +1,11 @@
-use Rattle.std.proofs.Common.{◌≡◌, ◌-◌, ◌∙◌, List, ℕ, not, length, Err, Ok, ap, arith, subst}
+use Rattle.std.proofs.Common.{◌≡◌, ◌-◌, ◌∙◌, List, ℕ, not, length, Err, Ok, refl, ap, arith, subst}
 use Rattle.std.proofs.lemmas.Result.{err_from_is_err_and}
+use Rattle.t3_interp.specs.Machine.{State}
 use Rattle.t3_interp.specs.declared.event.Event.TheVariants.{Went, Said, Ended}
 use Rattle.t3_cli.specs.Lines.{is_nonempty}
 use Rattle.t3_cli.specs.Inner.Showing.{ShowsAll}
 use Rattle.t3_interp.proofs.Runs.{wants_on}
-use Rattle.t3_cli.proofs.Stories.{come_unbegun, come_went, come_said, come_cut, come_wanting, come_ended, come_last, takes_event, nonempty_by_length, or_said, plays_cut}
+use Rattle.t3_cli.proofs.Stories.{come_unbegun, come_begun, come_went, come_said, come_cut, come_wanting, come_ended, come_last, takes_event, nonempty_by_length, or_said, plays_cut}
 use Rattle.t3_cli.proofs.story.play_on.Goals as goal
 
 pub loop-left-preserved-in-Went : goal.loop-left-preserved-in-Went
@@ -12,11 +13,12 @@ loop-left-preserved-in-Went g c =
     let program = c.args.program in
     let left = c.loop-left.left in
     let old = c.loop-left.machine.state in
-    let new = c.in_ok-step.field-0.0.state in
+    let new = c.in_ok-next.next.state in
     let before = g.C.Console.session c.args.console.now in
     let mid = g.C.Console.session c.loop-left.console in
-    let takes = takes_event program old new c.in_ok-step.field-0 Went c.in-Went.is c.in_ok-step.ensures in
+    let takes = takes_event c.loop-left.machine.program program old new c.in_ok-next.event Went c.loop-left.invariant.program c.in-Went.is c.in_ok-next.ensures.step in
     record {
+      program = c.in_ok-next.ensures.program ∙ c.loop-left.invariant.program;
       wants = (wants_on program old (record { state = new; event = Went }) takes).1;
       come =
           come_went program c.args.steps left (left - 1) old new before mid c.loop-left.has_said (omega (arith, c.loop-left-test.true)) c.loop-left.invariant.come takes;
@@ -28,12 +30,12 @@ returns-in_err-show-in-Said-clause-plays g c =
     let program = c.args.program in
     let left = c.loop-left.left in
     let old = c.loop-left.machine.state in
-    let new = c.in_ok-step.field-0.0.state in
+    let new = c.in_ok-next.next.state in
     let before = g.C.Console.session c.args.console.now in
     let mid = g.C.Console.session c.loop-left.console in
     let after = g.C.Console.session c.show.new.console in
     let e = c.in_err-show-in-Said.field-0.0 in
-    let takes = takes_event program old new c.in_ok-step.field-0 (Said c.in-Said.text) c.in-Said.is c.in_ok-step.ensures in
+    let takes = takes_event c.loop-left.machine.program program old new c.in_ok-next.event (Said c.in-Said.text) c.loop-left.invariant.program c.in-Said.is c.in_ok-next.ensures.step in
     let text : c.deref.result.now ≡ c.in-Said.text = c.deref.ensures.value ∙ c.text.view_is in
     let shows = subst (λ (t : List ℕ). ShowsAll mid after t (Err e)) text c.in_err-show-in-Said.ensures.shown in
     let begun = come_cut program c.args.steps left (left - 1) old new before mid after c.loop-left.has_said c.in-Said.text (omega (arith, c.loop-left-test.true)) c.loop-left.invariant.come takes shows in
@@ -45,15 +47,16 @@ loop-left-preserved g c =
     let program = c.args.program in
     let left = c.loop-left.left in
     let old = c.loop-left.machine.state in
-    let new = c.in_ok-step.field-0.0.state in
+    let new = c.in_ok-next.next.state in
     let before = g.C.Console.session c.args.console.now in
     let mid = g.C.Console.session c.loop-left.console in
     let after = g.C.Console.session c.show.new.console in
-    let takes = takes_event program old new c.in_ok-step.field-0 (Said c.in-Said.text) c.in-Said.is c.in_ok-step.ensures in
+    let takes = takes_event c.loop-left.machine.program program old new c.in_ok-next.event (Said c.in-Said.text) c.loop-left.invariant.program c.in-Said.is c.in_ok-next.ensures.step in
     let text : c.deref.result.now ≡ c.in-Said.text = c.deref.ensures.value ∙ c.text.view_is in
     let shows = subst (λ (t : List ℕ). ShowsAll mid after t (Ok tt)) text c.in_ok-show-in-Said.ensures.shown in
     let has = ap not c.is_empty.ensures ∙ nonempty_by_length c.in-Said.text _ (c.text.inside.0.ok.0 ∙ ap (λ (t : List ℕ). length t) c.text.view_is) in
     record {
+      program = c.in_ok-next.ensures.program ∙ c.loop-left.invariant.program;
       wants = (wants_on program old (record { state = new; event = Said c.in-Said.text }) takes).1;
       come =
           come_said program c.args.steps left (left - 1) old new before mid after c.loop-left.has_said _ c.in-Said.text (omega (arith, c.loop-left-test.true)) c.loop-left.invariant.come takes shows (or_said c.loop-left.has_said c.is_empty.result (is_nonempty c.in-Said.text) has);
@@ -65,22 +68,32 @@ returns-in-Ended-clause-plays g c =
     let program = c.args.program in
     let left = c.loop-left.left in
     let old = c.loop-left.machine.state in
-    let new = c.in_ok-step.field-0.0.state in
-    let takes = takes_event program old new c.in_ok-step.field-0 (Ended c.in-Ended.end) c.in-Ended.is c.in_ok-step.ensures in
+    let new = c.in_ok-next.next.state in
+    let takes = takes_event c.loop-left.machine.program program old new c.in_ok-next.event (Ended c.in-Ended.end) c.loop-left.invariant.program c.in-Ended.is c.in_ok-next.ensures.step in
     come_ended program c.args.steps left (left - 1) old new (g.C.Console.session c.args.console.now) (g.C.Console.session c.loop-left.console) c.loop-left.has_said c.in-Ended.end (omega (arith, c.loop-left-test.true)) c.loop-left.invariant.come takes
 
 pub returns-clause-plays : goal.returns-clause-plays
 returns-clause-plays g c =
     come_last c.args.program c.args.steps c.loop-left.left (c.loop-left.machine.state) (g.C.Console.session c.args.console.now) (g.C.Console.session c.loop-left.console) c.loop-left.has_said (omega (arith, c.loop-left-test.false)) c.loop-left.invariant.come
 
-pub returns-in_err-step-clause-plays : goal.returns-in_err-step-clause-plays
-returns-in_err-step-clause-plays g c =
+pub returns-in_err-next-clause-plays : goal.returns-in_err-next-clause-plays
+returns-in_err-next-clause-plays g c =
     let program = c.args.program in
     let before = g.C.Console.session c.args.console.now in
     let mid = g.C.Console.session c.loop-left.console in
     let begun = come_wanting program c.args.steps c.loop-left.left (c.loop-left.machine.state) before mid c.loop-left.has_said c.loop-left.invariant.come in
-    let p = err_from_is_err_and c.from_residual-in_err-step.result c.from_residual-in_err-step.ensures.1 in
-    plays_cut program c.args.steps before mid _ c.from_residual-in_err-step.result p.1 begun
+    let p = err_from_is_err_and c.from_residual-in_err-next.result c.from_residual-in_err-next.ensures.1 in
+    plays_cut program c.args.steps before mid _ c.from_residual-in_err-next.result p.1 begun
+
+pub loop-left-init : goal.loop-left-init
+loop-left-init g c =
+    let made = c.in_ok-machine.ensures in
+    record {
+      program = made.program;
+      come = come_begun c.args.program c.args.steps c.in_ok-machine.machine.state (g.C.Console.session c.args.console.now) made.state;
+      wants = ap (λ (state : State). state.wants) made.state;
+      faults = refl;
+    }
 
 pub returns-in_err-machine-clause-plays : goal.returns-in_err-machine-clause-plays
 returns-in_err-machine-clause-plays g c =
