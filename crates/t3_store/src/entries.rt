@@ -1,5 +1,5 @@
 //! Objects in a row, by rising number.
-ghost use Rattle.std.specs.Prelude.{◌≡◌, ◌+◌, ◌-◌, ◌^◌, ◌<◌, ◌≤◌, ◌++◌, [], ◌∷◌, ℕ, length, take, drop, slice_get, IsTrue, IsSome, IfSome, IfOk, None, OnOk, OnErr, option_map, map};
+ghost use Rattle.std.specs.Prelude.{◌≡◌, ◌+◌, ◌-◌, ◌^◌, ◌<◌, ◌≤◌, ◌↔◌, ◌++◌, [], ◌∷◌, ℕ, length, take, drop, slice_get, IsTrue, IsSome, IfSome, IfOk, None, OnOk, OnErr, option_map, map};
 ghost use Rattle.std.specs.FinMap.{get, insert};
 ghost use Rattle.std.specs.List.{AllWithin};
 ghost use Rattle.t3_undo.specs.Content.{shown, is_form};
@@ -58,14 +58,29 @@ fn is_at(entries: &[Entry], index: usize, number: u32) -> bool
     }
 }
 
-/// How many objects have smaller numbers.
+/// How many objects have smaller numbers. Most often all have, and else that is found by halves.
 pub(crate) fn bound_of(entries: &[Entry], number: u32) -> usize
     requires { IsRising entries.now }
     ensures bound { result ≤ length entries.now }
     ensures below { AllWithin (λ entry. entry.number < number) entries.now 0 result }
     ensures above { AllWithin (λ entry. number ≤ entry.number) entries.now result (length entries.now) }
 {
+    if is_behind_all(entries, number) {
+        return entries.len();
+    }
     entries.partition_point(|entry| entry.number < number)
+}
+
+/// Whether all objects have smaller numbers.
+fn is_behind_all(entries: &[Entry], number: u32) -> bool
+    requires { IsRising entries.now }
+    ensures { IsTrue result
+        ↔ AllWithin (λ entry. entry.number < number) entries.now 0 (length entries.now) }
+{
+    match entries.last() {
+        Some(last) => last.number < number,
+        None => true,
+    }
 }
 
 /// The object of a number.
