@@ -3,7 +3,7 @@ ghost use Rattle.std.specs.FinMap.{from_entries, len};
 ghost use Rattle.std.specs.Ordering.{nat_cmp};
 ghost use Rattle.t3_lists.specs.Vector.{parts_of, filled};
 ghost use Rattle.t3_store.specs.Value.{Tads, pair_of, new_value, units_of, HasFittingLength};
-ghost use Rattle.t3_store.specs.Inner.Shapes.{thing_of, value_of, tick_of, IsWithProp, HasElements, IsWithElement};
+ghost use Rattle.t3_store.specs.Inner.Shapes.{thing_of, value_of, tick_of, HasElements, IsWithElement};
 ghost use Rattle.t3_store.specs.Inner.Valid.{IsValid};
 
 use crate::object::Object;
@@ -89,18 +89,10 @@ fn make_tads(alloc: Global, supers: Numbers, class: bool, props: &Props) -> Resu
     let mut left = items.len();
     while left > 0 {
         left -= 1;
-        add_prop(&mut object, items[left].number, items[left].value)?;
+        object.set(items[left].number, items[left].value)?;
     }
+    object.trim()?;
     Ok(Object::Tads(object))
-}
-
-/// Sets a property of an object.
-fn add_prop(object: &mut TadsObject, number: u16, value: Holder) -> Result<(), NoMemory>
-    ensures { OnOk result (IsWithProp object.old object.new number value) }
-{
-    object.make_place(Cell::Prop(number))?;
-    let _old = object.put(&Cell::Prop(number), Content::Held(value));
-    Ok(())
 }
 
 /// A vector of these elements.

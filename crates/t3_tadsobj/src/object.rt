@@ -77,6 +77,26 @@ impl TadsObject {
         })
     }
 
+    /// Sets a property, which has a place then.
+    pub fn set(&mut self, number: u16, value: Holder) -> Result<(), NoMemory>
+        ensures ok { OnOk result (self.new ≡ record self.old {
+          parts = set_at self.old.parts (Cell.Prop number) (shown (Content.Held value));
+          places = set.insert self.old.places (Cell.Prop number);
+        }) }
+        ensures err { OnErr result (self.new ≡ self.old) }
+    {
+        self.slots.set(Cell::Prop(number), Content::Held(value))?;
+        Ok(())
+    }
+
+    /// Moves the properties to memory that just fits them: making places takes memory for nine at once. After want of
+    /// memory they are where they were.
+    pub fn trim(&mut self) -> Result<(), NoMemory>
+        ensures { self.new ≡ self.old }
+    {
+        self.slots.trim()
+    }
+
     /// The present properties with their values, by rising number.
     pub fn props(&self, alloc: Global) -> Result<Props, NoMemory>
         ensures props { IfOk result (λ props. map (λ prop. (prop.number, prop.value)) props

@@ -53,3 +53,16 @@ fn a_copy_has_no_place_for_an_absent_cell(rt: HostRuntime) -> Result<(), Fail> {
     assert_eq!(rt; copy.get(&Cell::Prop(1)), Content::Absent);
     Ok(())
 }
+
+#[test]
+fn a_trimmed_object_keeps_its_properties_and_takes_more(rt: HostRuntime) -> Result<(), Fail> {
+    let alloc = rt.alloc();
+    let mut object = TadsObject::new(alloc);
+    set(&mut object, 1, 10)?;
+    object.trim()?;
+    object.set(2, Holder::Int(20))?;
+    assert_eq!(rt; object.places(), 2);
+    assert_eq!(rt; object.get(&Cell::Prop(1)), Content::Held(Holder::Int(10)));
+    assert_eq!(rt; object.get(&Cell::Prop(2)), Content::Held(Holder::Int(20)));
+    Ok(())
+}

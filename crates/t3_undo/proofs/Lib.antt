@@ -1,5 +1,6 @@
 pub mod Maps
 pub mod SlotLists
+mod SlotSets
 pub mod PuttingBack
 pub mod AnyOrder
 pub mod Undoing

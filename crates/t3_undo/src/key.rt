@@ -46,6 +46,28 @@ impl Key {
     }
 }
 
+impl Clone for Key {
+    ghost use Rattle.std.specs.Prelude.{◌≡◌};
+
+    ghost is_clone = { λ key clone. clone ≡ key };
+
+    fn clone(&self) -> Result<Key, AllocError> {
+        match self {
+            Key::Nil => Ok(Key::Nil),
+            Key::True => Ok(Key::True),
+            Key::Int(number) => Ok(Key::Int(*number)),
+            Key::Enum(number) => Ok(Key::Enum(*number)),
+            Key::Prop(number) => Ok(Key::Prop(*number)),
+            Key::Func(address) => Ok(Key::Func(*address)),
+            Key::Obj(number) => Ok(Key::Obj(*number)),
+            Key::Text(bytes) => {
+                let copy = Vec::from_slice(*bytes.0.allocator(), bytes.0.as_slice())?;
+                Ok(Key::Text(Bytes(copy)))
+            }
+        }
+    }
+}
+
 impl PartialEq for Key {
     ghost eq = { eq_by_cmp key_cmp };
 

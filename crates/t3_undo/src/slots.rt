@@ -16,12 +16,28 @@ use crate::cell::Cell;
 use crate::content::{Content, like};
 use indexmap::IndexMap;
 use std::alloc::Global;
-use std::hash::{BuildHasherDefault, DefaultHasher};
+use std::hash::{BuildHasher, DefaultHasher};
 use std::marker::Model;
 use std::mem;
 use t3_holder::NoMemory;
 
-type Cells = IndexMap<Cell, Content, BuildHasherDefault<DefaultHasher>>;
+type Cells = IndexMap<Cell, Content, FixedKey>;
+
+/// Hashes cells by SipHash under its fixed key, and takes no room in a map, where std's keeps a hasher.
+#[derive(Clone, Copy)]
+struct FixedKey;
+
+impl BuildHasher for FixedKey {
+    ghost use Rattle.std.specs.Hash.DefaultHasher.{initial};
+
+    type Hasher = DefaultHasher;
+
+    ghost build_hasher = { λ _. initial };
+
+    fn build_hasher(&self) -> DefaultHasher {
+        DefaultHasher::new()
+    }
+}
 
 /// Cells that have a place, each with its content: what a kind of object is built round. `get` and `put`
 /// do one look-up. Contracts see the slots in the order in which they were made.
@@ -50,7 +66,7 @@ impl Slots {
         ensures { result ≡ [] }
     {
         Slots {
-            cells: IndexMap::with_hasher(alloc, BuildHasherDefault::new()),
+            cells: IndexMap::with_hasher(alloc, FixedKey),
         }
     }
 
@@ -93,6 +109,17 @@ impl Slots {
         Ok(())
     }
 
+    /// Sets the cell, which has a place then.
+    pub fn set(&mut self, cell: Cell, content: Content) -> Result<(), NoMemory>
+        requires { IsTrue (is_form cell (shown content)) }
+        ensures parts { OnOk result (parts_of self.new ≡ set_at (parts_of self.old) cell (shown content)) }
+        ensures places { OnOk result (places_of self.new ≡ set.insert (places_of self.old) cell) }
+        ensures err { OnErr result (self.new ≡ self.old) }
+    {
+        self.cells.insert(cell, content)?;
+        Ok(())
+    }
+
     /// A slot for a cell that has none.
     pub fn add(&mut self, cell: Cell, content: Content) -> Result<(), NoMemory>
         requires new { list_any (eq_by_cmp cell_cmp cell) (keys_of self.old) ≡ false }
@@ -101,6 +128,15 @@ impl Slots {
         ensures err { OnErr result (self.new ≡ self.old) }
     {
         self.cells.insert(cell, content)?;
+        Ok(())
+    }
+
+    /// Moves the slots to memory that just fits them: making slots takes memory for nine at once. After want of memory
+    /// they are where they were.
+    pub fn trim(&mut self) -> Result<(), NoMemory>
+        ensures { self.new ≡ self.old }
+    {
+        self.cells = self.cells.clone()?;
         Ok(())
     }
 
