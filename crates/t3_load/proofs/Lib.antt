@@ -13,6 +13,8 @@ pub mod OneObject
 pub mod SuperRules
 pub mod Halving
 pub mod ByNumber
+mod WithSupers
+mod Rising
 pub mod Starting
 pub mod NameRules
 pub mod LoadSteps

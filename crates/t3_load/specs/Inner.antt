@@ -4,3 +4,4 @@ pub mod Deciding
 pub mod Objects
 pub mod Numbers
 pub mod Halves
+pub mod Supers

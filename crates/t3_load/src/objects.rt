@@ -70,13 +70,6 @@ impl ImageObjects {
         &self.objects
     }
 
-    /// Their numbers, in the same order.
-    pub(crate) fn numbers(&self) -> &[u32]
-        ensures { result.now ≡ object_numbers self.now }
-    {
-        self.numbers.as_slice()
-    }
-
     /// The objects themselves, in order.
     pub(crate) fn into_vec(self) -> Vec<ImageObject>
         ensures objects { result.items ≡ self }
@@ -177,7 +170,8 @@ fn distinct_numbers(
 ) -> Result<Tried<ObjectNumbers>, NoMemory>
     ensures { IfOk result (TakesNumbers (λ set. set.keys) (map (λ static. static.number) statics.now)) }
 {
-    let mut numbers = IndexSet::with_hasher(alloc, BuildHasherDefault::new());
+    let hasher = BuildHasherDefault::new();
+    let mut numbers = IndexSet::with_capacity_and_hasher(alloc, statics.len(), hasher)?;
     for placed in statics {
         let (_index, added) = numbers.insert_full(placed.number)?;
         if !added {

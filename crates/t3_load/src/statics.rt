@@ -1,7 +1,8 @@
 //! The objects that stand in an image, taken from their bytes.
-ghost use Rattle.std.specs.Prelude.{◌≡◌, ◌<◌, ◌^◌, ◌++◌, ◌==◌, length, nat_eq, map, MatchOption, MatchBool, IfOk};
+ghost use Rattle.std.specs.Prelude.{◌≡◌, ◌<◌, ◌^◌, ◌↔◌, ◌++◌, ◌==◌, length, nat_eq, map, IsTrue, MatchOption, MatchBool, IfOk};
 ghost use Rattle.std.specs.Int.{bit_at};
 ghost use Rattle.std.specs.List.{IsDistinct};
+ghost use Rattle.std.specs.List.Sorted.{IsStrictlyIncreasing};
 ghost use Rattle.std.specs.Str.{IsUtf8};
 ghost use Rattle.t3_holder.specs.NumberText.{little_endian};
 ghost use Rattle.t3_load.specs.Layout.{GivesObject};
@@ -96,12 +97,15 @@ fn is_class(flags: u16) -> bool
     flags & 1 == 1
 }
 
-/// Whether no two properties have one number.
+/// Whether no two properties have one number. Most images have them by rising number: then no set is made.
 fn are_distinct(alloc: Global, props: &[PropValue]) -> Result<bool, NoMemory>
     ensures { IfOk result (λ distinct. MatchBool distinct
         (IsDistinct nat_eq (map (λ prop. prop.number) props.now))
         (¬ IsDistinct nat_eq (map (λ prop. prop.number) props.now))) }
 {
+    if are_rising(props) {
+        return Ok(true);
+    }
     let mut seen: Seen = IndexSet::with_hasher(alloc, BuildHasherDefault::new());
     for prop in props {
         let (_index, added) = seen.insert_full(prop.number)?;
@@ -110,6 +114,13 @@ fn are_distinct(alloc: Global, props: &[PropValue]) -> Result<bool, NoMemory>
         }
     }
     Ok(true)
+}
+
+/// Whether each number is below the next.
+fn are_rising(props: &[PropValue]) -> bool
+    ensures { IsTrue result ↔ IsStrictlyIncreasing (map (λ prop. prop.number) props.now) }
+{
+    props.is_sorted_by(|prop, next| prop.number < next.number)
 }
 
 fn text(alloc: Global, bytes: &[u8]) -> Result<Option<NewObject>, NoMemory>

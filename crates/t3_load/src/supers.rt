@@ -1,18 +1,21 @@
 //! The rules on the superclasses of an image's objects.
-ghost use Rattle.std.specs.Prelude.{◌≡◌, List, Some, None, IfOk, OnOk, map};
+ghost use Rattle.std.specs.Prelude.{◌≡◌, List, Some, None, IfOk, OnOk, filter, map};
 ghost use Rattle.t3_image_read.specs.declared.image.PlacedBlock.{PlacedBlock as AnyBlock};
-ghost use Rattle.t3_load.specs.ImageObjects.{supers_by, superclasses, lacks_super, is_transient_at, has_transient_super};
+ghost use Rattle.t3_tadsobj.specs.Cycles.{IsFirstCyclic};
+ghost use Rattle.t3_load.specs.ImageObjects.{object_numbers, supers_by, superclasses, lacks_super, is_transient_at, has_transient_super};
 ghost use Rattle.t3_store.specs.Whole.{IsAcyclic};
 ghost use Rattle.t3_load.specs.Rules.{AreObjectsIn, first_by};
 ghost use Rattle.t3_load.specs.Names.{metas_in};
 ghost use Rattle.t3_load.specs.Kinds.{kind_entry_of};
 ghost use Rattle.t3_load.specs.Inner.Halves.{AreMade, IsWhole};
+ghost use Rattle.t3_load.specs.Inner.Supers.{has_supers};
 ghost use Rattle.t3_load.specs.Inner.Deciding.{Decides};
 
 use crate::kinds::Kinds;
 use crate::objects::{ImageObject, ImageObjects, objects};
 use crate::refusal::LoadRefusal;
 use std::alloc::Global;
+use t3_holder::NoMemory;
 use t3_image_read::Image;
 use t3_store::NewObject;
 use t3_tadsobj::{Supers, first_cyclic};
@@ -54,10 +57,32 @@ fn check_acyclic(alloc: Global, objects: &ImageObjects) -> Result<(), LoadRefusa
     ensures acyclic { OnOk result (IsAcyclic (supers_by objects.now)) }
     ensures decides { (blocks : List AnyBlock) → AreObjectsIn blocks objects.now → Decides blocks 11 12 result }
 {
-    match first_cyclic(alloc, objects, objects.numbers())? {
+    match first_own_ancestor(alloc, objects)? {
         Some(number) => Err(LoadRefusal::SuperCycle(number)),
         None => Ok(()),
     }
+}
+
+/// The number of the first object that is its own ancestor. One without superclasses can't be, and isn't asked for.
+fn first_own_ancestor(alloc: Global, objects: &ImageObjects) -> Result<Option<u32>, NoMemory>
+    ensures { IfOk result (IsFirstCyclic (supers_by objects.now) (object_numbers objects.now)) }
+{
+    let numbers = numbers_with_supers(alloc, objects.as_slice())?;
+    first_cyclic(alloc, objects, &numbers)
+}
+
+/// The numbers of the objects that have superclasses, in order.
+fn numbers_with_supers(alloc: Global, objects: &[ImageObject]) -> Result<Vec<u32>, NoMemory>
+    ensures { IfOk result (λ numbers. numbers.items
+        ≡ object_numbers (filter has_supers objects.now)) }
+{
+    let mut numbers = Vec::new(alloc);
+    for object in objects {
+        if has_supers(object) {
+            numbers.push(object.number)?;
+        }
+    }
+    Ok(numbers)
 }
 
 /// Whether persistent objects have persistent superclasses: rule 12.
@@ -107,6 +132,12 @@ fn is_transient_at(objects: &ImageObjects, number: u32) -> bool
         Some(object) => object.transient,
         None => false,
     }
+}
+
+fn has_supers(object: &ImageObject) -> bool
+    ensures { result ≡ has_supers object.now }
+{
+    superclasses(object).len() > 0
 }
 
 /// The superclasses of a tads-object. Other objects have none.

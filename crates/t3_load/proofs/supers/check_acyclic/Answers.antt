@@ -1,6 +1,6 @@
-use Rattle.std.proofs.Common.{None, Some, subst, inr}
+use Rattle.std.proofs.Common.{subst, inr}
 use Rattle.t3_tadsobj.specs.Cycles.{IsFirstCyclic}
-use Rattle.t3_load.specs.ImageObjects.{supers_by}
+use Rattle.t3_load.specs.ImageObjects.{object_numbers, supers_by}
 use Rattle.t3_load.proofs.SuperRules.{cycle_decides, acyclic_kept, all_acyclic}
 use Rattle.t3_load.proofs.supers.check_acyclic.Goals as goal
 
@@ -8,17 +8,14 @@ pub returns-in-Some-clause-decides : goal.returns-in-Some-clause-decides
 returns-in-Some-clause-decides c = λ blocks are.
     inr
     (cycle_decides blocks c.args.objects.now c.in-Some.number
-    (subst (λ ns. IsFirstCyclic (supers_by c.args.objects.now) ns (Some c.in-Some.number)) c.numbers.ensures
-    (subst (IsFirstCyclic (supers_by c.args.objects.now) c.numbers.result.now) c.in-Some.is c.in_ok-number.ensures)) are)
+    (subst (IsFirstCyclic (supers_by c.args.objects.now) (object_numbers c.args.objects.now)) c.in-Some.is c.in_ok-number.ensures) are)
 
 pub returns-in-None-clause-acyclic : goal.returns-in-None-clause-acyclic
 returns-in-None-clause-acyclic c =
     all_acyclic c.args.objects.now
-    (subst (λ ns. IsFirstCyclic (supers_by c.args.objects.now) ns None) c.numbers.ensures
-    (subst (IsFirstCyclic (supers_by c.args.objects.now) c.numbers.result.now) c.in-None.is c.in_ok-number.ensures))
+    (subst (IsFirstCyclic (supers_by c.args.objects.now) (object_numbers c.args.objects.now)) c.in-None.is c.in_ok-number.ensures)
 
 pub returns-in-None-clause-decides : goal.returns-in-None-clause-decides
 returns-in-None-clause-decides c = λ blocks are.
     acyclic_kept blocks c.args.objects.now are
-    (subst (λ ns. IsFirstCyclic (supers_by c.args.objects.now) ns None) c.numbers.ensures
-    (subst (IsFirstCyclic (supers_by c.args.objects.now) c.numbers.result.now) c.in-None.is c.in_ok-number.ensures))
+    (subst (IsFirstCyclic (supers_by c.args.objects.now) (object_numbers c.args.objects.now)) c.in-None.is c.in_ok-number.ensures)
