@@ -89,7 +89,7 @@ impl TadsObject {
         Ok(())
     }
 
-    /// Moves the properties to memory that just fits them: making places takes memory for nine at once. After want of
+    /// Moves the properties to memory that fits them better: making places takes memory for nine at once. After want of
     /// memory they are where they were.
     pub fn trim(&mut self) -> Result<(), NoMemory>
         ensures { self.new ≡ self.old }

@@ -131,7 +131,7 @@ impl Slots {
         Ok(())
     }
 
-    /// Moves the slots to memory that just fits them: making slots takes memory for nine at once. After want of memory
+    /// Moves the slots to memory that fits them better: making slots takes memory for nine at once. After want of memory
     /// they are where they were.
     pub fn trim(&mut self) -> Result<(), NoMemory>
         ensures { self.new ≡ self.old }
