@@ -1,4 +1,4 @@
-use Rattle.std.proofs.Common.{◌≡◌, ℕ, ap, ◌+◌, ◌-◌, ◌<◌, ◌≤◌, ◌↔◌, List, length, get_or, ltb-true, refl, arith}
+use Rattle.std.proofs.Common.{◌≡◌, ℕ, ap, ◌-◌, ◌<◌, ◌↔◌, List, length, get_or, ltb-true, refl, arith}
 use Rattle.std.proofs.lemmas.Bool.{lt-ltb}
 use Rattle.std.specs.List.{AllWithin}
 use Rattle.t3_store.specs.Inner.Entries.{IsRising}
