@@ -26,14 +26,16 @@ build/t3_store_bench: $(SOURCES)
 	cd crates/t3_store_bench && rm -f out/t3_store_bench && { rt run -- objects 1 || true; } && test -x out/t3_store_bench
 	cp crates/t3_store_bench/out/t3_store_bench $@
 
-# A first look, within a minute: built once, without its proofs, to assemble a source and to run the image of it.
+# A first look, within a minute: built once, without its proofs, to assemble two sources and to run the images of them.
 demo: examples/answer.t3
 	@echo 'This build is not proved: make proves the program and builds it.'
 	@rm -rf build/demo && mkdir -p build/demo
-	@cp examples/answer.t3s build/demo/asm && printf 'asm\n{}\nanswer.t3\n' > build/demo/asm.args
-	@cp examples/answer.t3 build/demo/run && printf 'run\n{}\n' > build/demo/run.args
+	@for story in answer counter; do \
+		cp examples/$$story.t3s build/demo/$$story-asm && printf 'asm\n{}\n%s.t3\n' $$story > build/demo/$$story-asm.args; \
+		cp examples/$$story.t3 build/demo/$$story-run && printf 'run\n{}\n' > build/demo/$$story-run.args; \
+	done
 	@cd crates/t3 && rt try --cases ../../build/demo > ../../build/demo.out 2>&1
-	@sed -n -e 's/^== asm$$/$$ t3 asm answer.t3s answer.t3/p' -e 's/^== run$$/$$ t3 run answer.t3/p' \
+	@sed -n -e 's/^== \(.*\)-asm$$/$$ t3 asm \1.t3s \1.t3/p' -e 's/^== \(.*\)-run$$/$$ t3 run \1.t3/p' \
 		-e '/^ok bytes=/p' -e '/^[0-9]*$$/p' build/demo.out
 
 examples/answer.t3: examples/make.sh

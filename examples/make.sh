@@ -1,6 +1,6 @@
 #!/bin/sh
 # Makes the sample images: one with a block that is kept as bytes, one that is refused, a story that
-# says 42, and one with a block of every kind. The stories in sources, *.t3s, are for `t3 asm`.
+# says 42, and one with a block of every kind. The stories in sources, *.t3s, are for `t3 asm`, which made counter.t3.
 set -eu
 cd "$(dirname "$0")"
 

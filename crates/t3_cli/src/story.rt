@@ -2,7 +2,8 @@
 ghost use Rattle.std.specs.Prelude.{◌≡◌, ◌≢◌, ◌⊎◌, ◌<◌, ◌-◌, ◌^◌, Option};
 ghost use Rattle.t3_io.specs.Files.{Files};
 ghost use Rattle.t3_io.specs.Cause.{MovesFaults};
-ghost use Rattle.t3_cli.specs.Outcome.{IsRunOutcome, fingerprint_of, status_of as status_by};
+ghost use Rattle.t3_load.specs.Loading.{Loads};
+ghost use Rattle.t3_cli.specs.Outcome.{IsRunOutcome, fingerprint_of, run_limits, status_of as status_by};
 ghost use Rattle.t3_cli.specs.Lines.{closing_text, load_line};
 ghost use Rattle.t3_cli.specs.Command.{options_value};
 ghost use Rattle.t3_cli.specs.Inner.Showing.{ShowsOrWants};
@@ -31,24 +32,31 @@ const LIMITS: StoreLimits = StoreLimits {
 /// Runs an image, and shows what it says and how it ends.
 pub(crate) fn launch<C: Console>(
     alloc: Global,
-    image: &Image,
+    image: Image,
     fingerprint: [u8; 32],
     options: RunOptions,
     console: &mut C,
 ) -> Status
-    requires fingerprint { fingerprint ≡ fingerprint_of image.now }
+    requires fingerprint { fingerprint ≡ fingerprint_of image }
     requires faults { C.faults console.old < 2 ^ 64 - 1 }
     ensures follows { (files : Option Files) → FollowsSome
-        (IsRunOutcome image.now (options_value options)) files files (C.session console.old)
+        (IsRunOutcome image (options_value options)) files files (C.session console.old)
         (C.session console.new) result }
     ensures fault { result ≡ Status.ConsoleFault → C.faults console.old < C.faults console.new }
     ensures rise { (result ≡ Status.ConsoleFault) ⊎ (C.faults console.new ≡ C.faults console.old) }
     ensures no_depot { result ≢ Status.DepotFault }
 {
-    match load(alloc, image, fingerprint, LIMITS) {
+    match program_of(alloc, image, fingerprint) {
         Ok(program) => play(alloc, program, options.steps, console),
         Err(why) => unloaded(alloc, why, console),
     }
+}
+
+/// The program of an image, which isn't kept while it runs.
+fn program_of(alloc: Global, image: Image, fingerprint: [u8; 32]) -> Result<Program, LoadRefusal>
+    ensures { Loads image.blocks fingerprint run_limits result }
+{
+    load(alloc, &image, fingerprint, LIMITS)
 }
 
 /// Shows why no program was made, unless that was for want of memory.

@@ -133,7 +133,7 @@ fn act<D: Depot, C: Console>(
             Command::Check { .. } => answer(console, check_line(alloc, &image), Status::Done),
             Command::Show { .. } => answer(console, image_lines(alloc, &image), Status::Done),
             Command::Run { options, .. } => {
-                launch(alloc, &image, hasher.finalize(), options, console)
+                launch(alloc, image, hasher.finalize(), options, console)
             }
             Command::Rewrite { out, mask, .. } => rewrite(alloc, image, out, mask, depot, console),
             Command::Asm { out, .. } => rewrite(alloc, image, out, None, depot, console),

@@ -10,11 +10,11 @@ use Rattle.t3_cli.proofs.story.launch.Goals as goal
 pub returns-in-Ok-clause-follows : goal.returns-in-Ok-clause-follows
 returns-in-Ok-clause-follows g c files =
     let known : ◌≢◌ {A = Result ProgramValue LoadRefusal} (Ok c.in-Ok.program) (Err NoMemory) = λ same. absurd cc in
-    let loads = subst (λ (f : List ℕ). Loads c.args.image.now.blocks f run_limits (Ok c.in-Ok.program)) c.requires.fingerprint c.in-Ok.ensures in
-    image_follows c.args.image.now c.in-Ok.program (options_value c.args.options) files _ _ c.play.result (known, loads)
+    let loads = subst (λ (f : List ℕ). Loads c.args.image.blocks f run_limits (Ok c.in-Ok.program)) c.requires.fingerprint c.in-Ok.ensures in
+    image_follows c.args.image c.in-Ok.program (options_value c.args.options) files _ _ c.play.result (known, loads)
     (c.play.ensures.follows files)
 
 pub returns-in-Err-clause-follows : goal.returns-in-Err-clause-follows
 returns-in-Err-clause-follows g c files =
-    unloaded_follows c.args.image.now c.in-Err.why (options_value c.args.options) files _ _ c.unloaded.result c.in-Err.ensures
+    unloaded_follows c.args.image c.in-Err.why (options_value c.args.options) files _ _ c.unloaded.result c.in-Err.ensures
     c.unloaded.ensures.wants c.unloaded.ensures.shown
