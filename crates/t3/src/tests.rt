@@ -2,10 +2,12 @@
 mod assemble;
 mod builder;
 mod check;
+mod creation;
 mod devices;
 mod instructions;
 mod jumps;
 mod numbers;
+mod objects;
 mod rewrite;
 mod run;
 mod show;

@@ -111,6 +111,39 @@ pub(crate) fn first_unlike(alloc: Global, locals: u8, rows: &[Row]) -> Result<Op
     Ok(None)
 }
 
+/// What stands before the objects of a source: the entry, a page of code of at most 256 bytes, metaclasses of
+/// which the first is that of tads-objects, and the function set for input and output.
+const BEFORE_OBJECTS: &str =
+    "image / block \"ENTP\" 1 / entry @main 10 10 0 0 0 0 - / block \"CPDF\" 1 / pool 1 1 256 / \
+                      block \"MCLD\" 1 / metaclass \"tads-object/030005\" 2 - / metaclass \"root-object\" 2 - / \
+                      metaclass \"collection\" 2 - / metaclass \"string\" 2 - / \
+                      block \"FNSD\" 1 / function-set \"tads-io/030007\"";
+
+/// What a method of one local and this body shows, in an image with these blocks of objects and symbols.
+pub(crate) fn shown_beside(alloc: Global, blocks: &str, body: &str) -> Result<Vec<u8>, Fail> {
+    let source = format!(in alloc;
+        "{BEFORE_OBJECTS} / {blocks} / block \"CPPG\" 1 / page 1 0 0 / main: / method 0 1 4 0 / {body} / end 0"
+    )?;
+    let (_, image) = written(alloc, "asm", &lines(alloc, &source)?)?;
+    let (_, shown) = outcome(alloc, &["run", "a.t3"], Some(&image))?;
+    Ok(shown)
+}
+
+/// The number of the first row whose body doesn't show what it says beside these blocks.
+pub(crate) fn first_unlike_beside(
+    alloc: Global,
+    blocks: &str,
+    rows: &[Row],
+) -> Result<Option<usize>, Fail> {
+    for (index, (body, want)) in rows.iter().enumerate() {
+        let shown = shown_beside(alloc, blocks, body)?;
+        if shown.as_slice() != want.as_bytes() {
+            return Ok(Some(index));
+        }
+    }
+    Ok(None)
+}
+
 /// The lines that are parted by ` / `, each ended by a newline.
 pub(crate) fn lines(alloc: Global, parted: &str) -> Result<Vec<u8>, AllocError> {
     let mut text = Vec::new(alloc);

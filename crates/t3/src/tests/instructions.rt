@@ -28,8 +28,8 @@ const PUSHES_VALUES: [Row; 6] = [
         "pushpropid 3 / builtin_a 1 0",
         "[unhandled object=1 fault=3]\n",
     ),
-    // An object is not built yet.
-    ("pushobj 1 / retnil", "[bad code at=10 why=Unbuilt]\n"),
+    // A reference is pushed whether its object is there or not.
+    ("pushobj 1 / retnil", ""),
 ];
 
 #[test]
