@@ -21,6 +21,8 @@ mod event;
 mod exception;
 mod laws;
 mod machine;
+#[cfg(test)]
+mod machine_tests;
 mod methods;
 mod relation;
 mod running;
