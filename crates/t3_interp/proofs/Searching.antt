@@ -1,17 +1,17 @@
 -- The superclass order of an object in a store: that it is the one there is, what stands first in it, and how a search goes along it.
-use Rattle.std.proofs.Common.{◌≡◌, ℕ, zero, suc, ◌+◌, ◌<◌, ◌≤◌, ◌==◌, drop, slice_index_or, Vec, Result, Ok, Err, ◌⊎◌, inl, inr, ⊎_elim, Bool, true, false, eqb, List, [], ◌∷◌, ◌++◌, length, map, Option, Some, None, refl, sym, ap, subst, ◌∙◌, arith}
-use Rattle.std.specs.Prelude.{IsSome, IfOk, Contains, option_and_then, option_map}
-use Rattle.std.specs.List.{AllByRecursion, flat_map, list_any, position_from}
+use Rattle.std.proofs.Common.{◌≡◌, ℕ, zero, suc, ◌+◌, ◌<◌, ◌≤◌, ◌==◌, drop, slice_index_or, Vec, Result, Ok, Err, ◌⊎◌, inl, inr, ⊎_elim, Bool, true, false, eqb, List, [], ◌∷◌, ◌++◌, length, Option, Some, None, refl, sym, ap, subst, ◌∙◌, arith}
+use Rattle.std.specs.Prelude.{IfOk, Contains, option_and_then, option_map}
+use Rattle.std.specs.List.{flat_map, list_any, position_from}
 use Rattle.std.specs.FinMap.{keys, entries, len-entries}
 use Rattle.std.proofs.lemmas.List.{length-append, length-map, drop_more}
 use Rattle.t3_holder.specs.declared.holder.Holder.{Holder}
 use Rattle.t3_holder.specs.declared.no_memory.NoMemory.{NoMemory}
 use Rattle.t3_undo.specs.declared.cell.Cell.TheVariants.{Prop}
-use Rattle.t3_tadsobj.specs.Order.{SupersAt, list_from, preorder, last_places, IsSuperclass, IsAncestor, IsAcyclicFrom, IsPreorder, IsLinearOrder}
+use Rattle.t3_tadsobj.specs.Order.{SupersAt, list_from, preorder, last_places, IsSuperclass, IsAncestor, IsAcyclicFrom, IsLinearOrder}
 use Rattle.t3_tadsobj.proofs.OrderMembers.{Has, Has-cases, Has-either, Has-from_contains, last_places-new}
 use Rattle.t3_tadsobj.proofs.OrderDepth.{EndsWithin, ends, is_preorder, nearer, acyclic_above}
-use Rattle.t3_tadsobj.proofs.OrderChains.{one_order, order_step, order_missing, order_last, preorder_live, preorder_none}
-use Rattle.t3_store.specs.Value.{Value, Tads, Text, Items, Vector, Table, Objects, supers_of, holder_at, holder_in}
+use Rattle.t3_tadsobj.proofs.OrderChains.{one_order, order_step, order_missing, order_last}
+use Rattle.t3_store.specs.Value.{Value, Tads, Text, Items, Vector, Table, Objects, supers_of, holder_at}
 use Rattle.t3_store.specs.Store.{StoreValue, value_at, objects_in}
 use Rattle.t3_store.specs.Whole.{supers_of_live}
 use Rattle.t3_store.specs.Inner.Numbers.{has_number_in}

@@ -1,6 +1,6 @@
 -- How a property is found: in the superclass order of an object, or in the tables of methods that the image gives (the chapters on
 -- tads-objects and on metaclasses).
-use Rattle.std.specs.Prelude.{ℕ, ◌==◌, Bool, true, false, ◌||◌, nat_le, List, [], ◌∷◌, Option, Some, None, Result, Ok, Err, is_some, is_none, ◌&&◌, option_map, option_and_then, if◌then◌else◌}
+use Rattle.std.specs.Prelude.{ℕ, ◌==◌, Bool, true, false, ◌||◌, nat_le, List, [], ◌∷◌, Option, Some, None, Result, Ok, Err, is_some, is_none, ◌&&◌, option_map, if◌then◌else◌}
 use Rattle.std.specs.FinMap.{get}
 use Rattle.std.specs.List.{list_any, position_from}
 use Rattle.t3_holder.specs.declared.holder.Holder.{Holder}

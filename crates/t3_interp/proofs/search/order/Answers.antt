@@ -1,5 +1,3 @@
-use Rattle.t3_store.specs.Whole.{supers_of_live}
-use Rattle.t3_tadsobj.specs.Order.{IsLinearOrder}
 use Rattle.t3_interp.proofs.Searching.{ok_order}
 use Rattle.t3_interp.proofs.search.order.Goals as goal
 
