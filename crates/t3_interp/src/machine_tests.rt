@@ -1,4 +1,6 @@
 //! A machine that is stepped by its public calls, from a small image to its end.
+ghost use Rattle.std.specs.Prelude.{◌≤◌};
+
 use super::*;
 use std::alloc::Global;
 use std::test::Fail;
@@ -24,16 +26,28 @@ const LIMITS: StoreLimits = StoreLimits {
     savepoints: 1,
 };
 
-/// The program of that image.
-fn program(alloc: Global) -> Result<Program, Fail> {
+/// The entry, a page of code, and tads-objects as metaclass 0. The method makes two of them.
+const MAKES_TWO: &[u8] =
+    b"ENTP\x10\x00\x00\x00\x01\x00\x00\x00\x00\x00\x0A\x00\x0A\x00\x00\x00\x00\x00\x00\x00\x00\x00\
+                        CPDF\x0A\x00\x00\x00\x01\x00\x01\x00\x01\x00\x00\x00\x40\x00\x00\x00\
+                        MCLD\x14\x00\x00\x00\x01\x00\x01\x00\x12\x00\x0Btads-object\x00\x00\x02\x00\
+                        CPPG\x18\x00\x00\x00\x01\x00\x01\x00\x00\x00\x00\x00\x00\
+                        \x00\x00\x00\x00\x02\x00\x00\x00\x00\x00\xC0\x00\x00\xC0\x00\x00\x51\
+                        EOF \x00\x00\x00\x00\x00\x00";
+
+/// The program of an image of these blocks, with room for so many objects.
+fn program(alloc: Global, blocks: &[u8], objects: u32) -> Result<Program, Fail>
+    requires { objects ≤ 10 }
+{
     let mut bytes = Vec::new(alloc);
     bytes.extend_from_slice(b"T3-image\r\n\x1a\x01\x00")?;
     bytes.extend_from_slice(&[0; 56])?;
-    bytes.extend_from_slice(BLOCKS)?;
+    bytes.extend_from_slice(blocks)?;
     let mut reader = ImageReader::new(alloc);
     reader.feed(&bytes)?;
     let image = reader.finish()?;
-    Ok(load(alloc, &image, [7; 32], LIMITS)?)
+    let limits = StoreLimits { objects, ..LIMITS };
+    Ok(load(alloc, &image, [7; 32], limits)?)
 }
 
 /// The machine after a step, and what that did, or none where it wants no step or has made ten.
@@ -47,10 +61,9 @@ fn stepped(machine: Machine) -> Result<(Machine, Option<Event>), Fail> {
     }
 }
 
-#[test]
-fn says_a_number_and_ends_by_a_fault(rt: HostRuntime) -> Result<(), Fail> {
-    let alloc = rt.alloc();
-    let mut machine = Machine::start(alloc, program(alloc)?)?;
+/// What a run of at most ten steps said, how it ended, and the steps that it made.
+fn ran(alloc: Global, program: Program) -> Result<(Vec<u8>, Option<End>, u64), Fail> {
+    let mut machine = Machine::start(alloc, program)?;
     let mut said = Vec::new(alloc);
     let mut end = None;
     for _step in 0..10 {
@@ -62,6 +75,13 @@ fn says_a_number_and_ends_by_a_fault(rt: HostRuntime) -> Result<(), Fail> {
             _ => {}
         }
     }
+    Ok((said, end, machine.steps()))
+}
+
+#[test]
+fn says_a_number_and_ends_by_a_fault(rt: HostRuntime) -> Result<(), Fail> {
+    let alloc = rt.alloc();
+    let (said, end, steps) = ran(alloc, program(alloc, BLOCKS, 10)?)?;
     assert_eq!(rt; said.as_slice(), b"42".as_slice());
     // The fault's exception is the first object.
     let want = End::Unhandled {
@@ -70,7 +90,23 @@ fn says_a_number_and_ends_by_a_fault(rt: HostRuntime) -> Result<(), Fail> {
     };
     assert_eq!(rt; end, Some(want));
     // The entry's call and five instructions.
-    assert_eq!(rt; machine.steps(), 6);
-    assert_eq!(rt; machine.wants(), Want::Nothing);
+    assert_eq!(rt; steps, 6);
+    Ok(())
+}
+
+#[test]
+fn a_store_without_room_ends_the_run(rt: HostRuntime) -> Result<(), Fail> {
+    let alloc = rt.alloc();
+    // The exception finds no room.
+    let (_, end, steps) = ran(alloc, program(alloc, BLOCKS, 0)?)?;
+    assert_eq!(rt; end, Some(End::StoreFull));
+    assert_eq!(rt; steps, 6);
+    // The second object finds none, and both do.
+    let (_, end, steps) = ran(alloc, program(alloc, MAKES_TWO, 1)?)?;
+    assert_eq!(rt; end, Some(End::StoreFull));
+    assert_eq!(rt; steps, 3);
+    let (_, end, steps) = ran(alloc, program(alloc, MAKES_TWO, 2)?)?;
+    assert_eq!(rt; end, Some(End::Returned));
+    assert_eq!(rt; steps, 4);
     Ok(())
 }
