@@ -97,8 +97,11 @@ impl Machine {
     {
         let Input::Go = input;
         let whole = &mut *self.whole;
-        let event = whole.running.step(whole.alloc, &whole.program)?;
-        Ok((self, event))
+        match whole.running.step(whole.alloc, &whole.program)? {
+            // Nearly all steps say nothing: then no text is moved.
+            Event::Went => Ok((self, Event::Went)),
+            event => Ok((self, event)),
+        }
     }
 }
 

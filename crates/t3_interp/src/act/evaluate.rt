@@ -17,7 +17,6 @@ use t3_ops::Fault;
 use t3_store::Kind;
 
 /// Evaluates a property of a value, with so many operands as arguments.
-#[inline(always)]
 pub(super) fn evaluate(
     alloc: Global,
     program: &Program,
@@ -38,7 +37,6 @@ pub(super) fn evaluate(
 }
 
 /// Of the topmost operand, which goes.
-#[inline(always)]
 pub(super) fn evaluate_popped(
     alloc: Global,
     program: &Program,

@@ -15,7 +15,7 @@ use t3_store::{Kind, StoreRefusal};
 use t3_undo::Cell;
 
 /// Sets a property of the topmost operand to the next one.
-#[inline(always)]
+#[inline(never)]
 pub(super) fn set_of_popped(core: &mut Core, property: u16) -> Result<Effect, NoMemory>
     requires { core.old.store.writes < 2 ^ 63 }
     ensures { IfOk result
@@ -28,6 +28,7 @@ pub(super) fn set_of_popped(core: &mut Core, property: u16) -> Result<Effect, No
 }
 
 /// Sets the property that is the topmost operand, of the next one, to the one behind it.
+#[inline(never)]
 pub(super) fn set_by_pointer(core: &mut Core) -> Result<Effect, NoMemory>
     requires { core.old.store.writes < 2 ^ 63 }
     ensures { IfOk result (λ effect. HasAction (pops (by_property (λ p. pops (sets_popped p))))
@@ -41,7 +42,7 @@ pub(super) fn set_by_pointer(core: &mut Core) -> Result<Effect, NoMemory>
 }
 
 /// Sets a property of an object to the topmost operand.
-#[inline(always)]
+#[inline(never)]
 pub(super) fn set_popped(core: &mut Core, property: u16, object: Holder) -> Result<Effect, NoMemory>
     requires { core.old.store.writes < 2 ^ 63 }
     ensures { IfOk result
