@@ -91,7 +91,6 @@ fn make_tads(alloc: Global, supers: Numbers, class: bool, props: &Props) -> Resu
         left -= 1;
         object.set(items[left].number, items[left].value)?;
     }
-    object.trim()?;
     Ok(Object::Tads(object))
 }
 

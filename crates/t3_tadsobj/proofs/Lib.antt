@@ -1,4 +1,6 @@
 pub mod PropLists
+pub mod EntryLists
+pub mod PropRows
 pub mod OrderMembers
 pub mod OrderDepth
 pub mod OrderClosed

@@ -1,5 +1,5 @@
 -- What only private functions cite.
-pub mod Ordered
+pub mod Entries
 pub mod Visits
 pub mod Rising
 pub mod RisingLaw

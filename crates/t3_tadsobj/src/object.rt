@@ -1,48 +1,47 @@
-ghost use Rattle.std.specs.Prelude.{◌≡◌, false, [], map, IsTrue, IsSome, IfOk, OnOk, OnErr};
+ghost use Rattle.std.specs.Prelude.{◌≡◌, false, [], map, filter, is_some, option_map, IsTrue, IsSome, IfOk, OnOk, OnErr, MatchOption};
 ghost use Rattle.std.specs.FinMap.{get, entries};
 ghost use Rattle.std.specs.List.Sorted.{IsStrictlyIncreasing};
 ghost use Rattle.std.specs.FinSet as set;
+ghost use Rattle.std.specs.BTreeMap as tree;
+ghost use Rattle.std.specs.Ordering.{nat_cmp};
 ghost use Rattle.t3_undo.specs.Content.{shown, is_form, places_for};
 ghost use Rattle.t3_undo.specs.Objects.{set_at};
-ghost use Rattle.t3_undo.specs.Slots.{parts_of};
 ghost use Rattle.t3_tadsobj.specs.Object.{bare, is_prop, props_of};
-ghost use Rattle.t3_tadsobj.specs.Inner.Ordered.{with_prop, listed};
-ghost use Rattle.std.specs.BTreeMap.{IsOrdered};
-ghost use Rattle.std.specs.Ordering.{nat_cmp};
+ghost use Rattle.t3_tadsobj.specs.Inner.Entries.{content_of, content_at, listed};
 
 use crate::props::{PropValue, Props};
 use std::alloc::Global;
 use std::collections::BTreeMap;
 use std::marker::Model;
+use std::mem;
 use t3_holder::{Holder, NoMemory};
-use t3_undo::{Cell, Content, Metaclass, Numbers, Slots};
+use t3_undo::{Cell, Content, Metaclass, Numbers};
+
+/// The properties that have a place, by their numbers, each with its value if it is present.
+type Entries = BTreeMap<u16, Option<Holder>>;
 
 /// An object of the TADS language: superclasses, whether it is a class, and properties.
 #[derive(Drop)]
 pub struct TadsObject {
-    slots: Slots,
+    props: Entries,
     supers: Numbers,
     class: bool,
 }
 
 impl Model for TadsObject {
     ghost use Rattle.t3_tadsobj.specs.Object.{Tads, coded_tads};
-    ghost use Rattle.t3_undo.specs.Slots.{parts_of, places_of};
+    ghost use Rattle.t3_tadsobj.specs.Inner.Entries.{parts_in, places_in};
 
     ghost Value = { Tads };
 
     ghost coded = { coded_tads };
 
     ghost view = { λ o. record {
-      parts = parts_of o.slots;
-      places = places_of o.slots;
+      parts = parts_in o.props.entries;
+      places = places_in o.props.entries;
       supers = o.supers;
       class = o.class;
     } };
-
-    ghost use Rattle.t3_tadsobj.specs.Object.{HasOnlyProps};
-
-    ghost invariant = { λ o. HasOnlyProps (places_of o.slots) };
 }
 
 impl TadsObject {
@@ -58,7 +57,7 @@ impl TadsObject {
         ensures { result ≡ bare supers class }
     {
         TadsObject {
-            slots: Slots::new(alloc),
+            props: BTreeMap::new(alloc),
             supers,
             class,
         }
@@ -68,10 +67,10 @@ impl TadsObject {
     pub fn copy(&self, alloc: Global) -> Result<TadsObject, NoMemory>
         ensures { IfOk result (λ copy. copy ≡ record self.now { places = places_for self.now.parts }) }
     {
-        let slots = self.slots.copy(alloc)?;
+        let props = present(&self.props)?;
         let supers = Vec::from_slice(alloc, self.supers())?;
         Ok(TadsObject {
-            slots,
+            props,
             supers: Numbers(supers),
             class: self.class,
         })
@@ -85,16 +84,8 @@ impl TadsObject {
         }) }
         ensures err { OnErr result (self.new ≡ self.old) }
     {
-        self.slots.set(Cell::Prop(number), Content::Held(value))?;
+        self.props.insert(number, Some(value))?;
         Ok(())
-    }
-
-    /// Moves the properties to memory that fits them better: making places takes memory for nine at once. After want of
-    /// memory they are where they were.
-    pub fn trim(&mut self) -> Result<(), NoMemory>
-        ensures { self.new ≡ self.old }
-    {
-        self.slots.trim()
     }
 
     /// The present properties with their values, by rising number.
@@ -103,8 +94,7 @@ impl TadsObject {
             ≡ entries (props_of self.now.parts)) }
         ensures rising { IfOk result (λ props. IsStrictlyIncreasing (map (λ prop. prop.number) props)) }
     {
-        let ordered = ordered_props(alloc, &self.slots)?;
-        let props = listed(alloc, &ordered)?;
+        let props = listed(alloc, &self.props)?;
         Ok(Props(props))
     }
 
@@ -140,7 +130,10 @@ impl Metaclass for TadsObject {
             → IsTrue (is_form cell.now (shown result)) }
         ensures only_props { IsSome (shown result) → IsTrue (is_prop cell.now) }
     {
-        self.slots.get(cell)
+        match prop_number(cell) {
+            Some(number) => content_at(&self.props, number),
+            None => Content::Absent,
+        }
     }
 
     fn put(&mut self, cell: &Cell, content: Content) -> Content
@@ -151,7 +144,11 @@ impl Metaclass for TadsObject {
         ensures formed { IsTrue (is_form cell.now (shown result)) }
         ensures only_props { IsTrue (is_prop cell.now) }
     {
-        self.slots.put(cell, content)
+        match prop_number(cell) {
+            Some(number) => content_of(exchange(&mut self.props, number, content.value())),
+            // Only properties have a place.
+            None => content,
+        }
     }
 
     fn make_place(&mut self, cell: Cell) -> Result<(), NoMemory>
@@ -159,52 +156,91 @@ impl Metaclass for TadsObject {
         ensures ok { OnOk result (self.new ≡ record self.old { places = set.insert self.old.places cell }) }
         ensures err { OnErr result (self.new ≡ self.old) }
     {
-        self.slots.make_place(cell)?;
+        let Some(number) = prop_number(&cell) else {
+            return Ok(());
+        };
+        if self.props.contains_key(&number) {
+            return Ok(());
+        }
+        self.props.insert(number, None)?;
         Ok(())
     }
 
     fn places(&self) -> u64 {
-        self.slots.places()
+        self.props.len() as u64
     }
 }
 
-/// The properties among slots, ordered by their numbers.
-fn ordered_props(alloc: Global, slots: &Slots) -> Result<BTreeMap<u16, Holder>, NoMemory>
-    ensures { IfOk result (λ ordered. ordered.entries ≡ entries (props_of (parts_of slots.now))) }
+/// The number of a cell that is a property.
+fn prop_number(cell: &Cell) -> Option<u16>
+    ensures { MatchOption result (is_prop cell.now ≡ false) (λ number. cell.now ≡ Cell.Prop number) }
 {
-    let mut ordered = BTreeMap::new(alloc);
-    for index in 0..slots.places() as usize {
-        let (cell, content) = slots.slot(index).unwrap();
-        add_prop(&mut ordered, cell, content)?;
+    match cell {
+        Cell::Prop(number) => Some(*number),
+        Cell::Elem(_) | Cell::Key(_) | Cell::Default => None,
     }
-    Ok(ordered)
 }
 
-/// Adds what stands in a slot, if it is a property that is present.
-fn add_prop(
-    ordered: &mut BTreeMap<u16, Holder>,
-    cell: &Cell,
-    content: &Content,
-) -> Result<(), NoMemory>
-    ensures { OnOk result (ordered.new.entries
-        ≡ with_prop cell.now (shown content.now) ordered.old.entries) }
+/// A value as the content of a property.
+fn content_of(value: Option<Holder>) -> Content
+    ensures { result ≡ content_of value }
 {
-    if let Cell::Prop(number) = cell {
-        if let Some(value) = content.value() {
-            ordered.insert(*number, value)?;
-        }
+    match value {
+        Some(value) => Content::Held(value),
+        None => Content::Absent,
     }
-    Ok(())
 }
 
-/// The properties in the order of their numbers.
-fn listed(alloc: Global, ordered: &BTreeMap<u16, Holder>) -> Result<Vec<PropValue>, NoMemory>
-    ensures listed { IfOk result (λ props. props.items ≡ listed ordered.now.entries) }
-    ensures rising { IsOrdered nat_cmp ordered.now }
+/// What stands under a number.
+fn content_at(entries: &Entries, number: u16) -> Content
+    ensures { result ≡ content_at (tree.get nat_cmp entries.now number) }
 {
-    let props = ordered.iter().map(|(number, value)| PropValue {
-        number: *number,
-        value: *value,
-    });
+    match entries.get(&number) {
+        Some(value) => content_of(*value),
+        None => Content::Absent,
+    }
+}
+
+/// Puts another value under a number that is there, and hands out what stood there.
+fn exchange(entries: &mut Entries, number: u16, value: Option<Holder>) -> Option<Holder>
+    requires { IsSome (tree.get nat_cmp entries.old number) }
+    ensures updates { tree.Updates nat_cmp entries.old entries.new number (Some value) }
+    ensures old { tree.get nat_cmp entries.old number ≡ Some result }
+{
+    match entries.get_mut(&number) {
+        Some(place) => mem::replace(place, value),
+        None => value,
+    }
+}
+
+/// The entries that are present.
+fn present(entries: &Entries) -> Result<Entries, NoMemory>
+    ensures present { IfOk result (λ copy. copy.entries
+        ≡ filter (λ e. is_some e.1) entries.now.entries) }
+    ensures ordered { IfOk result (λ _. tree.IsOrdered nat_cmp entries.now) }
+{
+    let mut copy = entries.clone()?;
+    copy.retain(|_, value| value.is_some());
+    Ok(copy)
+}
+
+/// The properties that are present, in the order of their numbers.
+fn listed(alloc: Global, entries: &Entries) -> Result<Vec<PropValue>, NoMemory>
+    ensures listed { IfOk result (λ props. props.items ≡ listed entries.now.entries) }
+    ensures ordered { tree.IsOrdered nat_cmp entries.now }
+{
+    let props = entries
+        .iter()
+        .filter_map(|(number, value)| prop_value(*number, *value));
     Ok(props.collect(alloc)?)
+}
+
+/// A property that is present, with its value.
+fn prop_value(number: u16, value: Option<Holder>) -> Option<PropValue>
+    ensures { result ≡ option_map (λ value. record { number = number; value = value }) value }
+{
+    match value {
+        Some(value) => Some(PropValue { number, value }),
+        None => None,
+    }
 }

@@ -4,11 +4,10 @@ use std::test::Fail;
 use t3_holder::{Holder, NoMemory};
 use t3_undo::{Cell, Content, Metaclass, Numbers};
 
-/// Sets a property to a number.
-fn set(object: &mut TadsObject, number: u16, value: i32) -> Result<(), NoMemory> {
+/// Sets a property to a number, and hands out what stood there.
+fn set(object: &mut TadsObject, number: u16, value: i32) -> Result<Content, NoMemory> {
     object.make_place(Cell::Prop(number))?;
-    let _old = object.put(&Cell::Prop(number), Content::Held(Holder::Int(value)));
-    Ok(())
+    Ok(object.put(&Cell::Prop(number), Content::Held(Holder::Int(value))))
 }
 
 #[test]
@@ -55,14 +54,16 @@ fn a_copy_has_no_place_for_an_absent_cell(rt: HostRuntime) -> Result<(), Fail> {
 }
 
 #[test]
-fn a_trimmed_object_keeps_its_properties_and_takes_more(rt: HostRuntime) -> Result<(), Fail> {
+fn a_property_that_is_set_has_a_place(rt: HostRuntime) -> Result<(), Fail> {
     let alloc = rt.alloc();
     let mut object = TadsObject::new(alloc);
-    set(&mut object, 1, 10)?;
-    object.trim()?;
+    object.set(1, Holder::Int(10))?;
     object.set(2, Holder::Int(20))?;
-    assert_eq!(rt; object.places(), 2);
-    assert_eq!(rt; object.get(&Cell::Prop(1)), Content::Held(Holder::Int(10)));
+    object.set(1, Holder::True)?;
+    object.make_place(Cell::Prop(3))?;
+    assert_eq!(rt; object.places(), 3);
     assert_eq!(rt; object.get(&Cell::Prop(2)), Content::Held(Holder::Int(20)));
+    assert_eq!(rt; set(&mut object, 1, 30)?, Content::Held(Holder::True));
+    assert_eq!(rt; object.copy(alloc)?.places(), 2, "the third is absent");
     Ok(())
 }

@@ -1,6 +1,5 @@
 pub mod Maps
 pub mod SlotLists
-mod SlotSets
 pub mod PuttingBack
 pub mod AnyOrder
 pub mod Undoing

@@ -4,7 +4,7 @@ ghost use Rattle.std.specs.Ordering.{eq_by_cmp};
 ghost use Rattle.t3_undo.specs.Cell.{cell_cmp, cell_cmp_total, cell_input, cell_input-respects};
 
 use crate::key::Key;
-use std::alloc::{AllocError, Global};
+use std::alloc::Global;
 use std::cmp::{Eq, PartialEq};
 use std::hash::{Hash, Hasher};
 use t3_holder::NoMemory;
@@ -30,21 +30,6 @@ impl Cell {
             Cell::Prop(number) => Ok(Cell::Prop(*number)),
             Cell::Elem(number) => Ok(Cell::Elem(*number)),
             Cell::Key(key) => Ok(Cell::Key(key.copy(alloc)?)),
-            Cell::Default => Ok(Cell::Default),
-        }
-    }
-}
-
-impl Clone for Cell {
-    ghost use Rattle.std.specs.Prelude.{◌≡◌};
-
-    ghost is_clone = { λ cell clone. clone ≡ cell };
-
-    fn clone(&self) -> Result<Cell, AllocError> {
-        match self {
-            Cell::Prop(prop) => Ok(Cell::Prop(*prop)),
-            Cell::Elem(element) => Ok(Cell::Elem(*element)),
-            Cell::Key(key) => Ok(Cell::Key(key.clone()?)),
             Cell::Default => Ok(Cell::Default),
         }
     }

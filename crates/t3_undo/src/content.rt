@@ -1,7 +1,6 @@
 ghost use Rattle.std.specs.Prelude.{◌≡◌, is_some, option_map};
 ghost use Rattle.t3_undo.specs.Content.{shown};
 
-use std::alloc::AllocError;
 use t3_holder::Holder;
 
 /// What stands in a cell of an object.
@@ -31,14 +30,6 @@ impl Content {
             Content::Absent => None,
             Content::Held(value) | Content::Slot(_, value) => Some(*value),
         }
-    }
-}
-
-impl Clone for Content {
-    ghost is_clone = { λ content clone. clone ≡ content };
-
-    fn clone(&self) -> Result<Content, AllocError> {
-        Ok(like(self))
     }
 }
 

@@ -3,7 +3,7 @@ ghost use Rattle.std.specs.Cmp.{partial_equiv_from_equiv, eq_by_cmp_equiv};
 ghost use Rattle.std.specs.Ordering.{eq_by_cmp};
 ghost use Rattle.t3_undo.specs.Key.{key_cmp, key_cmp_total, key_input, key_input-respects};
 
-use std::alloc::{AllocError, Global};
+use std::alloc::Global;
 use std::cmp::{Eq, PartialEq};
 use std::hash::{Hash, Hasher};
 use t3_holder::{Bytes, NoMemory};
@@ -40,28 +40,6 @@ impl Key {
             Key::Obj(number) => Ok(Key::Obj(*number)),
             Key::Text(bytes) => {
                 let copy = Vec::from_slice(alloc, bytes.0.as_slice())?;
-                Ok(Key::Text(Bytes(copy)))
-            }
-        }
-    }
-}
-
-impl Clone for Key {
-    ghost use Rattle.std.specs.Prelude.{◌≡◌};
-
-    ghost is_clone = { λ key clone. clone ≡ key };
-
-    fn clone(&self) -> Result<Key, AllocError> {
-        match self {
-            Key::Nil => Ok(Key::Nil),
-            Key::True => Ok(Key::True),
-            Key::Int(number) => Ok(Key::Int(*number)),
-            Key::Enum(number) => Ok(Key::Enum(*number)),
-            Key::Prop(number) => Ok(Key::Prop(*number)),
-            Key::Func(address) => Ok(Key::Func(*address)),
-            Key::Obj(number) => Ok(Key::Obj(*number)),
-            Key::Text(bytes) => {
-                let copy = Vec::from_slice(*bytes.0.allocator(), bytes.0.as_slice())?;
                 Ok(Key::Text(Bytes(copy)))
             }
         }

@@ -109,17 +109,6 @@ impl Slots {
         Ok(())
     }
 
-    /// Sets the cell, which has a place then.
-    pub fn set(&mut self, cell: Cell, content: Content) -> Result<(), NoMemory>
-        requires { IsTrue (is_form cell (shown content)) }
-        ensures parts { OnOk result (parts_of self.new ≡ set_at (parts_of self.old) cell (shown content)) }
-        ensures places { OnOk result (places_of self.new ≡ set.insert (places_of self.old) cell) }
-        ensures err { OnErr result (self.new ≡ self.old) }
-    {
-        self.cells.insert(cell, content)?;
-        Ok(())
-    }
-
     /// A slot for a cell that has none.
     pub fn add(&mut self, cell: Cell, content: Content) -> Result<(), NoMemory>
         requires new { list_any (eq_by_cmp cell_cmp cell) (keys_of self.old) ≡ false }
@@ -128,15 +117,6 @@ impl Slots {
         ensures err { OnErr result (self.new ≡ self.old) }
     {
         self.cells.insert(cell, content)?;
-        Ok(())
-    }
-
-    /// Moves the slots to memory that fits them better: making slots takes memory for nine at once. After want of memory
-    /// they are where they were.
-    pub fn trim(&mut self) -> Result<(), NoMemory>
-        ensures { self.new ≡ self.old }
-    {
-        self.cells = self.cells.clone()?;
         Ok(())
     }
 

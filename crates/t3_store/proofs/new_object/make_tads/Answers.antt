@@ -28,6 +28,3 @@ loop-left-init c = made-none c.of-object.result c.args.supers c.args.class c.ite
 pub loop-left-preserved : goal.loop-left-preserved
 loop-left-preserved c =
     made-more _ _ _ _ _ c.loop-left.left _ c.loop-left.invariant c.loop-left-test.true (with_prop _ _ _ _ c.in_ok-set.ensures.ok)
-
-pub returns-clause-valid : goal.returns-clause-valid
-returns-clause-valid c = subst (λ (o : Tads). AreProps o.parts) (sym c.trim.ensures) c.loop-left.invariant.props
