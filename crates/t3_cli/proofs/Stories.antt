@@ -6,15 +6,16 @@ use Rattle.t3_io.specs.declared.refusal.DeviceRefusal.{DeviceRefusal}
 use Rattle.t3_interp.specs.declared.event.Event.{Event}
 use Rattle.t3_interp.specs.declared.event.Event.TheVariants.{Went, Said, Ended}
 use Rattle.t3_interp.specs.declared.event.End.{End}
+use Rattle.t3_interp.specs.declared.event.Want.TheVariants.{Go}
 use Rattle.t3_cli.specs.Lines.{is_nonempty}
 use Rattle.t3_load.specs.Loading.{ProgramValue}
 use Rattle.t3_interp.specs.Machine.{State, initial}
-use Rattle.t3_interp.specs.Step.{Steps}
+use Rattle.t3_interp.specs.Step.{Goes}
 use Rattle.t3_interp.specs.Run.{Ran, Runs, preceded_by}
 use Rattle.t3_cli.specs.Top.{ShowsMore}
 use Rattle.t3_cli.specs.Inner.Showing.{ShowsPrefixOf}
 use Rattle.t3_cli.specs.Inner.Playing.{HasCome, HasPlayed, HasBegun, PlaysOn}
-use Rattle.t3_interp.proofs.Runs.{no_step_left, step_and, some_run, preceded_by-preceded_by, wants_on}
+use Rattle.t3_interp.proofs.Runs.{no_step_left, go_and, some_run, preceded_by-preceded_by, wants_gone}
 use Rattle.t3_cli.proofs.Shown.{shows_after, shows_nothing}
 
 -- ---- what is said
@@ -23,17 +24,17 @@ nonempty-append : (said text : List ℕ) → is_nonempty (said ++ text) ≡ (is_
 nonempty-append [] text = refl
 nonempty-append (c ∷ said) text = refl
 
--- ---- one step more
+-- ---- some steps more
 
-goes_on_by : (program : ProgramValue) (steps left next : ℕ) (state then : State) (before mid after : Option Session) (has_said now : Bool) (text : List ℕ)
-    → left ≡ suc next → HasCome program steps left state before mid has_said
-    → ((rest : Ran) → Runs program next then rest → Runs program (suc next) state (preceded_by text rest))
+goes_on_by : (program : ProgramValue) (steps left made next : ℕ) (state then : State) (before mid after : Option Session) (has_said now : Bool) (text : List ℕ)
+    → left ≡ made + next → HasCome program steps left state before mid has_said
+    → ((rest : Ran) → Runs program next then rest → Runs program (made + next) state (preceded_by text rest))
     → ((said : List ℕ) → ShowsMore before mid said → ShowsMore before after (said ++ text)) → now ≡ (has_said || is_nonempty text)
-    → then.steps ≡ state.steps + 1 → HasCome program steps next then before after now
-goes_on_by program steps left next state then before mid after has_said now text is come step shows has more =
+    → then.steps ≡ state.steps + made → HasCome program steps next then before after now
+goes_on_by program steps left made next state then before mid after has_said now text is come step shows has more =
     let P : Ran → Type 0 = Runs program steps (initial program) in
     record {
-      made = let made = come.made in omega (arith, is, made, more);
+      made = let come_by = come.made in omega (arith, is, come_by, more);
       said = come.said ++ text;
       shows = shows come.said come.shows;
       has = has ∙ ap (λ h. h || is_nonempty text) come.has ∙ sym (nonempty-append come.said text);
@@ -49,33 +50,34 @@ or_nothing : (b : Bool) → b ≡ (b || is_nonempty [])
 or_nothing true = refl
 or_nothing false = refl
 
-pub come_went : (program : ProgramValue) (steps left next : ℕ) (state then : State) (before mid : Option Session) (has_said : Bool)
-    → left ≡ suc next
-    → HasCome program steps left state before mid has_said → Steps program state (record { state = then; event = Went })
+pub come_went : (program : ProgramValue) (steps left made next : ℕ) (state then : State) (before mid : Option Session) (has_said : Bool)
+    → left ≡ made + next → state.wants ≡ Go
+    → HasCome program steps left state before mid has_said → Goes program made state (record { state = then; event = Went })
     → HasCome program steps next then before mid has_said
-come_went program steps left next state then before mid has_said is come takes =
-    goes_on_by program steps left next state then before mid mid has_said has_said [] is come
-    (λ rest runs. step_and program next state then Went rest takes runs) (nothing_more before mid) (or_nothing has_said)
-    (wants_on program state (record { state = then; event = Went }) takes).0
+come_went program steps left made next state then before mid has_said is wants come goes =
+    goes_on_by program steps left made next state then before mid mid has_said has_said [] is come
+    (λ rest runs. go_and program made next state then Went rest goes runs) (nothing_more before mid) (or_nothing has_said)
+    (wants_gone program made state (record { state = then; event = Went }) wants goes).0
 
-pub come_said : (program : ProgramValue) (steps left next : ℕ) (state then : State) (before mid after : Option Session) (has_said now : Bool) (text : List ℕ)
-    → left ≡ suc next → HasCome program steps left state before mid has_said → Steps program state (record { state = then; event = Said text })
+pub come_said : (program : ProgramValue) (steps left made next : ℕ) (state then : State) (before mid after : Option Session) (has_said now : Bool) (text : List ℕ)
+    → left ≡ made + next → state.wants ≡ Go → HasCome program steps left state before mid has_said
+    → Goes program made state (record { state = then; event = Said text })
     → ShowsMore mid after text
     → now ≡ (has_said || is_nonempty text) → HasCome program steps next then before after now
-come_said program steps left next state then before mid after has_said now text is come takes shows has =
-    goes_on_by program steps left next state then before mid after has_said now text is come
-    (λ rest runs. step_and program next state then (Said text) (preceded_by text rest) takes (rest, runs, refl))
+come_said program steps left made next state then before mid after has_said now text is wants come goes shows has =
+    goes_on_by program steps left made next state then before mid after has_said now text is come
+    (λ rest runs. go_and program made next state then (Said text) (preceded_by text rest) goes (rest, runs, refl))
     (λ said shown. shows_after before mid after said text shown shows) has
-    (wants_on program state (record { state = then; event = Said text }) takes).0
+    (wants_gone program made state (record { state = then; event = Said text }) wants goes).0
 
 -- showing what a step said failed
-pub come_cut : (program : ProgramValue) (steps left next : ℕ) (state then : State) (before mid after : Option Session) (has_said : Bool) (text : List ℕ)
-    → left ≡ suc next → HasCome program steps left state before mid has_said → Steps program state (record { state = then; event = Said text })
+pub come_cut : (program : ProgramValue) (steps left made next : ℕ) (state then : State) (before mid after : Option Session) (has_said : Bool) (text : List ℕ)
+    → left ≡ made + next → HasCome program steps left state before mid has_said → Goes program made state (record { state = then; event = Said text })
     → ShowsPrefixOf mid after text
     → HasBegun program steps before after
-come_cut program steps left next state then before mid after has_said text is come takes shows =
+come_cut program steps left made next state then before mid after has_said text is come goes shows =
     let rest = some_run program next then in
-    let step = step_and program next state then (Said text) (preceded_by text rest.0) takes (rest.0, rest.1, refl) in
+    let step = go_and program made next state then (Said text) (preceded_by text rest.0) goes (rest.0, rest.1, refl) in
     let Q : ℕ → Type 0 = λ n. Runs program n state (preceded_by text rest.0) in
     record {
       said = come.said ++ shows.said;
@@ -131,12 +133,12 @@ come_begun program steps state before is =
     }
 
 -- the run has ended
-pub come_ended : (program : ProgramValue) (steps left next : ℕ) (state then : State) (before mid : Option Session) (has_said : Bool)
-    (end : End) → left ≡ suc next → HasCome program steps left state before mid has_said → Steps program state (record { state = then; event = Ended end })
+pub come_ended : (program : ProgramValue) (steps left made next : ℕ) (state then : State) (before mid : Option Session) (has_said : Bool)
+    (end : End) → left ≡ made + next → HasCome program steps left state before mid has_said → Goes program made state (record { state = then; event = Ended end })
     → HasPlayed program steps before mid has_said (Some end)
-come_ended program steps left next state then before mid has_said end is come takes =
+come_ended program steps left made next state then before mid has_said end is come goes =
     let Q : ℕ → Type 0 = λ n. Runs program n state (record { said = []; end = Some end }) in
-    let last = subst Q (sym is) (step_and program next state then (Ended end) (record { said = []; end = Some end }) takes refl) in
+    let last = subst Q (sym is) (go_and program made next state then (Ended end) (record { said = []; end = Some end }) goes refl) in
     let P : List ℕ → Type 0 = λ said. Runs program steps (initial program) (record { said = said; end = Some end }) in
     record {
       said =
@@ -163,12 +165,12 @@ come_last program steps left state before mid has_said is come =
 
 -- ---- what the loop has at hand
 
-pub takes_event : (own program : ProgramValue) (state next : State) (event is : Event) → own ≡ program → event ≡ is
-    → Steps own state (record { state = next; event = event }) → Steps program state (record { state = next; event = is })
-takes_event own program state next event is its same takes =
-    let P : Event → Type 0 = λ e. Steps program state (record { state = next; event = e }) in
-    let Q : ProgramValue → Type 0 = λ p. Steps p state (record { state = next; event = event }) in
-    subst P same (subst Q its takes)
+pub goes_to_event : (own program : ProgramValue) (made : ℕ) (state next : State) (event is : Event) → own ≡ program → event ≡ is
+    → Goes own made state (record { state = next; event = event }) → Goes program made state (record { state = next; event = is })
+goes_to_event own program made state next event is its same goes =
+    let P : Event → Type 0 = λ e. Goes program made state (record { state = next; event = e }) in
+    let Q : ProgramValue → Type 0 = λ p. Goes p made state (record { state = next; event = event }) in
+    subst P same (subst Q its goes)
 
 pub nonempty_by_length : (text : List ℕ) (size : ℕ) → size ≡ length text → not (nat_eq size 0) ≡ is_nonempty text
 nonempty_by_length [] size is = ap (λ n. not (nat_eq n 0)) is

@@ -115,8 +115,8 @@ fn play_on<C: Console>(
     let mut has_said = false;
     let mut left = steps;
     while left > 0 {
-        left -= 1;
-        let (next, event) = machine.step(Input::Go)?;
+        let (next, made, event) = machine.go(left)?;
+        left -= made;
         machine = next;
         match event {
             Event::Went => {}

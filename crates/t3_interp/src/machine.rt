@@ -1,8 +1,9 @@
 //! The machine: a program, and the state of its run.
-ghost use Rattle.std.specs.Prelude.{◌≡◌, ◌<◌, ◌≤◌, ◌^◌, IfOk};
+ghost use Rattle.std.specs.Prelude.{◌≡◌, ◌+◌, ◌<◌, ◌≤◌, ◌^◌, IfOk};
+ghost use Rattle.t3_interp.specs.declared.event.Event.TheVariants.{Went};
 ghost use Rattle.t3_interp.specs.declared.event.Want.TheVariants.{Go};
 ghost use Rattle.t3_interp.specs.Machine.{initial};
-ghost use Rattle.t3_interp.specs.Step.{Steps, state_of};
+ghost use Rattle.t3_interp.specs.Step.{Steps, Goes, state_of};
 
 use crate::event::{Event, Input, Want};
 use crate::running::{Core, Running, Stage};
@@ -87,7 +88,6 @@ impl Machine {
 
     /// Makes a step: calls the entry method at first, and then carries out an instruction. The run may not
     /// have ended, and fewer than 2^40 steps were made. Want of memory takes the machine with it.
-    #[inline(always)]
     pub fn step(mut self, input: Input) -> Result<(Machine, Event), NoMemory>
         requires wants { self.state.wants ≡ Go }
         requires few { self.state.steps < 2 ^ 40 }
@@ -97,11 +97,25 @@ impl Machine {
     {
         let Input::Go = input;
         let whole = &mut *self.whole;
-        match whole.running.step(whole.alloc, &whole.program)? {
-            // Nearly all steps say nothing: then no text is moved.
-            Event::Went => Ok((self, Event::Went)),
-            event => Ok((self, event)),
-        }
+        let event = whole.running.step(whole.alloc, &whole.program)?;
+        Ok((self, event))
+    }
+
+    /// Makes steps up to the first that says something or ends the run, and `most` at most. Gives how many were
+    /// made, and what the last did. The run may not have ended, and as many steps as may be made here don't take
+    /// it past 2^40. Want of memory takes the machine with it.
+    pub fn go(mut self, most: u32) -> Result<(Machine, u32, Event), NoMemory>
+        requires wants { self.state.wants ≡ Go }
+        requires few { self.state.steps + most ≤ 2 ^ 40 }
+        ensures program { IfOk result (λ gone. gone.0.program ≡ self.program) }
+        ensures goes { IfOk result (λ gone. Goes self.program gone.1 self.state
+            (record { state = gone.0.state; event = gone.2 })) }
+        ensures bound { IfOk result (λ gone. gone.1 ≤ most) }
+        ensures all { IfOk result (λ gone. gone.2 ≡ Went → gone.1 ≡ most) }
+    {
+        let whole = &mut *self.whole;
+        let (made, event) = whole.running.go(whole.alloc, &whole.program, most)?;
+        Ok((self, made, event))
     }
 }
 

@@ -110,3 +110,28 @@ fn a_store_without_room_ends_the_run(rt: HostRuntime) -> Result<(), Fail> {
     assert_eq!(rt; steps, 4);
     Ok(())
 }
+
+#[test]
+fn goes_to_a_text_and_no_further_than_it_may(rt: HostRuntime) -> Result<(), Fail> {
+    let alloc = rt.alloc();
+    let machine = Machine::start(alloc, program(alloc, BLOCKS, 10)?)?;
+    // The entry's call, and pushing 42 in front of what says it.
+    let (machine, made, event) = went(machine, 2)?;
+    assert!(rt; made == 2 && matches!(event, Event::Went));
+    let (machine, made, event) = went(machine, 9)?;
+    assert!(rt; made == 1 && matches!(event, Event::Said(_)));
+    let (machine, made, event) = went(machine, 9)?;
+    assert!(rt; made == 3 && matches!(event, Event::Ended(_)));
+    assert!(rt; machine.wants() == Want::Nothing && machine.steps() == 6);
+    Ok(())
+}
+
+/// What a machine comes to by so many steps at most, or as it is where it wants none.
+fn went(machine: Machine, most: u32) -> Result<(Machine, u32, Event), Fail>
+    requires { most ≤ 9 }
+{
+    match machine.wants() {
+        Want::Go if machine.steps() < 10 => Ok(machine.go(most)?),
+        _ => Ok((machine, 0, Event::Went)),
+    }
+}

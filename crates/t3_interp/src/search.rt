@@ -77,6 +77,8 @@ fn next_place(store: &Store, at: u32, property: u16) -> Place
 }
 
 /// The same by the list of the object and all its superclasses.
+#[cold]
+#[inline(never)]
 fn find_in_order(
     alloc: Global,
     store: &Store,

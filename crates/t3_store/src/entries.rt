@@ -24,6 +24,7 @@ pub(crate) struct Entry {
 }
 
 /// Where the object of a number stands. Where numbers have no gaps it is found at once, and else by halves.
+#[inline(always)]
 pub(crate) fn index_of(entries: &[Entry], number: u32) -> Option<usize>
     requires { IsRising entries.now }
     ensures index { result ≡ index_of number entries.now }
@@ -41,6 +42,7 @@ pub(crate) fn index_of(entries: &[Entry], number: u32) -> Option<usize>
 }
 
 /// Where the object stands if no number is missing between the first and it.
+#[inline(always)]
 fn likely_index(entries: &[Entry], number: u32) -> usize {
     match entries.first() {
         Some(first) => number.saturating_sub(first.number) as usize,
@@ -49,6 +51,7 @@ fn likely_index(entries: &[Entry], number: u32) -> usize {
 }
 
 /// Whether the object of that number stands there.
+#[inline(always)]
 fn is_at(entries: &[Entry], index: usize, number: u32) -> bool
     ensures { result ≡ is_numbered number (slice_get entries.now index) }
 {
@@ -59,6 +62,7 @@ fn is_at(entries: &[Entry], index: usize, number: u32) -> bool
 }
 
 /// How many objects have smaller numbers. Most often all have, and else that is found by halves.
+#[inline(never)]
 pub(crate) fn bound_of(entries: &[Entry], number: u32) -> usize
     requires { IsRising entries.now }
     ensures bound { result ≤ length entries.now }
@@ -84,6 +88,7 @@ fn is_behind_all(entries: &[Entry], number: u32) -> bool
 }
 
 /// The object of a number.
+#[inline(always)]
 pub(crate) fn object_at(entries: &[Entry], number: u32) -> Option<&Object>
     requires { IsRising entries.now }
     ensures { option_map (λ object. object.now) result ≡ object_at number entries.now }
@@ -95,6 +100,7 @@ pub(crate) fn object_at(entries: &[Entry], number: u32) -> Option<&Object>
 }
 
 /// What stands in a cell of an object once it is set to a value.
+#[inline(always)]
 pub(crate) fn content_with(entries: &[Entry], number: u32, cell: &Cell, value: Holder) -> Content
     requires rising { IsRising entries.now }
     requires can { IsTrue (can_have_at (get (values (things_of entries.now)) number) cell.now) }
@@ -114,6 +120,7 @@ pub(crate) fn content_with(entries: &[Entry], number: u32, cell: &Cell, value: H
 }
 
 /// Sets a cell of an object, and hands out what stood there. No memory is taken.
+#[inline(always)]
 pub(crate) fn put(entries: &mut Vec<Entry>, number: u32, cell: &Cell, content: Content) -> Content
     requires rising { IsRising entries.old.items }
     requires place { IsTrue (has_place (places_in entries.old.items) number cell.now) }

@@ -29,6 +29,7 @@ pub(crate) enum Object {
 
 impl Object {
     /// What stands in the cell.
+    #[inline(always)]
     pub(crate) fn get(&self, cell: &Cell) -> Content
         ensures content { shown result ≡ get (thing_of self.now).1 cell.now }
         ensures placed { IsSome (shown result) → IsTrue (set.contains (places_of self.now) cell.now) }
@@ -45,6 +46,7 @@ impl Object {
     }
 
     /// Sets the cell, and hands out what stood there. No memory is taken.
+    #[inline(always)]
     pub(crate) fn put(&mut self, cell: &Cell, content: Content) -> Content
         requires place { IsTrue (set.contains (places_of self.old) cell.now) }
         requires form { IsTrue (is_form cell.now (shown content)) }
@@ -84,6 +86,7 @@ impl Object {
     }
 
     /// What stands in the cell once it is set to a value.
+    #[inline(always)]
     pub(crate) fn content_with(&self, cell: &Cell, value: Holder) -> Content
         requires can { IsTrue (can_have (value_of (thing_of self.now)) cell.now) }
         requires valid { IsValid (thing_of self.now) }
@@ -117,6 +120,7 @@ impl Object {
     }
 
     /// What it is.
+    #[inline(always)]
     pub(crate) fn kind(&self) -> Kind
         ensures { result ≡ kind_of (value_of (thing_of self.now)) }
     {
@@ -130,6 +134,7 @@ impl Object {
     }
 
     /// The superclasses of a tads-object.
+    #[inline(always)]
     pub(crate) fn supers(&self) -> Option<&[u32]>
         ensures { option_map (λ supers. supers.now) result ≡ supers_of (value_of (thing_of self.now)) }
     {

@@ -62,6 +62,7 @@ impl ObjectMap {
     }
 
     /// The object of a number.
+    #[inline(always)]
     pub(crate) fn object(&self, number: u32) -> Option<&Object>
         ensures thing { option_map (λ object. thing_of object.now) result ≡ get self.now.objects number }
         ensures places { option_map (λ object. places_of object.now) result ≡ get self.now.places number }
@@ -71,6 +72,7 @@ impl ObjectMap {
     }
 
     /// Whether there is an object of that number.
+    #[inline(always)]
     pub(crate) fn has(&self, number: u32) -> bool
         ensures thing { result ≡ is_some (get self.now.objects number) }
         ensures value { result ≡ is_some (get (values self.now.objects) number) }
@@ -79,6 +81,7 @@ impl ObjectMap {
     }
 
     /// What stands in a cell of an object.
+    #[inline(always)]
     pub(crate) fn get(&self, number: u32, cell: &Cell) -> Content
         ensures content { shown result ≡ part_at self.now.objects number cell.now }
         ensures value { option_map (λ present. present.value) (shown result)
@@ -92,6 +95,7 @@ impl ObjectMap {
     }
 
     /// Sets a cell of an object, and hands out what stood there. No memory is taken.
+    #[inline(always)]
     pub(crate) fn set(&mut self, number: u32, cell: &Cell, value: Holder) -> Content
         requires place { IsTrue (has_place self.old.places number cell.now) }
         requires can { IsTrue (can_have_at (get (values self.old.objects) number) cell.now) }
@@ -203,6 +207,7 @@ impl ObjectMap {
     }
 
     /// What the object of a number is.
+    #[inline(always)]
     pub(crate) fn kind(&self, number: u32) -> Option<Kind>
         ensures { result ≡ option_map kind_of (get (values self.now.objects) number) }
     {
@@ -213,6 +218,7 @@ impl ObjectMap {
     }
 
     /// The superclasses of a tads-object.
+    #[inline(always)]
     pub(crate) fn supers(&self, number: u32) -> Option<&[u32]>
         ensures { option_map (λ supers. supers.now) result
             ≡ option_and_then supers_of (get (values self.now.objects) number) }

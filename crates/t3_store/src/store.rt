@@ -105,6 +105,7 @@ impl Store {
     }
 
     /// What stands in a cell of an object.
+    #[inline(always)]
     pub fn get(&self, number: u32, cell: &Cell) -> Option<Holder>
         ensures { result ≡ holder_at (value_at self.now.store number) cell.now }
     {
@@ -112,6 +113,7 @@ impl Store {
     }
 
     /// What the object of a number is. No walk over superclasses from any number comes back.
+    #[inline(always)]
     pub fn kind(&self, number: u32) -> Option<Kind>
         ensures kind { result ≡ option_map kind_of (value_at self.now.store number) }
         ensures acyclic { IsAcyclicFrom (supers_of_live self.now.store) number }
@@ -170,6 +172,7 @@ impl Store {
     }
 
     /// The half in which the object of a number is, if it is in any.
+    #[inline(always)]
     fn half(&self, number: u32) -> &ObjectMap
         ensures { get (values result.now.objects) number ≡ value_at self.now.store number }
     {
@@ -474,6 +477,7 @@ impl Supers for Store {
 
     ghost numbers = { λ s. keys s.store.persistent ++ keys s.store.transient };
 
+    #[inline(always)]
     fn supers(&self, number: u32) -> Option<&[u32]> {
         self.half(number).supers(number)
     }

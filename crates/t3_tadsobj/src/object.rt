@@ -99,6 +99,7 @@ impl TadsObject {
     }
 
     /// The superclasses, from left to right.
+    #[inline(always)]
     pub fn supers(&self) -> &[u32]
         ensures { result.now ≡ self.now.supers }
     {
@@ -123,6 +124,7 @@ impl Metaclass for TadsObject {
 
     ghost can_have = { λ o cell. IsTrue (is_prop cell) };
 
+    #[inline(always)]
     fn get(&self, cell: &Cell) -> Content
         ensures content { shown result ≡ get self.now.parts cell.now }
         ensures placed { IsSome (shown result) → IsTrue (set.contains self.now.places cell.now) }
@@ -136,6 +138,7 @@ impl Metaclass for TadsObject {
         }
     }
 
+    #[inline(always)]
     fn put(&mut self, cell: &Cell, content: Content) -> Content
         requires place { IsTrue (set.contains self.old.places cell.now) }
         requires form { IsTrue (is_form cell.now (shown content)) }
@@ -172,6 +175,7 @@ impl Metaclass for TadsObject {
 }
 
 /// The number of a cell that is a property.
+#[inline(always)]
 fn prop_number(cell: &Cell) -> Option<u16>
     ensures { MatchOption result (is_prop cell.now ≡ false) (λ number. cell.now ≡ Cell.Prop number) }
 {
@@ -182,6 +186,7 @@ fn prop_number(cell: &Cell) -> Option<u16>
 }
 
 /// A value as the content of a property.
+#[inline(always)]
 fn content_of(value: Option<Holder>) -> Content
     ensures { result ≡ content_of value }
 {
@@ -192,6 +197,7 @@ fn content_of(value: Option<Holder>) -> Content
 }
 
 /// What stands under a number.
+#[inline(always)]
 fn content_at(entries: &Entries, number: u16) -> Content
     ensures { result ≡ content_at (tree.get nat_cmp entries.now number) }
 {
@@ -202,6 +208,7 @@ fn content_at(entries: &Entries, number: u16) -> Content
 }
 
 /// Puts another value under a number that is there, and hands out what stood there.
+#[inline(always)]
 fn exchange(entries: &mut Entries, number: u16, value: Option<Holder>) -> Option<Holder>
     requires { IsSome (tree.get nat_cmp entries.old number) }
     ensures updates { tree.Updates nat_cmp entries.old entries.new number (Some value) }

@@ -93,10 +93,6 @@ fn write(core: &mut Core, property: u16, number: u32, value: Holder) -> Result<E
         (λ context. takes_store (written number (Prop property) value context.store) context) core.old effect
         core.new) }
 {
-    if core.store.get(number, &Cell::Prop(property)).is_some() {
-        core.store.overwrite(number, Cell::Prop(property), value);
-        return Ok(Effect::Next);
-    }
     match core.store.write(number, Cell::Prop(property), Some(value)) {
         Ok(()) => Ok(Effect::Next),
         Err(StoreRefusal::Full) => Ok(Effect::StoreFull),
