@@ -1,4 +1,4 @@
-use Rattle.std.proofs.Common.{◌≡◌, ◌∙◌, ap, subst, sym, ℕ, Some, None}
+use Rattle.std.proofs.Common.{◌≡◌, ◌∙◌, ap, ℕ, Some, None}
 use Rattle.std.specs.FinSet as set
 use Rattle.t3_holder.specs.declared.holder.Holder.{Holder}
 use Rattle.t3_undo.specs.Objects.{set_at}
@@ -6,7 +6,6 @@ use Rattle.t3_undo.specs.declared.cell.Cell.TheVariants as cells
 use Rattle.t3_tadsobj.specs.Object.{Tads, props_of}
 use Rattle.t3_tadsobj.proofs.PropLists.{props_of-set}
 use Rattle.t3_store.specs.Inner.Shapes.{IsWithProp}
-use Rattle.t3_store.specs.Inner.Valid.{AreProps}
 use Rattle.t3_store.proofs.MapValues.{made-more, made-none}
 use Rattle.t3_store.proofs.new_object.make_tads.Goals as goal
 
