@@ -1,5 +1,6 @@
 //! The seven kinds of instructions, and the actions that they share.
-ghost use Rattle.std.specs.Prelude.{◌≡◌, ◌+◌, ◌<◌, ◌≤◌, ◌^◌, IfOk};
+ghost use Rattle.std.specs.Prelude.{◌≡◌, ◌+◌, ◌<◌, ◌≤◌, ◌^◌, OnOk};
+ghost use Rattle.t3_interp.specs.declared.event.Event.TheVariants.{Went};
 ghost use Rattle.t3_interp.specs.declared.running.Stage.TheVariants.{Method};
 ghost use Rattle.t3_interp.specs.Instructions.{action_of};
 ghost use Rattle.t3_interp.specs.Step.{comes_to, after_action};
@@ -18,7 +19,6 @@ mod push;
 mod set;
 mod stack;
 
-use crate::event::Event;
 use crate::running::Running;
 use std::alloc::Global;
 use t3_holder::NoMemory;
@@ -33,17 +33,18 @@ pub(crate) fn act(
     program: &Program,
     running: &mut Running,
     instr: Instr,
-) -> Result<Event, NoMemory>
+) -> Result<(), NoMemory>
     requires method { running.old.stage ≡ Method }
+    requires untold { running.old.event ≡ Went }
     requires cases { IsCased program.now.pools.code instr }
     requires next { running.old.core.frames.newest.next < 2 ^ 31 }
     requires few { running.old.core.store.writes < 2 ^ 63 }
-    ensures event { IfOk result (λ event. comes_to running.new event ≡ after_action program.now
+    ensures after { OnOk result (comes_to running.new ≡ after_action program.now
         running.old.core.frames.older running.old.steps
         (action_of program.now instr (context_of running.old.core))) }
-    ensures writes { IfOk result
-        (λ _. running.new.core.store.writes ≤ running.old.core.store.writes + 1) }
-    ensures steps { IfOk result (λ _. running.new.steps ≡ running.old.steps) }
+    ensures writes { OnOk result
+        (running.new.core.store.writes ≤ running.old.core.store.writes + 1) }
+    ensures steps { OnOk result (running.new.steps ≡ running.old.steps) }
 {
     // What comes of an effect is settled beside the instructions of its kind, so that the compiler knows it
     // where there is but one.

@@ -4,6 +4,7 @@ ghost use Rattle.t3_interp.specs.declared.event.Event.TheVariants.{Went};
 ghost use Rattle.t3_interp.specs.declared.event.Want.TheVariants.{Go};
 ghost use Rattle.t3_interp.specs.Machine.{initial};
 ghost use Rattle.t3_interp.specs.Step.{Steps, Goes, state_of};
+ghost use Rattle.t3_interp.specs.Inner.Acting.{IsBetweenSteps};
 
 use crate::event::{Event, Input, Want};
 use crate::running::{Core, Running, Stage};
@@ -45,8 +46,9 @@ impl Model for Machine {
 
     ghost view = { λ m. record { program = m.whole.value.program; state = state_of m.whole.value.running } };
 
-    // A step makes one write at most, and a store begins with as many as its objects have units.
-    ghost invariant = { λ m. m.whole.value.running.core.store.writes ≤ 4194304 + m.whole.value.running.steps };
+    ghost use Rattle.t3_interp.specs.Inner.Acting.{IsBetweenSteps};
+
+    ghost invariant = { λ m. IsBetweenSteps m.whole.value.running };
 }
 
 impl Machine {
@@ -97,7 +99,8 @@ impl Machine {
     {
         let Input::Go = input;
         let whole = &mut *self.whole;
-        let event = whole.running.step(whole.alloc, &whole.program)?;
+        whole.running.step(whole.alloc, &whole.program)?;
+        let event = whole.running.take_event();
         Ok((self, event))
     }
 
@@ -114,7 +117,8 @@ impl Machine {
         ensures all { IfOk result (λ gone. gone.2 ≡ Went → gone.1 ≡ most) }
     {
         let whole = &mut *self.whole;
-        let (made, event) = whole.running.go(whole.alloc, &whole.program, most)?;
+        let made = whole.running.go(whole.alloc, &whole.program, most)?;
+        let event = whole.running.take_event();
         Ok((self, made, event))
     }
 }
@@ -122,7 +126,7 @@ impl Machine {
 /// The state before the first step.
 fn begin(alloc: Global, program: &Program) -> Result<Running, NoMemory>
     ensures state { IfOk result (λ running. state_of running ≡ initial program.now) }
-    ensures writes { IfOk result (λ running. running.core.store.writes ≤ 4194304) }
+    ensures between { IfOk result IsBetweenSteps }
 {
     let first = program.first.copy(alloc)?;
     let passing = program.passing.copy(alloc)?;
@@ -135,5 +139,6 @@ fn begin(alloc: Global, program: &Program) -> Result<Running, NoMemory>
         },
         stage: Stage::Entry,
         steps: 0,
+        event: Event::Went,
     })
 }

@@ -1,4 +1,9 @@
 //! What changes from step to step.
+ghost use Rattle.std.specs.Prelude.{◌≡◌};
+ghost use Rattle.t3_interp.specs.declared.event.Event.TheVariants.{Went};
+
+use crate::event::Event;
+use std::mem;
 use t3_frames::Frames;
 use t3_holder::Holder;
 use t3_store::Store;
@@ -30,4 +35,16 @@ pub(crate) struct Running {
     pub(crate) core: Core,
     pub(crate) stage: Stage,
     pub(crate) steps: u64,
+    /// What the step that is made tells. It lies here so that a step that tells nothing moves none of it.
+    pub(crate) event: Event,
+}
+
+impl Running {
+    /// Hands out what the last step told.
+    pub(crate) fn take_event(&mut self) -> Event
+        ensures event { result ≡ self.old.event }
+        ensures rest { self.new ≡ record self.old { event = Went } }
+    {
+        mem::replace(&mut self.event, Event::Went)
+    }
 }

@@ -16,7 +16,7 @@ loop-left-smaller g c =
     let bound = next.bound in
     let test = c.loop-left-test.true in
     let some =
-        gone_some c.loop-left.machine.program made left c.loop-left.machine.state c.in_ok-next.next.state c.in_ok-next.event (omega (arith, test)) next.all next.goes in
+    gone_some c.loop-left.machine.program made left c.loop-left.machine.state c.in_ok-next.next.state c.in_ok-next.event (omega (arith, test)) next.all next.goes in
     omega (arith, some, bound)
 
 pub loop-left-preserved-in-Went : goal.loop-left-preserved-in-Went

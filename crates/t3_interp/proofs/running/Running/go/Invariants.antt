@@ -6,7 +6,8 @@ use Rattle.t3_interp.proofs.running.Running.go.Given as goal
 
 abbrev pub invariant-loop-made : goal.invariant-loop-made
 invariant-loop-made l = record {
-  goes : Goes l.program l.made (state_of l.initial.self) (comes_to l.self Went);
+  goes : Goes l.program l.made (state_of l.initial.self) (comes_to l.self);
+  untold : l.self.event ≡ Went;
   wants : (state_of l.self).wants ≡ Go;
   writes : l.self.core.store.writes ≤ l.initial.self.core.store.writes + l.made;
   counted : l.self.steps ≡ l.initial.self.steps + l.made;
