@@ -1,10 +1,9 @@
 //! The seven kinds of instructions, and the actions that they share.
-ghost use Rattle.std.specs.Prelude.{◌≡◌, ◌+◌, ◌<◌, ◌≤◌, ◌^◌, OnOk};
+ghost use Rattle.std.specs.Prelude.{◌≡◌, ◌<◌, ◌^◌, OnOk};
 ghost use Rattle.t3_interp.specs.declared.event.Event.TheVariants.{Went};
 ghost use Rattle.t3_interp.specs.declared.running.Stage.TheVariants.{Method};
-ghost use Rattle.t3_interp.specs.Instructions.{action_of};
-ghost use Rattle.t3_interp.specs.Step.{comes_to, after_action};
-ghost use Rattle.t3_interp.specs.Inner.Acting.{IsCased, context_of};
+ghost use Rattle.t3_methods.specs.declared.instr.Instr.TheVariants.{Call, Make};
+ghost use Rattle.t3_interp.specs.Inner.Acting.{IsCased, HasActed};
 
 mod builtin;
 mod call;
@@ -23,7 +22,7 @@ use crate::running::Running;
 use std::alloc::Global;
 use t3_holder::NoMemory;
 use t3_load::Program;
-use t3_methods::Instr;
+use t3_methods::{CallCode, Instr, MakeCode};
 
 /// Does to the newest frame, to the register and to the objects what an instruction does, and what comes of
 /// that.
@@ -39,12 +38,7 @@ pub(crate) fn act(
     requires cases { IsCased program.now.pools.code instr }
     requires next { running.old.core.frames.newest.next < 2 ^ 31 }
     requires few { running.old.core.store.writes < 2 ^ 63 }
-    ensures after { OnOk result (comes_to running.new ≡ after_action program.now
-        running.old.core.frames.older running.old.steps
-        (action_of program.now instr (context_of running.old.core))) }
-    ensures writes { OnOk result
-        (running.new.core.store.writes ≤ running.old.core.store.writes + 1) }
-    ensures steps { OnOk result (running.new.steps ≡ running.old.steps) }
+    ensures { OnOk result (HasActed program.now instr running.old running.new) }
 {
     // What comes of an effect is settled beside the instructions of its kind, so that the compiler knows it
     // where there is but one.
@@ -57,10 +51,7 @@ pub(crate) fn act(
             let effect = math::math(&mut running.core, code);
             running.settle(alloc, program, effect)
         }
-        Instr::Call(code) => {
-            let effect = call::call(alloc, program, &mut running.core, code)?;
-            running.settle(alloc, program, effect)
-        }
+        Instr::Call(code) => act_call(alloc, program, running, code),
         Instr::Stack(code) => {
             let effect = stack::stack(&mut running.core, code);
             running.settle(alloc, program, effect)
@@ -69,13 +60,42 @@ pub(crate) fn act(
             let effect = jump::jump(&program.pools, &mut running.core, code);
             running.settle(alloc, program, effect)
         }
-        Instr::Make(code) => {
-            let effect = make::make(alloc, program, &mut running.core, code)?;
-            running.settle(alloc, program, effect)
-        }
+        Instr::Make(code) => act_make(alloc, program, running, code),
         Instr::Local(code) => {
             let effect = local::local(&mut running.core, code)?;
             running.settle(alloc, program, effect)
         }
     }
+}
+
+/// The same for a call. It stands apart, since what it asks for lies in memory.
+#[inline(never)]
+fn act_call(
+    alloc: Global,
+    program: &Program,
+    running: &mut Running,
+    code: CallCode,
+) -> Result<(), NoMemory>
+    requires method { running.old.stage ≡ Method }
+    requires untold { running.old.event ≡ Went }
+    ensures { OnOk result (HasActed program.now (Call code) running.old running.new) }
+{
+    let effect = call::call(alloc, program, &mut running.core, code)?;
+    running.settle(alloc, program, effect)
+}
+
+/// The same for what makes an object, or looks one over.
+#[inline(never)]
+fn act_make(
+    alloc: Global,
+    program: &Program,
+    running: &mut Running,
+    code: MakeCode,
+) -> Result<(), NoMemory>
+    requires method { running.old.stage ≡ Method }
+    requires untold { running.old.event ≡ Went }
+    ensures { OnOk result (HasActed program.now (Make code) running.old running.new) }
+{
+    let effect = make::make(alloc, program, &mut running.core, code)?;
+    running.settle(alloc, program, effect)
 }

@@ -17,7 +17,6 @@ use t3_methods::CallCode;
 
 /// Carries out an instruction that returns, or that evaluates a property. No method and no function can be
 /// called yet.
-#[inline(never)]
 pub(super) fn call(
     alloc: Global,
     program: &Program,

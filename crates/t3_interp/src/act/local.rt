@@ -37,13 +37,13 @@ pub(super) fn local(core: &mut Core, code: LocalCode) -> Result<Effect, NoMemory
         LocalCode::Setarg1(n) => Ok(take_argument(core, u16::from(n))),
         LocalCode::Setarg2(n) => Ok(take_argument(core, n)),
         LocalCode::Setind => Ok(Effect::Stop(CodeWhy::Unbuilt)),
-        LocalCode::Setprop(p) => set_of_popped(core, p),
-        LocalCode::Ptrsetprop => set_by_pointer(core),
+        LocalCode::Setprop(p) => Ok(set_of_popped(core, p)?.effect()),
+        LocalCode::Ptrsetprop => Ok(set_by_pointer(core)?.effect()),
         LocalCode::Setpropself(p) => {
             let this = core.frames.this();
-            set_popped(core, p, this)
+            Ok(set_popped(core, p, this)?.effect())
         }
-        LocalCode::Objsetprop(n, p) => set_popped(core, p, Holder::Obj(n)),
+        LocalCode::Objsetprop(n, p) => Ok(set_popped(core, p, Holder::Obj(n))?.effect()),
         LocalCode::Nop => Ok(Effect::Next),
     }
 }

@@ -17,7 +17,6 @@ use t3_ops::Fault;
 
 /// Carries out an instruction that makes an object, says, throws, or calls a built-in function. There is no
 /// function yet by which values are said.
-#[inline(never)]
 pub(super) fn make(
     alloc: Global,
     program: &Program,

@@ -4,7 +4,7 @@ ghost use Rattle.t3_undo.specs.declared.cell.Cell.TheVariants.{Prop};
 ghost use Rattle.t3_store.specs.Value.{supers_of};
 ghost use Rattle.t3_store.specs.Store.{value_at, written};
 ghost use Rattle.t3_interp.specs.Objects.{pops, by_property, sets, sets_in, sets_popped, takes_store};
-ghost use Rattle.t3_interp.specs.Inner.Acting.{HasAction};
+ghost use Rattle.t3_interp.specs.Inner.Acting.{HasAction, effect_of};
 
 use crate::effect::Effect;
 use crate::event::CodeWhy;
@@ -14,56 +14,86 @@ use t3_ops::Fault;
 use t3_store::{Kind, StoreRefusal};
 use t3_undo::Cell;
 
+/// How the setting of a property went. It is handed on in place of an effect, which has room for a text.
+#[derive(Clone, Copy)]
+pub(super) enum Setting {
+    Done,
+    Refused(Fault),
+    /// An operand is missing.
+    Underflow,
+    /// The store has no room.
+    Full,
+}
+
+impl Setting {
+    /// What the instruction asks for then.
+    #[inline(always)]
+    pub(super) fn effect(self) -> Effect
+        ensures { result ≡ effect_of self }
+    {
+        match self {
+            Setting::Done => Effect::Next,
+            Setting::Refused(fault) => Effect::Fault(fault),
+            Setting::Underflow => Effect::Stop(CodeWhy::Underflow),
+            Setting::Full => Effect::StoreFull,
+        }
+    }
+}
+
 /// Sets a property of the topmost operand to the next one.
 #[inline(never)]
-pub(super) fn set_of_popped(core: &mut Core, property: u16) -> Result<Effect, NoMemory>
+pub(super) fn set_of_popped(core: &mut Core, property: u16) -> Result<Setting, NoMemory>
     requires { core.old.store.writes < 2 ^ 63 }
     ensures { IfOk result
-        (λ effect. HasAction (pops (sets_popped property)) core.old effect core.new) }
+        (λ setting. HasAction (pops (sets_popped property)) core.old (effect_of setting) core.new) }
 {
     match core.frames.pop() {
         Some(object) => set_popped(core, property, object),
-        None => Ok(Effect::Stop(CodeWhy::Underflow)),
+        None => Ok(Setting::Underflow),
     }
 }
 
 /// Sets the property that is the topmost operand, of the next one, to the one behind it.
 #[inline(never)]
-pub(super) fn set_by_pointer(core: &mut Core) -> Result<Effect, NoMemory>
+pub(super) fn set_by_pointer(core: &mut Core) -> Result<Setting, NoMemory>
     requires { core.old.store.writes < 2 ^ 63 }
-    ensures { IfOk result (λ effect. HasAction (pops (by_property (λ p. pops (sets_popped p))))
-        core.old effect core.new) }
+    ensures { IfOk result (λ setting. HasAction (pops (by_property (λ p. pops (sets_popped p))))
+        core.old (effect_of setting) core.new) }
 {
     match core.frames.pop() {
         Some(Holder::Prop(property)) => set_of_popped(core, property),
-        Some(_) => Ok(Effect::Fault(Fault::Kind)),
-        None => Ok(Effect::Stop(CodeWhy::Underflow)),
+        Some(_) => Ok(Setting::Refused(Fault::Kind)),
+        None => Ok(Setting::Underflow),
     }
 }
 
 /// Sets a property of an object to the topmost operand.
 #[inline(never)]
-pub(super) fn set_popped(core: &mut Core, property: u16, object: Holder) -> Result<Effect, NoMemory>
+pub(super) fn set_popped(
+    core: &mut Core,
+    property: u16,
+    object: Holder,
+) -> Result<Setting, NoMemory>
     requires { core.old.store.writes < 2 ^ 63 }
     ensures { IfOk result
-        (λ effect. HasAction (sets_popped property object) core.old effect core.new) }
+        (λ setting. HasAction (sets_popped property object) core.old (effect_of setting) core.new) }
 {
     match core.frames.pop() {
         Some(value) => set(core, property, object, value),
-        None => Ok(Effect::Stop(CodeWhy::Underflow)),
+        None => Ok(Setting::Underflow),
     }
 }
 
 /// Sets a property of an object to a value.
-fn set(core: &mut Core, property: u16, object: Holder, value: Holder) -> Result<Effect, NoMemory>
+fn set(core: &mut Core, property: u16, object: Holder, value: Holder) -> Result<Setting, NoMemory>
     requires { core.old.store.writes < 2 ^ 63 }
     ensures { IfOk result
-        (λ effect. HasAction (sets property object value) core.old effect core.new) }
+        (λ setting. HasAction (sets property object value) core.old (effect_of setting) core.new) }
 {
     match object {
         Holder::Obj(number) => set_of_object(core, property, number, value),
-        Holder::Text(_) | Holder::List(_) => Ok(Effect::Fault(Fault::CannotSet)),
-        _ => Ok(Effect::Fault(Fault::NotObject)),
+        Holder::Text(_) | Holder::List(_) => Ok(Setting::Refused(Fault::CannotSet)),
+        _ => Ok(Setting::Refused(Fault::NotObject)),
     }
 }
 
@@ -73,29 +103,29 @@ fn set_of_object(
     property: u16,
     number: u32,
     value: Holder,
-) -> Result<Effect, NoMemory>
+) -> Result<Setting, NoMemory>
     requires { core.old.store.writes < 2 ^ 63 }
-    ensures { IfOk result (λ effect. HasAction (λ context. sets_in property number value
-        (value_at context.store number) context) core.old effect core.new) }
+    ensures { IfOk result (λ setting. HasAction (λ context. sets_in property number value
+        (value_at context.store number) context) core.old (effect_of setting) core.new) }
 {
     match core.store.kind(number) {
         Some(Kind::Tads) => write(core, property, number, value),
-        Some(_) => Ok(Effect::Fault(Fault::CannotSet)),
-        None => Ok(Effect::Fault(Fault::Stale)),
+        Some(_) => Ok(Setting::Refused(Fault::CannotSet)),
+        None => Ok(Setting::Refused(Fault::Stale)),
     }
 }
 
 /// Sets a property of a tads-object. One that it has takes no memory.
-fn write(core: &mut Core, property: u16, number: u32, value: Holder) -> Result<Effect, NoMemory>
+fn write(core: &mut Core, property: u16, number: u32, value: Holder) -> Result<Setting, NoMemory>
     requires few { core.old.store.writes < 2 ^ 63 }
     requires tads { IsSome (option_and_then supers_of (value_at core.old.store.store number)) }
-    ensures { IfOk result (λ effect. HasAction
-        (λ context. takes_store (written number (Prop property) value context.store) context) core.old effect
-        core.new) }
+    ensures { IfOk result (λ setting. HasAction
+        (λ context. takes_store (written number (Prop property) value context.store) context) core.old
+        (effect_of setting) core.new) }
 {
     match core.store.write(number, Cell::Prop(property), Some(value)) {
-        Ok(()) => Ok(Effect::Next),
-        Err(StoreRefusal::Full) => Ok(Effect::StoreFull),
+        Ok(()) => Ok(Setting::Done),
+        Err(StoreRefusal::Full) => Ok(Setting::Full),
         Err(StoreRefusal::NoMemory) => Err(NoMemory),
     }
 }
