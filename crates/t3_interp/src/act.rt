@@ -68,7 +68,8 @@ pub(crate) fn act(
     }
 }
 
-/// The same for a call. It stands apart, since what it asks for lies in memory.
+/// The same for what returns or evaluates a property. It stands apart, since its effect, which has room for
+/// a text, is handed over in memory.
 #[inline(never)]
 fn act_call(
     alloc: Global,
@@ -84,7 +85,7 @@ fn act_call(
     running.settle(alloc, program, effect)
 }
 
-/// The same for what makes an object, or looks one over.
+/// The same for what makes an object, says, throws, or calls a built-in function.
 #[inline(never)]
 fn act_make(
     alloc: Global,

@@ -10,7 +10,7 @@
 //! }
 //! ```
 //!
-//! What a step is is defined in `specs/`, apart from the code. So far there is one frame: no method is called.
+//! [`Machine::go`] makes many steps in one call. What a step is is defined in `specs/`, apart from the code. So far there is one frame: no method is called.
 //! Properties of objects are searched, evaluated and set, and tads-objects are made; an instruction that would
 //! do more stops the run by `Unbuilt`.
 #![tactic(auto)]

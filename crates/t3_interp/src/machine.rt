@@ -18,7 +18,7 @@ use t3_store::Store;
 /// A program, and how far its run has come. Contracts see both.
 #[derive(Drop)]
 pub struct Machine {
-    /// Behind one pointer, since a machine is handed on at each step.
+    /// Behind one pointer, since a machine is handed on at each call.
     whole: Box<Whole>,
 }
 
@@ -104,8 +104,8 @@ impl Machine {
         Ok((self, event))
     }
 
-    /// Makes steps up to the first that says something or ends the run, and `most` at most. Gives how many were
-    /// made, and what the last did. The run may not have ended, and as many steps as may be made here don't take
+    /// Makes steps up to the first that says a text, be it empty, or ends the run, and `most` at most. Gives how
+    /// many were made, and what the last did. The run may not have ended, and as many steps as may be made here don't take
     /// it past 2^40. Want of memory takes the machine with it.
     pub fn go(mut self, most: u32) -> Result<(Machine, u32, Event), NoMemory>
         requires wants { self.state.wants ≡ Go }

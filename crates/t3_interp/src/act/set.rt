@@ -115,7 +115,7 @@ fn set_of_object(
     }
 }
 
-/// Sets a property of a tads-object. One that it has takes no memory.
+/// Sets a property of a tads-object. For one that it has the store asks for no memory; no contract says so.
 fn write(core: &mut Core, property: u16, number: u32, value: Holder) -> Result<Setting, NoMemory>
     requires few { core.old.store.writes < 2 ^ 63 }
     requires tads { IsSome (option_and_then supers_of (value_at core.old.store.store number)) }
