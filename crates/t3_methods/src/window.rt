@@ -1,6 +1,6 @@
 //! The bytes of an instruction, a header, a case or an entry of an exception table, looked at where they
 //! stand.
-ghost use Rattle.std.specs.Prelude.{◌≡◌, ◌≤◌, ◌<◌, ◌^◌, ℕ, None, length, take};
+ghost use Rattle.std.specs.Prelude.{◌≡◌, ◌≤◌, ◌<◌, ◌^◌, ℕ, None, length, take, min};
 ghost use Rattle.std.specs.FinMap.{get};
 ghost use Rattle.std.specs.Int.{w8, w16, w32, cast_signed};
 ghost use Rattle.t3_holder.specs.NumberText.{AreBytes};
@@ -129,8 +129,8 @@ impl<'b> Window<'b> {
     }
 }
 
-/// Puts the bytes from an address on into a room, over the borders of pages, until the room is full or no
-/// byte stands there. The answer is how many they are.
+/// Puts the bytes from an address on into a room, page by page, until the room is full or no byte stands
+/// there. The answer is how many they are.
 #[cold]
 #[inline(never)]
 fn gather(pools: &Pools, address: u32, room: &mut [u8; WINDOW_SIZE]) -> usize
@@ -138,13 +138,27 @@ fn gather(pools: &Pools, address: u32, room: &mut [u8; WINDOW_SIZE]) -> usize
     ensures few { result ≤ 10 }
     ensures shows { ShowsAll pools.now.code address (take result room.new) }
 {
-    let mut next = address;
-    for count in 0..WINDOW_SIZE {
-        let Some(byte) = pools.byte(CODE, next) else {
+    let mut count = 0;
+    while count < WINDOW_SIZE {
+        let run = pools.run(CODE, address + count as u32);
+        if run.is_empty() {
             return count;
-        };
-        room[count] = byte;
-        next += 1;
+        }
+        count += copy_front(run, &mut room[count..]);
     }
-    WINDOW_SIZE
+    count
+}
+
+/// Copies the first bytes to the front of a room, as many as there are or the room takes. The answer is how
+/// many they are.
+#[inline(always)]
+fn copy_front(bytes: &[u8], room: &mut [u8]) -> usize
+    ensures few { result ≡ min (length bytes.now) (length room.old) }
+    ensures same { take result room.new ≡ take result bytes.now }
+    ensures long { length room.new ≡ length room.old }
+    ensures are { AreBytes bytes.now }
+{
+    let count = bytes.len().min(room.len());
+    room[..count].copy_from_slice(&bytes[..count]);
+    count
 }
