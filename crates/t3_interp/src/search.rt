@@ -63,10 +63,11 @@ pub(crate) fn find_property(
 fn next_place(store: &Store, at: u32, property: u16) -> Place
     ensures { result ≡ place_at store.now.store at property }
 {
-    if let Some(value) = store.get(at, &Cell::Prop(property)) {
+    let object = store.at(at);
+    if let Some(value) = object.get(&Cell::Prop(property)) {
         return Place::Here(value);
     }
-    match store.supers(at) {
+    match object.supers() {
         None => Place::Nowhere,
         Some(supers) => match supers.len() {
             0 => Place::Nowhere,

@@ -33,6 +33,7 @@ mod kind;
 mod limits;
 mod new_object;
 mod object;
+mod object_at;
 mod object_map;
 mod persistent;
 #[cfg(test)]
@@ -52,5 +53,6 @@ pub use broken::Broken;
 pub use kind::Kind;
 pub use limits::{StoreLimits, StoreRefusal};
 pub use new_object::NewObject;
+pub use object_at::ObjectAt;
 pub use persistent::Persistent;
 pub use store::Store;

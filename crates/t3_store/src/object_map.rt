@@ -1,10 +1,9 @@
-ghost use Rattle.std.specs.Prelude.{◌≡◌, ◌+◌, ◌-◌, ◌<◌, ◌≤◌, ◌^◌, ℕ, Some, None, IsTrue, IsSome, IfSome, IfOk, OnOk, OnErr, is_some, option_map, option_and_then, drop, map};
-ghost use Rattle.std.specs.List.Sorted.{IsStrictlyIncreasing};
+ghost use Rattle.std.specs.Prelude.{◌≡◌, ◌+◌, ◌-◌, ◌<◌, ◌≤◌, ◌^◌, ℕ, Some, None, IsTrue, IsSome, IfSome, IfOk, OnOk, OnErr, is_some, option_map, drop};
 ghost use Rattle.std.specs.FinMap as finite;
 ghost use Rattle.std.specs.FinMap.{get, insert, entries, keys};
 ghost use Rattle.t3_undo.specs.Content.{shown, is_form};
 ghost use Rattle.t3_undo.specs.Objects.{part_at};
-ghost use Rattle.t3_store.specs.Value.{holder_at, can_have_at, can_lose_at, with_cell, without_cell, cell_units, units_of, units_in, kind_of, supers_of, is_class_at, props_at, text_of, items_in, length_of, entries_in, IsNextAbove};
+ghost use Rattle.t3_store.specs.Value.{holder_at, can_have_at, can_lose_at, with_cell, without_cell, cell_units, units_of, units_in, IsNextAbove};
 ghost use Rattle.t3_store.specs.Inner.Shapes.{thing_of, places_of, tick_of, value_of, values, has_place, with_place, places_below, AreWithin, IsChanged};
 ghost use Rattle.t3_store.specs.Inner.Valid.{IsValid, AreValid};
 ghost use Rattle.t3_store.specs.Inner.Store.{CanAllBePut, AreRecordsWithin, HaveRisen, newest_records};
@@ -15,14 +14,12 @@ use crate::entries::{
     Entry, add, content_with, copy_all, cut, make_place, number_from, numbers_of, object_at, put,
     put_back,
 };
-use crate::kind::Kind;
 use crate::object::Object;
+use crate::object_at::ObjectAt;
 use crate::table_cells::cell_units;
 use std::alloc::Global;
 use std::marker::Model;
 use t3_holder::{Holder, NoMemory};
-use t3_tables::Entries;
-use t3_tadsobj::Props;
 use t3_undo::{Cell, Content, Journal};
 
 /// Objects by their numbers, and how many units they count together.
@@ -69,6 +66,14 @@ impl ObjectMap {
         ensures valid { IfSome result (λ object. IsValid (thing_of object.now)) }
     {
         object_at(&self.entries, number)
+    }
+
+    /// What stands under a number.
+    #[inline(always)]
+    pub(crate) fn at(&self, number: u32) -> ObjectAt<'_>
+        ensures { result ≡ get (values self.now.objects) number }
+    {
+        ObjectAt::new(self.object(number))
     }
 
     /// Whether there is an object of that number.
@@ -204,96 +209,6 @@ impl ObjectMap {
             entries,
             units: self.units,
         })
-    }
-
-    /// What the object of a number is.
-    #[inline(always)]
-    pub(crate) fn kind(&self, number: u32) -> Option<Kind>
-        ensures { result ≡ option_map kind_of (get (values self.now.objects) number) }
-    {
-        match self.object(number) {
-            Some(object) => Some(object.kind()),
-            None => None,
-        }
-    }
-
-    /// The superclasses of a tads-object.
-    #[inline(always)]
-    pub(crate) fn supers(&self, number: u32) -> Option<&[u32]>
-        ensures { option_map (λ supers. supers.now) result
-            ≡ option_and_then supers_of (get (values self.now.objects) number) }
-    {
-        match self.object(number) {
-            Some(object) => object.supers(),
-            None => None,
-        }
-    }
-
-    /// Whether the object of a number is a class.
-    pub(crate) fn is_class(&self, number: u32) -> bool
-        ensures { result ≡ is_class_at (get (values self.now.objects) number) }
-    {
-        match self.object(number) {
-            Some(object) => object.is_class(),
-            None => false,
-        }
-    }
-
-    /// The properties of a tads-object with their values, by rising number.
-    pub(crate) fn props(&self, alloc: Global, number: u32) -> Result<Props, NoMemory>
-        requires { IsSome (option_and_then supers_of (get (values self.now.objects) number)) }
-        ensures props { IfOk result (λ props. map (λ prop. (prop.number, prop.value)) props
-            ≡ entries (props_at (get (values self.now.objects) number))) }
-        ensures rising { IfOk result (λ props. IsStrictlyIncreasing (map (λ prop. prop.number) props)) }
-    {
-        match self.object(number) {
-            Some(object) => object.props(alloc),
-            None => Ok(Props(Vec::new(alloc))),
-        }
-    }
-
-    /// The bytes of a string.
-    pub(crate) fn text(&self, number: u32) -> Option<&[u8]>
-        ensures { option_map (λ bytes. bytes.now) result
-            ≡ option_and_then text_of (get (values self.now.objects) number) }
-    {
-        match self.object(number) {
-            Some(object) => object.text(),
-            None => None,
-        }
-    }
-
-    /// The items of a list.
-    pub(crate) fn items(&self, number: u32) -> Option<&[Holder]>
-        ensures { option_map (λ items. items.now) result
-            ≡ option_and_then items_in (get (values self.now.objects) number) }
-    {
-        match self.object(number) {
-            Some(object) => object.items(),
-            None => None,
-        }
-    }
-
-    /// How many elements a vector has.
-    pub(crate) fn length(&self, number: u32) -> Option<u32>
-        ensures { result ≡ option_and_then length_of (get (values self.now.objects) number) }
-    {
-        match self.object(number) {
-            Some(object) => object.length(),
-            None => None,
-        }
-    }
-
-    /// The entries of a table, the oldest first.
-    pub(crate) fn entries(&self, alloc: Global, number: u32) -> Result<Entries, NoMemory>
-        requires { IsSome (option_and_then entries_in (get (values self.now.objects) number)) }
-        ensures { IfOk result (λ pairs. Some pairs
-            ≡ option_and_then entries_in (get (values self.now.objects) number)) }
-    {
-        match self.object(number) {
-            Some(object) => object.entries(alloc),
-            None => Ok(Entries(Vec::new(alloc))),
-        }
     }
 
     /// How many objects there are.

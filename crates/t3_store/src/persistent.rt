@@ -1,7 +1,7 @@
-ghost use Rattle.std.specs.Prelude.{◌≡◌, ◌+◌, ◌<◌, ◌≤◌, ◌^◌, ◌↔◌, ◌||◌, Some, None, Err, IsTrue, IsSome, IfOk, OnOk, OnErr, MatchOption, is_some, nat_lt, option_map, option_and_then, map};
+ghost use Rattle.std.specs.Prelude.{◌≡◌, ◌+◌, ◌<◌, ◌^◌, ◌↔◌, ◌||◌, Some, None, Err, IsTrue, IsSome, IfOk, OnOk, OnErr, MatchOption, option_map, option_and_then, map};
 ghost use Rattle.std.specs.List.Sorted.{IsStrictlyIncreasing};
 ghost use Rattle.std.specs.FinMap as finite;
-ghost use Rattle.std.specs.FinMap.{get, insert, len, entries};
+ghost use Rattle.std.specs.FinMap.{get, insert, entries};
 ghost use Rattle.t3_store.specs.Value.{is_past, is_past_units, key_units, with_cell, IsTableWithout, HasFittingLength, text_of, items_in, length_of, entries_in, holder_at, kind_of, supers_of, is_class_at, props_at, units_of, units_in, new_value, IsNextAbove};
 ghost use Rattle.t3_store.specs.Broken.{LacksSuper, IsOwnAncestor, IsNever, IsLeast, IsFirstBroken};
 ghost use Rattle.t3_store.specs.Whole.{IsWhole, supers_in};
@@ -168,7 +168,7 @@ impl Persistent {
     pub fn get(&self, number: u32, cell: &Cell) -> Option<Holder>
         ensures { result ≡ holder_at (get self.now number) cell.now }
     {
-        self.objects.get(number, cell).value()
+        self.objects.at(number).get(cell)
     }
 
     /// What the object of a number is. Numbers are from 1 on and below 2^31.
@@ -176,14 +176,14 @@ impl Persistent {
         ensures kind { result ≡ option_map kind_of (get self.now number) }
         ensures number { IsSome (get self.now number) → (0 < number) × (number < 2 ^ 31) }
     {
-        self.objects.kind(number)
+        self.objects.at(number).kind()
     }
 
     /// Whether the object of a number is a class.
     pub fn is_class(&self, number: u32) -> bool
         ensures { result ≡ is_class_at (get self.now number) }
     {
-        self.objects.is_class(number)
+        self.objects.at(number).is_class()
     }
 
     /// The properties of a tads-object with their values, by rising number.
@@ -193,28 +193,28 @@ impl Persistent {
             ≡ entries (props_at (get self.now number))) }
         ensures rising { IfOk result (λ props. IsStrictlyIncreasing (map (λ prop. prop.number) props)) }
     {
-        self.objects.props(alloc, number)
+        self.objects.at(number).props(alloc)
     }
 
     /// The bytes of a string. `None` exactly where the number isn't that of one.
     pub fn text(&self, number: u32) -> Option<&[u8]>
         ensures { option_map (λ bytes. bytes.now) result ≡ option_and_then text_of (get self.now number) }
     {
-        self.objects.text(number)
+        self.objects.at(number).text()
     }
 
     /// The items of a list. `None` exactly where the number isn't that of one.
     pub fn items(&self, number: u32) -> Option<&[Holder]>
         ensures { option_map (λ items. items.now) result ≡ option_and_then items_in (get self.now number) }
     {
-        self.objects.items(number)
+        self.objects.at(number).items()
     }
 
     /// How many elements a vector has. `None` exactly where the number isn't that of one.
     pub fn length(&self, number: u32) -> Option<u32>
         ensures { result ≡ option_and_then length_of (get self.now number) }
     {
-        self.objects.length(number)
+        self.objects.at(number).length()
     }
 
     /// The entries of a table, the oldest first.
@@ -222,7 +222,7 @@ impl Persistent {
         requires { IsSome (option_and_then entries_in (get self.now number)) }
         ensures { IfOk result (λ pairs. Some pairs ≡ option_and_then entries_in (get self.now number)) }
     {
-        self.objects.entries(alloc, number)
+        self.objects.at(number).entries(alloc)
     }
 
     /// The objects themselves.
@@ -247,7 +247,7 @@ impl Supers for Persistent {
     ghost numbers = { λ p. keys p };
 
     fn supers(&self, number: u32) -> Option<&[u32]> {
-        self.objects.supers(number)
+        self.objects.at(number).supers()
     }
 
     ghost covers = { λ p number live. has_number p number live };

@@ -1,28 +1,25 @@
-ghost use Rattle.std.specs.Prelude.{◌≡◌, ◌+◌, ◌<◌, ◌≤◌, ◌^◌, ◌↔◌, ◌||◌, ℕ, true, false, Some, None, Ok, Err, IsTrue, IsSome, IfOk, OnOk, OnErr, is_some, length, map, option_map, option_and_then};
+ghost use Rattle.std.specs.Prelude.{◌≡◌, ◌+◌, ◌<◌, ◌≤◌, ◌^◌, ◌||◌, Some, None, Ok, IsSome, IfOk, is_some, length, map, option_map, option_and_then};
 ghost use Rattle.std.specs.FinMap.{get, len, entries};
 ghost use Rattle.std.specs.List.Sorted.{IsStrictlyIncreasing};
-ghost use Rattle.t3_store.specs.Value.{Objects, holder_at, can_have_at, can_lose_at, can_be_written, new_value, text_of, items_in, length_of, entries_in, HasFittingLength, kind_of, supers_of, is_class_at, props_at, units_of, units_in};
-ghost use Rattle.t3_store.specs.Store.{AreLimits, AreBelow, value_at, objects_in, store_units, started, is_full_with, no_number, with_object, created_in, after_write, written, taken, set_cell, saved, undone, is_held, changed_cells};
-ghost use Rattle.t3_store.specs.Whole.{AreApart, IsWhole, HasGivenNumbers, HasSupersIn, supers_in, supers_among, supers_of_live, supers_for};
-ghost use Rattle.t3_store.specs.Inner.Shapes.{thing_of, tick_of, value_of, values};
-ghost use Rattle.t3_store.specs.Inner.Valid.{IsValid};
+ghost use Rattle.t3_store.specs.Value.{Objects, holder_at, text_of, items_in, length_of, entries_in, kind_of, supers_of, is_class_at, props_at, units_in};
+ghost use Rattle.t3_store.specs.Store.{AreLimits, AreBelow, value_at, objects_in, store_units, started, changed_cells};
+ghost use Rattle.t3_store.specs.Whole.{AreApart, IsWhole, HasGivenNumbers, supers_in, supers_among, supers_of_live};
+ghost use Rattle.t3_store.specs.Inner.Shapes.{values};
 ghost use Rattle.t3_tadsobj.specs.Order.{IsAcyclicFrom};
 
 use crate::kind::Kind;
-use crate::limits::{StoreLimits, StoreRefusal};
-use crate::new_object::NewObject;
-use crate::object::Object;
+use crate::limits::StoreLimits;
 use crate::object_map::ObjectMap;
+use crate::object_at::ObjectAt;
 use crate::persistent::Persistent;
-use crate::table_cells::cell_units;
-use crate::unit_rows::{pop_units, push_units};
-use crate::writing;
 use std::alloc::Global;
 use std::marker::Model;
 use t3_holder::{Holder, NoMemory};
 use t3_tables::Entries;
 use t3_tadsobj::{Props, Supers};
 use t3_undo::{Cell, Journal};
+
+mod changing;
 
 /// The objects of a run by their numbers, persistent and transient, with savepoints.
 ///
@@ -109,7 +106,7 @@ impl Store {
     pub fn get(&self, number: u32, cell: &Cell) -> Option<Holder>
         ensures { result ≡ holder_at (value_at self.now.store number) cell.now }
     {
-        self.half(number).get(number, cell).value()
+        self.at(number).get(cell)
     }
 
     /// What the object of a number is. No walk over superclasses from any number comes back.
@@ -119,14 +116,14 @@ impl Store {
         ensures acyclic { IsAcyclicFrom (supers_of_live self.now.store) number }
     {
         let _ = &self.alloc;
-        self.half(number).kind(number)
+        self.at(number).kind()
     }
 
     /// Whether the object of a number is a class.
     pub fn is_class(&self, number: u32) -> bool
         ensures { result ≡ is_class_at (value_at self.now.store number) }
     {
-        self.half(number).is_class(number)
+        self.at(number).is_class()
     }
 
     /// The properties of a tads-object with their values, by rising number.
@@ -136,7 +133,7 @@ impl Store {
             ≡ entries (props_at (value_at self.now.store number))) }
         ensures rising { IfOk result (λ props. IsStrictlyIncreasing (map (λ prop. prop.number) props)) }
     {
-        self.half(number).props(alloc, number)
+        self.at(number).props(alloc)
     }
 
     /// The bytes of a string. `None` exactly where the number isn't that of one.
@@ -144,7 +141,7 @@ impl Store {
         ensures { option_map (λ bytes. bytes.now) result
             ≡ option_and_then text_of (value_at self.now.store number) }
     {
-        self.half(number).text(number)
+        self.at(number).text()
     }
 
     /// The items of a list. `None` exactly where the number isn't that of one.
@@ -152,14 +149,14 @@ impl Store {
         ensures { option_map (λ items. items.now) result
             ≡ option_and_then items_in (value_at self.now.store number) }
     {
-        self.half(number).items(number)
+        self.at(number).items()
     }
 
     /// How many elements a vector has. `None` exactly where the number isn't that of one.
     pub fn length(&self, number: u32) -> Option<u32>
         ensures { result ≡ option_and_then length_of (value_at self.now.store number) }
     {
-        self.half(number).length(number)
+        self.at(number).length()
     }
 
     /// The entries of a table, the oldest first.
@@ -168,233 +165,19 @@ impl Store {
         ensures { IfOk result (λ pairs. Some pairs
             ≡ option_and_then entries_in (value_at self.now.store number)) }
     {
-        self.half(number).entries(alloc, number)
+        self.at(number).entries(alloc)
     }
 
-    /// The half in which the object of a number is, if it is in any.
+    /// What stands under a number. To ask more than one thing of an object, ask this once.
     #[inline(always)]
-    fn half(&self, number: u32) -> &ObjectMap
-        ensures { get (values result.now.objects) number ≡ value_at self.now.store number }
+    pub fn at(&self, number: u32) -> ObjectAt<'_>
+        ensures { result ≡ value_at self.now.store number }
     {
-        if self.persistent.has(number) {
-            &self.persistent
-        } else {
-            &self.transient
+        let object = self.persistent.at(number);
+        if object.is_object() {
+            return object;
         }
-    }
-
-    /// Makes an object, and gives its number. `Full` comes exactly where there is no room for it, or no
-    /// number is left.
-    pub fn create(&mut self, what: NewObject, transient: bool) -> Result<u32, StoreRefusal>
-        requires supers { HasSupersIn (supers_for transient self.old.store) (new_value what) }
-        requires length { HasFittingLength (new_value what) }
-        ensures full { (result ≡ Err StoreRefusal.Full)
-            ↔ (created_in (new_value what) transient self.old.store ≡ None) }
-        ensures ok { IfOk result (λ number. created_in (new_value what) transient self.old.store
-            ≡ Some (number, self.new.store)) }
-        ensures fresh { IfOk result (λ number. value_at self.old.store number ≡ None) }
-        ensures savepoints { self.new.savepoints ≡ self.old.savepoints }
-        ensures writes { self.new.writes ≡ self.old.writes }
-        ensures err { OnErr result (self.new ≡ self.old) }
-    {
-        let units = what.units();
-        if self.is_full(1, units) || self.has_no_number(transient) {
-            return Err(StoreRefusal::Full);
-        }
-        let object = what.make(self.alloc)?;
-        let number = if transient {
-            self.add_transient(object, units as u32)?
-        } else {
-            self.add_persistent(object, units as u32)?
-        };
-        Ok(number)
-    }
-
-    /// Sets a cell of an object, or takes it away where there is no value. A vector's element is set where it
-    /// is there, or is the next one and at most number 65,535; and only the last one is taken away.
-    ///
-    /// `Full` comes exactly where an absent cell is to be set for which there is no room.
-    pub fn write(
-        &mut self,
-        number: u32,
-        cell: Cell,
-        value: Option<Holder>,
-    ) -> Result<(), StoreRefusal>
-        requires can { IsTrue (can_be_written value (value_at self.old.store number) cell) }
-        requires few { self.old.writes < 2 ^ 63 }
-        ensures full { (result ≡ Err StoreRefusal.Full)
-            ↔ (after_write number cell value self.old.store ≡ None) }
-        ensures ok { OnOk result (after_write number cell value self.old.store ≡ Some self.new.store) }
-        ensures writes { OnOk result (self.new.writes ≡ self.old.writes + 1) }
-        ensures savepoints { self.new.savepoints ≡ self.old.savepoints }
-        ensures err { OnErr result (self.new ≡ self.old) }
-    {
-        match value {
-            Some(value) => self.set(number, cell, value),
-            None => {
-                self.take(number, cell);
-                Ok(())
-            }
-        }
-    }
-
-    /// Sets a cell of an object.
-    fn set(&mut self, number: u32, cell: Cell, value: Holder) -> Result<(), StoreRefusal>
-        requires can { IsTrue (can_have_at (value_at self.old.store number) cell) }
-        requires few { self.old.writes < 2 ^ 63 }
-        ensures full { (result ≡ Err StoreRefusal.Full) ↔ (written number cell value self.old.store ≡ None) }
-        ensures ok { OnOk result (written number cell value self.old.store ≡ Some self.new.store) }
-        ensures writes { OnOk result (self.new.writes ≡ self.old.writes + 1) }
-        ensures savepoints { self.new.savepoints ≡ self.old.savepoints }
-        ensures err { OnErr result (self.new ≡ self.old) }
-    {
-        let full = self.is_full(0, cell_units(&cell));
-        if self.persistent.has(number) {
-            let old = writing::set(&mut self.persistent, self.alloc, number, &cell, value, full)?;
-            self.journal.note(number, cell, old);
-            self.writes += 1;
-            return Ok(());
-        }
-        let _old = writing::set(&mut self.transient, self.alloc, number, &cell, value, full)?;
-        self.writes += 1;
-        Ok(())
-    }
-
-    /// Takes a cell of an object away, if it is present. No memory is taken.
-    fn take(&mut self, number: u32, cell: Cell)
-        requires can { IsTrue (can_lose_at (value_at self.old.store number) cell) }
-        requires few { self.old.writes < 2 ^ 63 }
-        ensures { self.new ≡ record self.old {
-          store = taken number cell self.old.store;
-          writes = self.old.writes + 1;
-        } }
-    {
-        if self.get(number, &cell).is_none() {
-            self.writes += 1;
-            return;
-        }
-        if self.persistent.has(number) {
-            let old = writing::take(&mut self.persistent, number, &cell);
-            self.journal.note(number, cell, old);
-            self.writes += 1;
-            return;
-        }
-        let _old = writing::take(&mut self.transient, number, &cell);
-        self.writes += 1;
-    }
-
-    /// Whether so many more objects or units would be more than the limits say.
-    fn is_full(&self, objects: u32, units: u64) -> bool
-        ensures { result ≡ is_full_with objects units self.now.store }
-    {
-        let count = self.persistent.len() + self.transient.len() + u64::from(objects);
-        let sum = u64::from(self.persistent.units()) + u64::from(self.transient.units());
-        let limit = u64::from(self.limits.units);
-        count > u64::from(self.limits.objects) || sum > limit || units > limit - sum
-    }
-
-    /// Whether no number is left in a half.
-    fn has_no_number(&self, transient: bool) -> bool
-        ensures { result ≡ no_number transient self.now.store }
-    {
-        if transient {
-            self.next_transient >= 0x1_0000_0000
-        } else {
-            self.next >= 0x8000_0000
-        }
-    }
-
-    /// Adds a persistent object, which counts so many units.
-    fn add_persistent(&mut self, object: Object, units: u32) -> Result<u32, NoMemory>
-        requires units { units ≡ units_of (value_of (thing_of object)) }
-        requires room { is_full_with 1 units self.old.store ≡ false }
-        requires number { no_number false self.old.store ≡ false }
-        requires supers { HasSupersIn (supers_in self.old.store.persistent) (value_of (thing_of object)) }
-        requires valid { IsValid (thing_of object) }
-        requires tick { tick_of object ≤ 1 }
-        ensures number { IfOk result (λ number. number ≡ self.old.store.next) }
-        ensures fresh { IfOk result (λ number. value_at self.old.store number ≡ None) }
-        ensures ok { OnOk result (self.new ≡ record self.old {
-          store = with_object (value_of (thing_of object)) false self.old.store;
-        }) }
-        ensures err { OnErr result (self.new ≡ self.old) }
-    {
-        let number = self.next;
-        self.persistent.add(number, object, units)?;
-        self.next = number + 1;
-        Ok(number)
-    }
-
-    /// Adds a transient object, which counts so many units.
-    fn add_transient(&mut self, object: Object, units: u32) -> Result<u32, NoMemory>
-        requires units { units ≡ units_of (value_of (thing_of object)) }
-        requires room { is_full_with 1 units self.old.store ≡ false }
-        requires number { no_number true self.old.store ≡ false }
-        requires supers { HasSupersIn (supers_of_live self.old.store) (value_of (thing_of object)) }
-        requires valid { IsValid (thing_of object) }
-        requires tick { tick_of object ≤ 1 }
-        ensures number { IfOk result (λ number. number ≡ self.old.store.next_transient) }
-        ensures fresh { IfOk result (λ number. value_at self.old.store number ≡ None) }
-        ensures ok { OnOk result (self.new ≡ record self.old {
-          store = with_object (value_of (thing_of object)) true self.old.store;
-        }) }
-        ensures err { OnErr result (self.new ≡ self.old) }
-    {
-        let number = self.next_transient as u32;
-        self.transient.add(number, object, units)?;
-        self.next_transient += 1;
-        Ok(number)
-    }
-
-    /// Makes a savepoint. Where there are as many as the limit says, the oldest goes. No memory is taken.
-    pub fn savepoint(&mut self)
-        requires { self.old.savepoints < 2 ^ 63 }
-        ensures { self.new ≡ record self.old {
-          store = saved self.old.store;
-          savepoints = self.old.savepoints + 1;
-        } }
-    {
-        push_units(
-            &mut self.units,
-            self.limits.savepoints,
-            self.persistent.units(),
-        );
-        self.journal.mark(self.next);
-    }
-
-    /// Puts the newest savepoint's copy in place of the persistent objects, and ends it. `false` exactly where
-    /// none is held, and then nothing changes. No memory is taken.
-    pub fn undo(&mut self) -> bool
-        ensures store { self.new ≡ record self.old { store = undone self.old.store } }
-        ensures answer { result ≡ is_held self.old.store.marks }
-    {
-        match self.journal.newest_next() {
-            Some(next) => {
-                let units = pop_units(&mut self.units);
-                self.persistent.undo(&mut self.journal, next, units);
-                true
-            }
-            None => false,
-        }
-    }
-
-    /// Sets a present cell of an object. No memory is taken.
-    pub fn overwrite(&mut self, number: u32, cell: Cell, value: Holder)
-        requires present { IsSome (holder_at (value_at self.old.store number) cell) }
-        requires few { self.old.writes < 2 ^ 63 }
-        ensures { self.new ≡ record self.old {
-          store = set_cell number cell value self.old.store;
-          writes = self.old.writes + 1;
-        } }
-    {
-        if self.persistent.has(number) {
-            let old = writing::overwrite(&mut self.persistent, number, &cell, value);
-            self.journal.note(number, cell, old);
-            self.writes += 1;
-            return;
-        }
-        let _old = writing::overwrite(&mut self.transient, number, &cell, value);
-        self.writes += 1;
+        self.transient.at(number)
     }
 
     /// How many savepoints are held.
@@ -479,7 +262,7 @@ impl Supers for Store {
 
     #[inline(always)]
     fn supers(&self, number: u32) -> Option<&[u32]> {
-        self.half(number).supers(number)
+        self.at(number).supers()
     }
 
     ghost covers = { λ s number live. has_number_in s.store number live };

@@ -1,8 +1,9 @@
 -- Objects as what never changes of each, its shape, and its parts; and what value that is.
-use Rattle.std.specs.Prelude.{◌≡◌, ◌+◌, ◌≤◌, ℕ, zero, suc, Bool, false, List, [], ◌∷◌, ◌++◌, length, Option, None, Some, map, nat_lt, refl}
+use Rattle.std.specs.Prelude.{◌≡◌, ◌+◌, ◌≤◌, ℕ, zero, suc, Bool, false, List, [], ◌∷◌, ◌++◌, length, Option, None, Some, map, option_map, nat_lt, refl}
 use Rattle.std.specs.Ordering.{nat_cmp}
 use Rattle.std.specs.FinMap.{FinMap, empty, get, insert, retain_keys, entries, from_entries, code as coded_map}
 use Rattle.std.specs.FinSet as set
+use Rattle.std.specs.Borrow.{Bor}
 use Rattle.std.specs.Coded.{Coded, code_by, coded×, coded_ℕ, coded_bool, coded_list}
 use Rattle.t3_undo.specs.Content.{Parts, Places, Present, coded_parts, coded_places, coded_holder}
 use Rattle.t3_undo.specs.Objects.{Objects, set_at, set_cell, adjust}
@@ -70,6 +71,10 @@ value_by TableShape parts = Table (entries_of parts) (default_of parts)
 -- the value of an object
 abbrev pub value_of : Shape × Parts → Value
 value_of thing = value_by thing.0 thing.1
+
+-- the value of what stands under a number
+abbrev pub value_under : Option (Bor Object) → Option Value
+value_under object = option_map (λ o. value_of (thing_of o.now)) object
 
 -- the values of objects
 unfoldable pub values : Objects Shape → FinMap nat_cmp Value
