@@ -29,6 +29,8 @@ mod laws;
 mod line;
 mod lines;
 mod listing;
+#[cfg(test)]
+mod listing_tests;
 mod numbers;
 mod quoted;
 mod refusal;

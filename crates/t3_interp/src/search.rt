@@ -9,7 +9,6 @@ use std::alloc::Global;
 use t3_holder::{Holder, NoMemory};
 use t3_store::Store;
 use t3_tadsobj::{Supers, linear_order};
-use t3_undo::Cell;
 
 /// A property that was found.
 #[derive(Clone, Copy)]
@@ -64,7 +63,7 @@ fn next_place(store: &Store, at: u32, property: u16) -> Place
     ensures { result ≡ place_at store.now.store at property }
 {
     let object = store.at(at);
-    if let Some(value) = object.get(&Cell::Prop(property)) {
+    if let Some(value) = object.prop(property) {
         return Place::Here(value);
     }
     match object.supers() {
@@ -134,7 +133,7 @@ fn first_with(store: &Store, numbers: &[u32], property: u16) -> Option<Found>
     ensures { found_value result ≡ searched store.now.store property numbers.now }
 {
     for number in numbers {
-        if let Some(value) = store.get(*number, &Cell::Prop(property)) {
+        if let Some(value) = store.at(*number).prop(property) {
             return Some(Found {
                 defining: *number,
                 value,

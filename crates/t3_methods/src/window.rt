@@ -52,10 +52,25 @@ impl<'b> Window<'b> {
     {
         let window = Window::in_page(pools, address);
         if window.bytes.len() < WINDOW_SIZE {
-            let count = gather(pools, address, room);
-            return Window::new(address, &room[..count]);
+            return window.over_pages(pools, room);
         }
         window
+    }
+
+    /// The bytes of a page, and behind them those of the next ones, gathered in the room.
+    #[inline(always)]
+    pub(crate) fn over_pages(
+        self,
+        pools: &'b Pools,
+        room: &'b mut [u8; WINDOW_SIZE],
+    ) -> Window<'b>
+        requires shows { Shows pools.now.code self.address self.bytes.now }
+        requires beyond { (far : ℕ) → 2 ^ 31 ≤ far → get pools.now.code far ≡ None }
+        ensures at { result.address ≡ self.entry.address }
+        ensures shows { ShowsAll pools.now.code self.entry.address result.bytes.now }
+    {
+        let count = gather(pools, &self, room);
+        Window::new(self.address, &room[..count])
     }
 
     /// The byte at a place, or 0 where none stands there.
@@ -129,18 +144,18 @@ impl<'b> Window<'b> {
     }
 }
 
-/// Puts the bytes from an address on into a room, page by page, until the room is full or no byte stands
-/// there. The answer is how many they are.
-#[cold]
+/// Puts the bytes of a page into a room, and behind them those of the next ones, until the room is full or
+/// no byte stands there. The answer is how many they are.
 #[inline(never)]
-fn gather(pools: &Pools, address: u32, room: &mut [u8; WINDOW_SIZE]) -> usize
-    requires { (far : ℕ) → 2 ^ 31 ≤ far → get pools.now.code far ≡ None }
+fn gather(pools: &Pools, window: &Window, room: &mut [u8; WINDOW_SIZE]) -> usize
+    requires shows { Shows pools.now.code window.now.address window.now.bytes.now }
+    requires beyond { (far : ℕ) → 2 ^ 31 ≤ far → get pools.now.code far ≡ None }
     ensures few { result ≤ 10 }
-    ensures shows { ShowsAll pools.now.code address (take result room.new) }
+    ensures shows { ShowsAll pools.now.code window.now.address (take result room.new) }
 {
-    let mut count = 0;
+    let mut count = copy_front(window.bytes, room);
     while count < WINDOW_SIZE {
-        let run = pools.run(CODE, address + count as u32);
+        let run = pools.run(CODE, window.address + count as u32);
         if run.is_empty() {
             return count;
         }

@@ -3,8 +3,9 @@ ghost use Rattle.std.specs.List.Sorted.{IsStrictlyIncreasing};
 ghost use Rattle.std.specs.FinMap.{get, entries};
 ghost use Rattle.std.specs.FinSet as set;
 ghost use Rattle.t3_undo.specs.Content.{shown, is_form};
+ghost use Rattle.t3_undo.specs.declared.cell.Cell.TheVariants.{Prop};
 ghost use Rattle.t3_undo.specs.Objects.{with_part};
-ghost use Rattle.t3_store.specs.Value.{kind_of, supers_of, is_class_of, props_in, text_of, items_in, length_of, entries_in, with_cell, can_have, units_of};
+ghost use Rattle.t3_store.specs.Value.{holder_in, kind_of, supers_of, is_class_of, props_in, text_of, items_in, length_of, entries_in, with_cell, can_have, units_of};
 ghost use Rattle.t3_store.specs.Inner.Shapes.{thing_of, places_of, tick_of, value_of, tick_behind, risen};
 ghost use Rattle.t3_store.specs.Inner.Valid.{IsValid};
 
@@ -42,6 +43,17 @@ impl Object {
             Object::List(list) => list.get(cell),
             Object::Vector(vector) => vector.get(cell),
             Object::Table(table) => table.get(cell),
+        }
+    }
+
+    /// The value of a property of a tads-object.
+    #[inline(always)]
+    pub(crate) fn prop(&self, number: u16) -> Option<Holder>
+        ensures { result ≡ holder_in (value_of (thing_of self.now)) (Prop number) }
+    {
+        match self {
+            Object::Tads(object) => object.prop(number),
+            _ => None,
         }
     }
 

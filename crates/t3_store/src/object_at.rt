@@ -2,6 +2,7 @@
 ghost use Rattle.std.specs.Prelude.{◌≡◌, Some, IsSome, IfOk, is_some, option_map, option_and_then, map};
 ghost use Rattle.std.specs.List.Sorted.{IsStrictlyIncreasing};
 ghost use Rattle.std.specs.FinMap.{entries};
+ghost use Rattle.t3_undo.specs.declared.cell.Cell.TheVariants.{Prop};
 ghost use Rattle.t3_store.specs.Value.{holder_at, kind_of, supers_of, is_class_at, props_at, text_of, items_in, length_of, entries_in};
 
 use crate::kind::Kind;
@@ -65,6 +66,17 @@ impl<'o> ObjectAt<'o> {
     {
         match self.object {
             Some(object) => object.get(cell).value(),
+            None => None,
+        }
+    }
+
+    /// The value of a property of it. `None` exactly where it isn't a tads-object, or hasn't the property.
+    #[inline(always)]
+    pub fn prop(&self, number: u16) -> Option<Holder>
+        ensures { result ≡ holder_at self.now (Prop number) }
+    {
+        match self.object {
+            Some(object) => object.prop(number),
             None => None,
         }
     }

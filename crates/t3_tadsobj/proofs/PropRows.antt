@@ -7,7 +7,7 @@ use Rattle.std.specs.Option.{option_map}
 use Rattle.std.specs.Map.{keys_of}
 use Rattle.std.specs.List.{IsDistinct, AllByRecursion}
 use Rattle.std.specs.List.Sorted.{IsStrictlySortedBy}
-use Rattle.std.specs.FinMap.{entries, entries_sorted, get-entries, nat_cmp-IsAntisymmetric}
+use Rattle.std.specs.FinMap.{get, entries, entries_sorted, get-entries, nat_cmp-IsAntisymmetric}
 use Rattle.std.specs.FinMap.Entries.{find, below_all, is_sorted, same_entries}
 use Rattle.std.proofs.lemmas.Map.{lookup-none}
 use Rattle.std.proofs.lemmas.Map.Entries.{none_past_head}
@@ -15,7 +15,7 @@ use Rattle.std.proofs.lemmas.Map.Keys.{IsDistinct-from_sorted}
 use Rattle.t3_holder.specs.declared.holder.Holder.{Holder}
 use Rattle.t3_undo.specs.Content.{Present, shown}
 use Rattle.t3_tadsobj.specs.Object.{props_of}
-use Rattle.t3_tadsobj.specs.Inner.Entries.{content_at, parts_in, listed}
+use Rattle.t3_tadsobj.specs.Inner.Entries.{content_at, value_at, parts_in, listed}
 use Rattle.t3_tadsobj.proofs.PropLists.{get-props_of}
 use Rattle.t3_tadsobj.proofs.EntryLists.{Entries, at, get-Prop}
 
@@ -32,11 +32,6 @@ pub numbers-listed : (es : Entries) → map (λ p. p.number) (listed es) ≡ key
 numbers-listed [] = refl
 numbers-listed ((n, None) ∷ es) = numbers-listed es
 numbers-listed ((n, Some value) ∷ es) = ap (λ xs. n ∷ xs) (numbers-listed es)
-
--- the value of an entry
-abbrev value_at : Option (Option Holder) → Option Holder
-value_at None = None
-value_at (Some o) = o
 
 value-cond : (b : Bool) (o : Option Holder) (rest : Option (Option Holder)) → value_at (cond b (Some o) rest) ≡ cond b o (value_at rest)
 value-cond true o rest = refl
@@ -89,6 +84,11 @@ shown-value None = refl
 shown-value (Some None) = refl
 shown-value (Some (Some value)) = refl
 
+-- a property of the parts
+pub get-prop : (es : Entries) (n : ℕ) → get (props_of (parts_in es)) n ≡ value_at (at n es)
+get-prop es n =
+    get-props_of (parts_in es) n ∙ ap (option_map (λ (p : Present). p.value)) (get-Prop es n) ∙ shown-value (at n es)
+
 -- they are the properties of the parts
 pub rows-props : (es : Entries) → IsStrictlySortedBy nat_cmp (keys_of es) → rows es ≡ entries (props_of (parts_in es))
 rows-props es rise =
@@ -96,8 +96,7 @@ rows-props es rise =
     (from_true _ (sorted (rows es) (rising-rows es rise)))
     (entries_sorted (props_of (parts_in es)))
     (λ n. find-rows es (IsDistinct-from_sorted nat_cmp (keys_of es) rise) n
-    ∙ sym (sym (get-entries (props_of (parts_in es)) n) ∙ get-props_of (parts_in es) n
-    ∙ ap (option_map (λ (p : Present). p.value)) (get-Prop es n) ∙ shown-value (at n es)))
+    ∙ sym (sym (get-entries (props_of (parts_in es)) n) ∙ get-prop es n))
 
 -- numbers that rise are distinct
 pub distinct : (numbers : List ℕ) → IsStrictlySortedBy nat_cmp numbers → IsDistinct nat_eq numbers

@@ -3,9 +3,9 @@
 //!
 //! ```text
 //! let mut object = TadsObject::new(alloc);
-//! object.make_place(Cell::Prop(9))?;                          // the one step that takes memory
+//! object.make_place(Cell::Prop(9))?;                          // takes memory, so that `put` takes none
 //! object.put(&Cell::Prop(9), Content::Held(Holder::Int(1)));  // Content::Absent stood there
-//! object.props(alloc)?;                                       // the properties, by rising number
+//! object.props(alloc)?;                                       // a list of the properties, by rising number
 //! ```
 //!
 //! [`linear_order`] takes any view of objects that answers their superclasses ([`Supers`]), as long as no

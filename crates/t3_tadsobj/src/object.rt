@@ -7,7 +7,7 @@ ghost use Rattle.std.specs.Ordering.{nat_cmp};
 ghost use Rattle.t3_undo.specs.Content.{shown, is_form, places_for};
 ghost use Rattle.t3_undo.specs.Objects.{set_at};
 ghost use Rattle.t3_tadsobj.specs.Object.{bare, is_prop, props_of};
-ghost use Rattle.t3_tadsobj.specs.Inner.Entries.{content_of, content_at, listed};
+ghost use Rattle.t3_tadsobj.specs.Inner.Entries.{content_of, content_at, value_at, listed};
 
 use crate::props::{PropValue, Props};
 use std::alloc::Global;
@@ -86,6 +86,14 @@ impl TadsObject {
     {
         self.props.insert(number, Some(value))?;
         Ok(())
+    }
+
+    /// The value of a property, if it is present.
+    #[inline(always)]
+    pub fn prop(&self, number: u16) -> Option<Holder>
+        ensures { result ≡ get (props_of self.now.parts) number }
+    {
+        value_at(&self.props, number)
     }
 
     /// The present properties with their values, by rising number.
@@ -204,6 +212,17 @@ fn content_at(entries: &Entries, number: u16) -> Content
     match entries.get(&number) {
         Some(value) => content_of(*value),
         None => Content::Absent,
+    }
+}
+
+/// The value under a number.
+#[inline(always)]
+fn value_at(entries: &Entries, number: u16) -> Option<Holder>
+    ensures { result ≡ value_at (tree.get nat_cmp entries.now number) }
+{
+    match entries.get(&number) {
+        Some(value) => *value,
+        None => None,
     }
 }
 

@@ -21,6 +21,11 @@ abbrev pub content_at : Option (Option Holder) → Content
 content_at None = contents.Absent
 content_at (Some value) = content_of value
 
+-- the value of a property, from what its entry has
+abbrev pub value_at : Option (Option Holder) → Option Holder
+value_at None = None
+value_at (Some value) = value
+
 -- entries as slots
 abbrev pub slots_of : List (ℕ × Option Holder) → List (Cell × Content)
 slots_of es = map (λ e. (cells.Prop e.0, content_of e.1)) es
