@@ -1,9 +1,7 @@
 -- The number in a part of bytes.
 use Rattle.std.proofs.Common.{◌≡◌, ℕ, suc, ◌+◌, ◌*◌, ◌^◌, ◌<◌, ◌≤◌, cond, List, [], ◌∷◌, ◌++◌, length, take, drop, get_or, refl, sym, ap, ◌∙◌, arith}
 use Rattle.std.proofs.lemmas.Bool.{le-leb, lt-leb}
-use Rattle.std.proofs.lemmas.List.{drop_more, length-take-le, take-append-le}
-use lib.Seq.{take-append-add}
-use borrow.Rule.Slice.PartMut.{put_mid, post_of}
+use Rattle.std.proofs.lemmas.List.{drop_more}
 use Rattle.t3_holder.specs.NumberText.{little_endian, value_of, AreBytes}
 use Rattle.t3_holder.proofs.Numbers.{value_of-little_endian}
 use Rattle.t3_methods.specs.Inner.Window.{number_at}
@@ -39,12 +37,3 @@ AreBytes-each (x ∷ bytes) each = (each 0, AreBytes-each bytes (λ i. each (suc
 pub AreBytes-append : (a b : List ℕ) → AreBytes a → AreBytes b → AreBytes (a ++ b)
 AreBytes-append [] b are_a are_b = are_b
 AreBytes-append (x ∷ a) b are_a are_b = (are_a.0, AreBytes-append a b are_a.1 are_b)
-
--- the front of a room that was written behind its first bytes
-pub take_over : (a k r : ℕ) (room part : List ℕ) → a ≤ length room → r ≤ length part → take (a + r) (put_mid a k room part) ≡ take a room ++ take r part
-take_over a k r room part le few =
-    let rest = post_of a k room in
-    let long = length-take-le a room le in
-    ap (λ n. take (n + r) (take a room ++ (part ++ rest))) (sym long)
-    ∙ take-append-add (take a room) (part ++ rest) r
-    ∙ ap (λ t. take a room ++ t) (take-append-le r part rest few)

@@ -53,6 +53,7 @@ pub fn decode_at(pools: &Pools, address: u32) -> Result<Decoded, CodeRefusal>
 }
 
 /// The instruction at the front of a page's bytes, which may go over its border.
+#[cold]
 #[inline(never)]
 fn decode_over(pools: &Pools, window: Window) -> Result<Decoded, CodeRefusal>
     requires shows { Shows pools.now.code window.address window.bytes.now }

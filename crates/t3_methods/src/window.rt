@@ -1,6 +1,6 @@
 //! The bytes of an instruction, a header, a case or an entry of an exception table, looked at where they
 //! stand.
-ghost use Rattle.std.specs.Prelude.{◌≡◌, ◌≤◌, ◌<◌, ◌^◌, ℕ, None, length, take, min};
+ghost use Rattle.std.specs.Prelude.{◌≡◌, ◌≤◌, ◌<◌, ◌^◌, ℕ, None, length, take};
 ghost use Rattle.std.specs.FinMap.{get};
 ghost use Rattle.std.specs.Int.{w8, w16, w32, cast_signed};
 ghost use Rattle.t3_holder.specs.NumberText.{AreBytes};
@@ -59,11 +59,7 @@ impl<'b> Window<'b> {
 
     /// The bytes of a page, and behind them those of the next ones, gathered in the room.
     #[inline(always)]
-    pub(crate) fn over_pages(
-        self,
-        pools: &'b Pools,
-        room: &'b mut [u8; WINDOW_SIZE],
-    ) -> Window<'b>
+    pub(crate) fn over_pages(self, pools: &'b Pools, room: &'b mut [u8; WINDOW_SIZE]) -> Window<'b>
         requires shows { Shows pools.now.code self.address self.bytes.now }
         requires beyond { (far : ℕ) → 2 ^ 31 ≤ far → get pools.now.code far ≡ None }
         ensures at { result.address ≡ self.entry.address }
@@ -146,6 +142,7 @@ impl<'b> Window<'b> {
 
 /// Puts the bytes of a page into a room, and behind them those of the next ones, until the room is full or
 /// no byte stands there. The answer is how many they are.
+#[cold]
 #[inline(never)]
 fn gather(pools: &Pools, window: &Window, room: &mut [u8; WINDOW_SIZE]) -> usize
     requires shows { Shows pools.now.code window.now.address window.now.bytes.now }
@@ -153,27 +150,16 @@ fn gather(pools: &Pools, window: &Window, room: &mut [u8; WINDOW_SIZE]) -> usize
     ensures few { result ≤ 10 }
     ensures shows { ShowsAll pools.now.code window.now.address (take result room.new) }
 {
-    let mut count = copy_front(window.bytes, room);
-    while count < WINDOW_SIZE {
-        let run = pools.run(CODE, window.address + count as u32);
-        if run.is_empty() {
-            return count;
+    let mut rest = window.bytes;
+    for count in 0..WINDOW_SIZE {
+        if rest.is_empty() {
+            rest = Window::in_page(pools, window.address + count as u32).bytes;
         }
-        count += copy_front(run, &mut room[count..]);
+        let Some((byte, trailing)) = rest.split_first() else {
+            return count;
+        };
+        room[count] = *byte;
+        rest = trailing;
     }
-    count
-}
-
-/// Copies the first bytes to the front of a room, as many as there are or the room takes. The answer is how
-/// many they are.
-#[inline(always)]
-fn copy_front(bytes: &[u8], room: &mut [u8]) -> usize
-    ensures few { result ≡ min (length bytes.now) (length room.old) }
-    ensures same { take result room.new ≡ take result bytes.now }
-    ensures long { length room.new ≡ length room.old }
-    ensures are { AreBytes bytes.now }
-{
-    let count = bytes.len().min(room.len());
-    room[..count].copy_from_slice(&bytes[..count]);
-    count
+    WINDOW_SIZE
 }

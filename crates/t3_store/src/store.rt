@@ -9,8 +9,8 @@ ghost use Rattle.t3_tadsobj.specs.Order.{IsAcyclicFrom};
 
 use crate::kind::Kind;
 use crate::limits::StoreLimits;
-use crate::object_map::ObjectMap;
 use crate::object_at::ObjectAt;
+use crate::object_map::ObjectMap;
 use crate::persistent::Persistent;
 use std::alloc::Global;
 use std::marker::Model;

@@ -1,37 +1,50 @@
-use Rattle.std.proofs.Common.{◌≡◌, ◌≢◌, ◌+◌, ◌-◌, ◌^◌, ◌<◌, ◌≤◌, ℕ, List, [], ◌++◌, length, take, true≢false, sym, ap, subst, ◌∙◌, arith}
-use Rattle.std.specs.Bool.{◌==◌}
-use Rattle.std.proofs.lemmas.List.{length-take-le, length-drop}
+use Rattle.std.proofs.Common.{◌≡◌, ◌+◌, ◌<◌, ◌^◌, ℕ, List, [], ◌∷◌, Bor, length, take, sym, ap, subst, ◌∙◌, arith}
+use Rattle.std.specs.FinMap.{get}
+use Rattle.std.proofs.lemmas.List.{length-take-le, length-set, take_more_set}
 use Rattle.t3_holder.specs.NumberText.{AreBytes}
 use Rattle.t3_pools.specs.Pool.{HasBytes}
-use Rattle.t3_pools.proofs.Standing.{stands_both, stands_take}
-use Rattle.t3_methods.proofs.Windows.{AreBytes-append, take_over}
-use Rattle.t3_blocks.proofs.Lists.{AreBytes-take}
-use borrow.Rule.Slice.PartMut.{put_mid, mid_of, same_len_mid}
+use Rattle.t3_pools.proofs.Standing.{stands_both}
+use Rattle.t3_methods.proofs.Windows.{AreBytes-append}
 use Rattle.t3_methods.proofs.window.gather.Goals as goal
+use Rattle.t3_methods.proofs.window.gather.Goals.{then-is_empty, else-is_empty}
 
 pub loop-count-preserved : goal.loop-count-preserved
 loop-count-preserved c =
     let code = c.args.pools.now.code in
     let room : List ℕ = c.loop-count.room in
-    let part : List ℕ = c.copy_front-count-in-loop-count.new.room in
-    let run : List ℕ = c.run-run.result.now in
     let count : ℕ = c.loop-count.count in
-    let more : ℕ = c.copy_front-count-in-loop-count.result in
+    let here : ℕ = c.args.window.now.address + count in
+    let bytes : List ℕ = c.if-is_empty.rest.now in
+    let byte : ℕ = c.in-Some.byte.now in
+    let trailing : List ℕ = c.in-Some.trailing.now in
     let kept = c.loop-count.invariant in
-    let left : length (mid_of count (10 - count) room) ≡ 10 - count = length-take-le (10 - count) _ (omega (arith, length-drop count room, kept.long, kept.few)) in
-    let few : more ≤ 10 - count = omega (arith, c.copy_front-count-in-loop-count.ensures.few, left) in
-    let run_few : more ≤ length run = omega (arith, c.copy_front-count-in-loop-count.ensures.few) in
-    let long = length-take-le count room (omega (arith, kept.long, kept.few)) in
-    let here : c.args.window.now.address + count ≡ c.args.window.now.address + length (take count room) = omega (arith, long) in
-    let front = take_over count (10 - count) more room part (omega (arith, kept.long, kept.few))
-    (omega (arith, c.copy_front-count-in-loop-count.ensures.long, left, few)) ∙ ap (λ t. take count room ++ t) c.copy_front-count-in-loop-count.ensures.same in
-    let stands : run ≢ [] = λ e. true≢false (sym (c.if-is_empty.ensures ∙ ap (λ (r : List ℕ). length r == 0) e)) in
+    let first : bytes ≡ byte ∷ trailing = c.in-Some.ensures.cases.0 in
+    let some : 0 < length bytes = omega (arith, ap length first) in
+    let are : AreBytes bytes = elim c.if-is_empty.branch [
+      then-is_empty w ↦ subst (λ (r : Bor (List ℕ)). AreBytes r.now) (sym w.rest-is) w.in_page.ensures.shows.are
+    | else-is_empty w ↦ subst (λ (r : Bor (List ℕ)). AreBytes r.now) (sym w.rest-is) kept.rest_are ] in
+    let stand : HasBytes code here bytes = elim c.if-is_empty.branch [
+      then-is_empty w ↦ subst (λ (r : Bor (List ℕ)). HasBytes code here r.now) (sym w.rest-is) w.in_page.ensures.shows.stands
+    | else-is_empty w ↦ subst (λ (r : Bor (List ℕ)). HasBytes code here r.now) (sym w.rest-is) kept.rest_stands ] in
+    let bounded : 0 < length bytes → here + length bytes < 2 ^ 31 = elim c.if-is_empty.branch [
+      then-is_empty w ↦ subst (λ (r : Bor (List ℕ)). 0 < length r.now → here + length r.now < 2 ^ 31) (sym w.rest-is)
+          w.in_page.ensures.shows.bounded
+    | else-is_empty w ↦ subst (λ (r : Bor (List ℕ)). 0 < length r.now → here + length r.now < 2 ^ 31) (sym w.rest-is)
+          kept.rest_bounded ] in
+    let long = length-take-le count room (omega (arith, kept.long)) in
+    let all_are : AreBytes (byte ∷ trailing) = subst AreBytes first are in
+    let all_stand : HasBytes code here (byte ∷ trailing) = subst (λ (b : List ℕ). HasBytes code here b) first stand in
+    let more = sym (take_more_set room count byte (omega (arith, kept.long))) in
+    let at : here ≡ c.args.window.now.address + length (take count room) = omega (arith, long) in
+    let next : here + 1 ≡ c.args.window.now.address + (count + 1) = omega arith in
     record {
-      few = omega (arith, few, kept.few);
-      below = λ some. omega (arith, c.run-run.ensures.bounded stands, run_few);
-      long = same_len_mid count (10 - count) room part c.copy_front-count-in-loop-count.ensures.long ∙ kept.long;
-      are = subst (λ (b : List ℕ). AreBytes b) (sym front) (AreBytes-append (take count room) (take more run) kept.are (AreBytes-take more run c.copy_front-count-in-loop-count.ensures.are));
-      stands = subst (λ (b : List ℕ). HasBytes code c.args.window.now.address b) (sym front)
-          (stands_both code (take count room) (take more run) c.args.window.now.address kept.stands
-          (subst (λ (a : ℕ). HasBytes code a (take more run)) here (stands_take code run (c.args.window.now.address + count) more c.run-run.ensures.stand)));
+      below = λ _. omega (arith, bounded some, ap length first);
+      long = length-set room count byte ∙ kept.long;
+      are = subst (λ (b : List ℕ). AreBytes b) more (AreBytes-append (take count room) (byte ∷ []) kept.are (all_are.0, tt));
+      stands = subst (λ (b : List ℕ). HasBytes code c.args.window.now.address b) more
+          (stands_both code (take count room) (byte ∷ []) c.args.window.now.address kept.stands
+          (subst (λ (a : ℕ). HasBytes code a (byte ∷ [])) at (all_stand.0, tt)));
+      rest_are = all_are.1;
+      rest_stands = subst (λ (a : ℕ). HasBytes code a trailing) next all_stand.1;
+      rest_bounded = λ _. omega (arith, bounded some, ap length first);
     }
