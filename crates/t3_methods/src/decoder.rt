@@ -1,7 +1,6 @@
 //! The instruction at an address: its row is found by the opcode, its operands are read where they stand,
 //! and then whether they stand whole.
-ghost use Rattle.std.specs.Prelude.{◌≡◌, ◌+◌, ◌<◌, ◌≤◌, ◌^◌, ℕ, None, IfOk};
-ghost use Rattle.std.specs.FinMap.{get};
+ghost use Rattle.std.specs.Prelude.{◌≡◌, ◌+◌, ◌<◌, ◌^◌, IfOk};
 ghost use Rattle.t3_methods.specs.Answers.{FindsInstr, found_of, IsOfRow};
 ghost use Rattle.t3_methods.specs.Inner.Window.{Shows};
 ghost use Rattle.t3_methods.specs.Inner.Decoding.{FindsInWindow};
@@ -24,7 +23,7 @@ pub fn instr_at(pools: &Pools, address: u32) -> Result<(Instr, u32), CodeRefusal
     ensures finds { FindsInstr pools.now.code address result }
     ensures within { IfOk result (λ found. address + found.1 < 2 ^ 31) }
 {
-    match decode_over(pools, Window::in_page(pools, address)) {
+    match decode_over(pools, address) {
         Ok(decoded) => Ok((decoded.instr, decoded.size)),
         Err(refusal) => Err(refusal),
     }
@@ -43,7 +42,7 @@ pub fn decode_at(pools: &Pools, address: u32) -> Result<Decoded, CodeRefusal>
         Ok(decoded) => Ok(decoded),
         // Taken apart, so that what stands in a page isn't kept in memory for the sake of this call.
         Err(CodeRefusal::Operand) if window.bytes.len() < WINDOW_SIZE => {
-            match decode_over(pools, window) {
+            match decode_over(pools, address) {
                 Ok(decoded) => Ok(decoded),
                 Err(refusal) => Err(refusal),
             }
@@ -52,18 +51,16 @@ pub fn decode_at(pools: &Pools, address: u32) -> Result<Decoded, CodeRefusal>
     }
 }
 
-/// The instruction at the front of a page's bytes, which may go over its border.
+/// As `decode_at`, where the instruction may go over the border of a page.
 #[cold]
 #[inline(never)]
-fn decode_over(pools: &Pools, window: Window) -> Result<Decoded, CodeRefusal>
-    requires shows { Shows pools.now.code window.address window.bytes.now }
-    requires beyond { (far : ℕ) → 2 ^ 31 ≤ far → get pools.now.code far ≡ None }
-    ensures finds { FindsInstr pools.now.code window.entry.address (found_of result) }
+fn decode_over(pools: &Pools, address: u32) -> Result<Decoded, CodeRefusal>
+    ensures finds { FindsInstr pools.now.code address (found_of result) }
     ensures row { IfOk result IsOfRow }
-    ensures within { IfOk result (λ decoded. window.entry.address + decoded.size < 2 ^ 31) }
+    ensures within { IfOk result (λ decoded. address + decoded.size < 2 ^ 31) }
 {
     let mut room = [0; WINDOW_SIZE];
-    let window = window.over_pages(pools, &mut room);
+    let window = Window::at(pools, address, &mut room);
     decode::<false>(pools, &window)
 }
 

@@ -52,21 +52,10 @@ impl<'b> Window<'b> {
     {
         let window = Window::in_page(pools, address);
         if window.bytes.len() < WINDOW_SIZE {
-            return window.over_pages(pools, room);
+            let count = gather(pools, &window, room);
+            return Window::new(address, &room[..count]);
         }
         window
-    }
-
-    /// The bytes of a page, and behind them those of the next ones, gathered in the room.
-    #[inline(always)]
-    pub(crate) fn over_pages(self, pools: &'b Pools, room: &'b mut [u8; WINDOW_SIZE]) -> Window<'b>
-        requires shows { Shows pools.now.code self.address self.bytes.now }
-        requires beyond { (far : ℕ) → 2 ^ 31 ≤ far → get pools.now.code far ≡ None }
-        ensures at { result.address ≡ self.entry.address }
-        ensures shows { ShowsAll pools.now.code self.entry.address result.bytes.now }
-    {
-        let count = gather(pools, &self, room);
-        Window::new(self.address, &room[..count])
     }
 
     /// The byte at a place, or 0 where none stands there.

@@ -21,16 +21,19 @@ loop-count-preserved c =
     let first : bytes ≡ byte ∷ trailing = c.in-Some.ensures.cases.0 in
     let some : 0 < length bytes = omega (arith, ap length first) in
     let are : AreBytes bytes = elim c.if-is_empty.branch [
-      then-is_empty w ↦ subst (λ (r : Bor (List ℕ)). AreBytes r.now) (sym w.rest-is) w.in_page.ensures.shows.are
-    | else-is_empty w ↦ subst (λ (r : Bor (List ℕ)). AreBytes r.now) (sym w.rest-is) kept.rest_are ] in
+      | then-is_empty w ↦ subst (λ (r : Bor (List ℕ)). AreBytes r.now) (sym w.rest-is) w.in_page.ensures.shows.are
+      | else-is_empty w ↦ subst (λ (r : Bor (List ℕ)). AreBytes r.now) (sym w.rest-is) kept.rest_are
+    ] in
     let stand : HasBytes code here bytes = elim c.if-is_empty.branch [
-      then-is_empty w ↦ subst (λ (r : Bor (List ℕ)). HasBytes code here r.now) (sym w.rest-is) w.in_page.ensures.shows.stands
-    | else-is_empty w ↦ subst (λ (r : Bor (List ℕ)). HasBytes code here r.now) (sym w.rest-is) kept.rest_stands ] in
+      | then-is_empty w ↦ subst (λ (r : Bor (List ℕ)). HasBytes code here r.now) (sym w.rest-is) w.in_page.ensures.shows.stands
+      | else-is_empty w ↦ subst (λ (r : Bor (List ℕ)). HasBytes code here r.now) (sym w.rest-is) kept.rest_stands
+    ] in
     let bounded : 0 < length bytes → here + length bytes < 2 ^ 31 = elim c.if-is_empty.branch [
-      then-is_empty w ↦ subst (λ (r : Bor (List ℕ)). 0 < length r.now → here + length r.now < 2 ^ 31) (sym w.rest-is)
+      | then-is_empty w ↦ subst (λ (r : Bor (List ℕ)). 0 < length r.now → here + length r.now < 2 ^ 31) (sym w.rest-is)
           w.in_page.ensures.shows.bounded
-    | else-is_empty w ↦ subst (λ (r : Bor (List ℕ)). 0 < length r.now → here + length r.now < 2 ^ 31) (sym w.rest-is)
-          kept.rest_bounded ] in
+      | else-is_empty w ↦ subst (λ (r : Bor (List ℕ)). 0 < length r.now → here + length r.now < 2 ^ 31) (sym w.rest-is)
+          kept.rest_bounded
+    ] in
     let long = length-take-le count room (omega (arith, kept.long)) in
     let all_are : AreBytes (byte ∷ trailing) = subst AreBytes first are in
     let all_stand : HasBytes code here (byte ∷ trailing) = subst (λ (b : List ℕ). HasBytes code here b) first stand in
