@@ -60,7 +60,7 @@ fn decode_over(pools: &Pools, address: u32) -> Result<Decoded, CodeRefusal>
     ensures within { IfOk result (λ decoded. address + decoded.size < 2 ^ 31) }
 {
     let mut room = [0; WINDOW_SIZE];
-    let window = Window::at(pools, address, &mut room);
+    let window = Window::gathered(pools, address, &mut room);
     decode::<false>(pools, &window)
 }
 

@@ -52,10 +52,23 @@ impl<'b> Window<'b> {
     {
         let window = Window::in_page(pools, address);
         if window.bytes.len() < WINDOW_SIZE {
-            let count = gather(pools, &window, room);
-            return Window::new(address, &room[..count]);
+            return Window::gathered(pools, address, room);
         }
         window
+    }
+
+    /// The bytes from an address on, gathered in the room.
+    #[inline(always)]
+    pub(crate) fn gathered(
+        pools: &Pools,
+        address: u32,
+        room: &'b mut [u8; WINDOW_SIZE],
+    ) -> Window<'b>
+        ensures at { result.address ≡ address }
+        ensures shows { ShowsAll pools.now.code address result.bytes.now }
+    {
+        let count = gather(pools, address, room);
+        Window::new(address, &room[..count])
     }
 
     /// The byte at a place, or 0 where none stands there.
@@ -129,20 +142,18 @@ impl<'b> Window<'b> {
     }
 }
 
-/// Puts the bytes of a page into a room, and behind them those of the next ones, until the room is full or
-/// no byte stands there. The answer is how many they are.
+/// Puts the bytes from an address on into a room, page by page, until the room is full or no byte stands
+/// there. The answer is how many they are.
 #[cold]
 #[inline(never)]
-fn gather(pools: &Pools, window: &Window, room: &mut [u8; WINDOW_SIZE]) -> usize
-    requires shows { Shows pools.now.code window.now.address window.now.bytes.now }
-    requires beyond { (far : ℕ) → 2 ^ 31 ≤ far → get pools.now.code far ≡ None }
+fn gather(pools: &Pools, address: u32, room: &mut [u8; WINDOW_SIZE]) -> usize
     ensures few { result ≤ 10 }
-    ensures shows { ShowsAll pools.now.code window.now.address (take result room.new) }
+    ensures shows { ShowsAll pools.now.code address (take result room.new) }
 {
-    let mut rest = window.bytes;
+    let mut rest = Window::in_page(pools, address).bytes;
     for count in 0..WINDOW_SIZE {
         if rest.is_empty() {
-            rest = Window::in_page(pools, window.address + count as u32).bytes;
+            rest = Window::in_page(pools, address + count as u32).bytes;
         }
         let Some((byte, trailing)) = rest.split_first() else {
             return count;
