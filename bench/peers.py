@@ -10,16 +10,26 @@ import time
 from images import RUNS
 
 
+def once(command, folder, wanted):
+    """The time of the command, whose output has to be as wanted."""
+    begin = time.perf_counter()
+    got = subprocess.run(command, cwd=folder, stdin=subprocess.DEVNULL, capture_output=True)
+    seconds = time.perf_counter() - begin
+    if wanted not in got.stdout:
+        sys.exit(f"{command[0]} said {got.stdout!r}")
+    return seconds
+
+
 def best(command, folder, wanted):
-    """The shortest time of the command, whose output has to be as wanted."""
-    times = []
-    for _ in range(RUNS):
-        begin = time.perf_counter()
-        got = subprocess.run(command, cwd=folder, stdin=subprocess.DEVNULL, capture_output=True)
-        times.append(time.perf_counter() - begin)
-        if wanted not in got.stdout:
-            sys.exit(f"{command[0]} said {got.stdout!r}")
-    return min(times)
+    """The shortest time of the command."""
+    return min(once(command, folder, wanted) for _ in range(RUNS))
+
+
+def best_in_turn(runs, folder):
+    """The shortest time of each of these commands with what they should say. They are run in turn, since
+    the speed of a machine that is shared changes from one second to the next."""
+    rounds = [[once(command, folder, wanted) for command, wanted in runs] for _ in range(2 * RUNS)]
+    return [min(times) for times in zip(*rounds)]
 
 
 def found(program):
