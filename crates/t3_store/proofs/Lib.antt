@@ -8,6 +8,7 @@ pub mod RowEdits
 pub mod FirstFrom
 pub mod MapValues
 pub mod Outcomes
+pub mod Replacing
 pub mod Counting
 pub mod Places
 pub mod Marks

@@ -236,7 +236,7 @@ counted-set things new n cell holder old units set valid can is counted =
     there : is_some old ≡ is_some (holder_at (get (values things) n) cell)
     there = ap is_some is ∙ sym (some-map (λ present. present.value) (part_at things n cell)) ∙ ap is_some (held-at things n cell valid)
 
-none-of : {X : Type 0} (o : Option X) → is_some o ≡ false → o ≡ None
+pub none-of : {X : Type 0} (o : Option X) → is_some o ≡ false → o ≡ None
 none-of None e = refl
 none-of (Some x) e = absurd (true≢false e)
 

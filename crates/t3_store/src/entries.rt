@@ -3,6 +3,7 @@ ghost use Rattle.std.specs.Prelude.{◌≡◌, ◌+◌, ◌-◌, ◌^◌, ◌<�
 ghost use Rattle.std.specs.FinMap.{get, insert};
 ghost use Rattle.std.specs.List.{AllWithin};
 ghost use Rattle.t3_undo.specs.Content.{shown, is_form};
+ghost use Rattle.t3_undo.specs.declared.cell.Cell.TheVariants.{Prop};
 ghost use Rattle.t3_undo.specs.Objects.{part_at, set_cell, adjust, below, put_back};
 ghost use Rattle.t3_undo.specs.Journal.{old_of};
 ghost use Rattle.t3_store.specs.Inner.Store.{CanBePut, CanAllBePut, AreRecordsWithin, newest_records, emptied};
@@ -139,6 +140,36 @@ pub(crate) fn put(entries: &mut Vec<Entry>, number: u32, cell: &Cell, content: C
     match index_of(entries, number) {
         Some(index) => entries[index].object.put(cell, content),
         None => content,
+    }
+}
+
+/// Sets a property that an object has to another value, and hands out what stood there. It is `Absent`
+/// exactly where there is no such property, and then nothing changes. No memory is taken.
+#[inline(always)]
+pub(crate) fn replace_prop(
+    entries: &mut Vec<Entry>,
+    number: u32,
+    property: u16,
+    value: Holder,
+) -> Content
+    requires { IsRising entries.old.items }
+    ensures rising { IsRising entries.new.items }
+    ensures old { IsSome (shown result)
+        → shown result ≡ part_at (things_of entries.old.items) number (Prop property) }
+    ensures placed { IsSome (shown result)
+        → IsTrue (has_place (places_in entries.old.items) number (Prop property)) }
+    ensures formed { IsTrue (is_form (Prop property) (shown result)) }
+    ensures value { option_map (λ present. present.value) (shown result)
+        ≡ holder_at (get (values (things_of entries.old.items)) number) (Prop property) }
+    ensures set { IsSome (shown result) → things_of entries.new.items
+        ≡ set_cell (things_of entries.old.items) number (Prop property) (shown (Content.Held value)) }
+    ensures kept { shown result ≡ None → things_of entries.new.items ≡ things_of entries.old.items }
+    ensures places { places_in entries.new.items ≡ places_in entries.old.items }
+    ensures ticks { ticks_in entries.new.items ≡ ticks_in entries.old.items }
+{
+    match index_of(entries, number) {
+        Some(index) => entries[index].object.replace_prop(property, value),
+        None => Content::Absent,
     }
 }
 

@@ -38,6 +38,8 @@ mod object_map;
 mod persistent;
 #[cfg(test)]
 mod random_tests;
+#[cfg(test)]
+mod replace_tests;
 mod store;
 mod table_cells;
 #[cfg(test)]

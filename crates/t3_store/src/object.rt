@@ -1,4 +1,4 @@
-ghost use Rattle.std.specs.Prelude.{◌≡◌, ◌+◌, ◌<◌, ◌≤◌, ◌-◌, ◌^◌, ℕ, IsTrue, IsSome, IfOk, OnOk, OnErr, option_map, map};
+ghost use Rattle.std.specs.Prelude.{◌≡◌, ◌+◌, ◌<◌, ◌≤◌, ◌-◌, ◌^◌, ℕ, None, IsTrue, IsSome, IfOk, OnOk, OnErr, option_map, map};
 ghost use Rattle.std.specs.List.Sorted.{IsStrictlyIncreasing};
 ghost use Rattle.std.specs.FinMap.{get, entries};
 ghost use Rattle.std.specs.FinSet as set;
@@ -54,6 +54,27 @@ impl Object {
         match self {
             Object::Tads(object) => object.prop(number),
             _ => None,
+        }
+    }
+
+    /// Sets a property of a tads-object that is present to another value, and hands out what stood there. It
+    /// is `Absent` exactly where there is no such property, and then nothing changes. No memory is taken.
+    #[inline(always)]
+    pub(crate) fn replace_prop(&mut self, number: u16, value: Holder) -> Content
+        ensures old { IsSome (shown result) → shown result ≡ get (thing_of self.old).1 (Prop number) }
+        ensures placed { IsSome (shown result) → IsTrue (set.contains (places_of self.old) (Prop number)) }
+        ensures formed { IsTrue (is_form (Prop number) (shown result)) }
+        ensures value { option_map (λ present. present.value) (shown result)
+            ≡ holder_in (value_of (thing_of self.old)) (Prop number) }
+        ensures set { IsSome (shown result) → thing_of self.new
+            ≡ with_part (Prop number) (shown (Content.Held value)) (thing_of self.old) }
+        ensures kept { shown result ≡ None → thing_of self.new ≡ thing_of self.old }
+        ensures places { places_of self.new ≡ places_of self.old }
+        ensures ticks { tick_of self.new ≡ tick_of self.old }
+    {
+        match self {
+            Object::Tads(object) => object.replace(number, value),
+            _ => Content::Absent,
         }
     }
 

@@ -2,17 +2,18 @@ ghost use Rattle.std.specs.Prelude.{◌≡◌, ◌+◌, ◌-◌, ◌<◌, ◌≤
 ghost use Rattle.std.specs.FinMap as finite;
 ghost use Rattle.std.specs.FinMap.{get, insert, entries, keys};
 ghost use Rattle.t3_undo.specs.Content.{shown, is_form};
+ghost use Rattle.t3_undo.specs.declared.cell.Cell.TheVariants.{Prop};
 ghost use Rattle.t3_undo.specs.Objects.{part_at};
 ghost use Rattle.t3_store.specs.Value.{holder_at, can_have_at, can_lose_at, with_cell, without_cell, cell_units, units_of, units_in, IsNextAbove};
 ghost use Rattle.t3_store.specs.Inner.Shapes.{thing_of, places_of, tick_of, value_of, values, has_place, with_place, places_below, AreWithin, IsChanged};
 ghost use Rattle.t3_store.specs.Inner.Valid.{IsValid, AreValid};
-ghost use Rattle.t3_store.specs.Inner.Store.{CanAllBePut, AreRecordsWithin, HaveRisen, newest_records};
+ghost use Rattle.t3_store.specs.Inner.Store.{CanAllBePut, AreRecordsWithin, HaveRisen, IsWritten, newest_records};
 ghost use Rattle.t3_undo.specs.Journal.{newest_next};
 ghost use Rattle.t3_undo.specs.UndoLaw.{undone};
 
 use crate::entries::{
     Entry, add, content_with, copy_all, cut, make_place, number_from, numbers_of, object_at, put,
-    put_back,
+    put_back, replace_prop,
 };
 use crate::object::Object;
 use crate::object_at::ObjectAt;
@@ -118,6 +119,20 @@ impl ObjectMap {
             self.units += cell_units(cell) as u32;
         }
         old
+    }
+
+    /// Sets a property that an object has to another value, and hands out what stood there. It is `Absent`
+    /// exactly where there is no such property, and then nothing changes. The object is looked up once, and no
+    /// memory is taken.
+    #[inline(always)]
+    pub(crate) fn replace_prop(&mut self, number: u32, property: u16, value: Holder) -> Content
+        ensures value { option_map (λ present. present.value) (shown result)
+            ≡ holder_at (get (values self.old.objects) number) (Prop property) }
+        ensures written { IsSome (shown result) → IsWritten self.old self.new number (Prop property)
+            (with_cell (Prop property) value) (shown result) }
+        ensures kept { shown result ≡ None → self.new ≡ self.old }
+    {
+        replace_prop(&mut self.entries, number, property, value)
     }
 
     /// Takes a present cell of an object away, and hands out what stood there. No memory is taken.

@@ -58,7 +58,11 @@ pub(crate) fn empty_store(
 }
 
 /// Makes an object without anything.
-fn create(store: &mut Store, alloc: Global, transient: bool) -> Result<u32, StoreRefusal> {
+pub(crate) fn create(
+    store: &mut Store,
+    alloc: Global,
+    transient: bool,
+) -> Result<u32, StoreRefusal> {
     store.create(plain(alloc), transient)
 }
 
@@ -71,7 +75,7 @@ fn numbers(alloc: Global, values: &[i32]) -> Result<Holders, NoMemory>
 }
 
 /// Few writes were made so far.
-fn few_writes(store: &Store) -> Result<(), Fail>
+pub(crate) fn few_writes(store: &Store) -> Result<(), Fail>
     ensures { OnOk result (store.now.writes < 1000) }
 {
     if store.writes() >= 1000 {

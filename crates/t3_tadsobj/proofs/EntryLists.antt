@@ -18,9 +18,9 @@ use Rattle.t3_undo.specs.declared.cell.Cell.TheVariants as cells
 use Rattle.t3_undo.specs.declared.content.Content.{Content}
 use Rattle.t3_undo.specs.declared.content.Content.TheVariants.{Absent, Held, Slot}
 use Rattle.t3_undo.proofs.Maps.{get-set_at}
-use Rattle.t3_undo.proofs.SlotLists.{same, same-is, seen, get-parts_of, contains-places_of, len-places_of, parts_of-filter, places_of-filter}
+use Rattle.t3_undo.proofs.SlotLists.{same, same-is, seen, insert-places_of, get-parts_of, contains-places_of, len-places_of, parts_of-filter, places_of-filter}
 use Rattle.t3_tadsobj.specs.Object.{is_prop}
-use Rattle.t3_tadsobj.specs.Inner.Entries.{content_of, content_at, slots_of, parts_in, places_in}
+use Rattle.t3_tadsobj.specs.Inner.Entries.{content_of, content_at, value_at, slots_of, parts_in, places_in}
 use Rattle.t3_tadsobj.proofs.PropLists.{same-Prop}
 
 abbrev pub Entries : Type 0
@@ -142,12 +142,66 @@ absent-set : (b : Bool) (o : Option Present) → (b ≡ true → o ≡ None) →
 absent-set true o none = sym (none refl)
 absent-set false o none = refl
 
-pub parts-absent : (es : Entries) (k : ℕ) → at k es ≡ None → set_at (parts_in es) (cells.Prop k) None ≡ parts_in es
-parts-absent es k none =
+pub parts-unset : (es : Entries) (k : ℕ) → get (parts_in es) (cells.Prop k) ≡ None → set_at (parts_in es) (cells.Prop k) None ≡ parts_in es
+parts-unset es k none =
     same_map cell_cmp_total cell_cmp-IsAntisymmetric _ _ (λ cell.
     get-set_at cell_cmp_total (parts_in es) (cells.Prop k) None cell
     ∙ absent-set (same cell (cells.Prop k)) (get (parts_in es) cell)
-    (λ t. ap (get (parts_in es)) (same-is cell (cells.Prop k) t) ∙ get-Prop es k ∙ ap (λ o. shown (content_at o)) none))
+    (λ t. ap (get (parts_in es)) (same-is cell (cells.Prop k) t) ∙ none))
+
+pub parts-absent : (es : Entries) (k : ℕ) → at k es ≡ None → set_at (parts_in es) (cells.Prop k) None ≡ parts_in es
+parts-absent es k none = parts-unset es k (get-Prop es k ∙ ap (λ o. shown (content_at o)) none)
+
+-- the content of a property, from its value
+pub content-value_at : (o : Option (Option Holder)) → content_of (value_at o) ≡ content_at o
+content-value_at None = refl
+content-value_at (Some o) = refl
+
+-- and its value, from the content
+pub shown-value : (o : Option Holder) → option_map (λ present. present.value) (shown (content_of o)) ≡ o
+shown-value None = refl
+shown-value (Some value) = refl
+
+pub some-value : (o : Option Holder) → IsSome (shown (content_of o)) → IsSome o
+some-value None some = some
+some-value (Some value) some = refl
+
+pub none-value : (o : Option Holder) → shown (content_of o) ≡ None → o ≡ None
+none-value None none = refl
+none-value (Some value) none = absurd cc
+
+-- a value in the place of one that is there
+module _ (old new : Entries) (k : ℕ) (value : Holder)
+    (updates : IsSome (at k old) → (q : ℕ) → at q new ≡ cond (is_at (nat_cmp k) q) (Some (option_map (λ _. value) (value_at (at k old)))) (at q old))
+    (kept : at k old ≡ None → new ≡ old) where
+  pub places-replaced : places_in new ≡ places_in old
+  places-replaced = by (at k old) refl
+    where
+      by : (o : Option (Option Holder)) → at k old ≡ o → places_in new ≡ places_in old
+      by None e = ap places_in (kept e)
+      by (Some o) e =
+          places-set old new k _ (updates (ap is_some e))
+          ∙ sym (insert-places_of (slots_of old) (cells.Prop k) (contains-Prop old k ∙ ap is_some e))
+
+  pub parts-replaced : IsSome (value_at (at k old)) → parts_in new ≡ set_at (parts_in old) (cells.Prop k) (shown (Held value))
+  parts-replaced some = by (at k old) refl
+    where
+      by : (o : Option (Option Holder)) → at k old ≡ o → parts_in new ≡ set_at (parts_in old) (cells.Prop k) (shown (Held value))
+      by None e = absurd (true≢false (sym some ∙ ap (λ o. is_some (value_at o)) e))
+      by (Some None) e = absurd (true≢false (sym some ∙ ap (λ o. is_some (value_at o)) e))
+      by (Some (Some was)) e =
+          parts-set old new k _ (updates (ap is_some e))
+          ∙ ap (λ o. set_at (parts_in old) (cells.Prop k) (shown (content_of (option_map (λ _. value) (value_at o))))) e
+
+  pub parts-left : value_at (at k old) ≡ None → parts_in new ≡ parts_in old
+  parts-left none = by (at k old) refl
+    where
+      by : (o : Option (Option Holder)) → at k old ≡ o → parts_in new ≡ parts_in old
+      by None e = ap parts_in (kept e)
+      by (Some o) e =
+          parts-set old new k _ (updates (ap is_some e))
+          ∙ ap (λ v. set_at (parts_in old) (cells.Prop k) (shown (content_of (option_map (λ _. value) v)))) none
+          ∙ parts-unset old k (get-Prop old k ∙ ap shown (sym (content-value_at (at k old))) ∙ ap (λ v. shown (content_of v)) none)
 
 -- the slots of the present entries
 abbrev pub is_kept : ℕ × Option Holder → Bool

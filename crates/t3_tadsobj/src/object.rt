@@ -1,4 +1,4 @@
-ghost use Rattle.std.specs.Prelude.{◌≡◌, false, [], map, filter, is_some, option_map, IsTrue, IsSome, IfOk, OnOk, OnErr, MatchOption};
+ghost use Rattle.std.specs.Prelude.{◌≡◌, false, [], Some, None, map, filter, is_some, option_map, IsTrue, IsSome, IfOk, OnOk, OnErr, MatchOption};
 ghost use Rattle.std.specs.FinMap.{get, entries};
 ghost use Rattle.std.specs.List.Sorted.{IsStrictlyIncreasing};
 ghost use Rattle.std.specs.FinSet as set;
@@ -86,6 +86,23 @@ impl TadsObject {
     {
         self.props.insert(number, Some(value))?;
         Ok(())
+    }
+
+    /// Sets a property that is present to another value, and hands out what stood there. It is `Absent`
+    /// exactly where the property isn't present, and then nothing changes. No memory is taken.
+    #[inline(always)]
+    pub fn replace(&mut self, number: u16, value: Holder) -> Content
+        ensures old { shown result ≡ get self.old.parts (Cell.Prop number) }
+        ensures placed { IsSome (shown result) → IsTrue (set.contains self.old.places (Cell.Prop number)) }
+        ensures formed { IsTrue (is_form (Cell.Prop number) (shown result)) }
+        ensures value { option_map (λ present. present.value) (shown result)
+            ≡ get (props_of self.old.parts) number }
+        ensures set { IsSome (shown result) → self.new.parts
+            ≡ set_at self.old.parts (Cell.Prop number) (shown (Content.Held value)) }
+        ensures kept { shown result ≡ None → self.new.parts ≡ self.old.parts }
+        ensures rest { self.new ≡ record self.old { parts = self.new.parts } }
+    {
+        content_of(replace_value(&mut self.props, number, value))
     }
 
     /// The value of a property, if it is present.
@@ -236,6 +253,26 @@ fn exchange(entries: &mut Entries, number: u16, value: Option<Holder>) -> Option
     match entries.get_mut(&number) {
         Some(place) => mem::replace(place, value),
         None => value,
+    }
+}
+
+/// Puts another value under a number that has one, and hands out the one that stood there.
+#[inline(always)]
+fn replace_value(entries: &mut Entries, number: u16, value: Holder) -> Option<Holder>
+    ensures old { result ≡ value_at (tree.get nat_cmp entries.old number) }
+    ensures updates { IsSome (tree.get nat_cmp entries.old number)
+        → tree.Updates nat_cmp entries.old entries.new number (Some (option_map (λ _. value) result)) }
+    ensures kept { tree.get nat_cmp entries.old number ≡ None → entries.new ≡ entries.old }
+{
+    match entries.get_mut(&number) {
+        Some(place) => {
+            let old = *place;
+            if old.is_some() {
+                *place = Some(value);
+            }
+            old
+        }
+        None => None,
     }
 }
 

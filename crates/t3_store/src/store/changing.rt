@@ -1,5 +1,5 @@
 //! What changes the objects of a store.
-ghost use Rattle.std.specs.Prelude.{◌≡◌, ◌+◌, ◌<◌, ◌≤◌, ◌^◌, ◌↔◌, ◌||◌, true, false, Some, None, Ok, Err, IsTrue, IsSome, IfOk, OnOk, OnErr, length};
+ghost use Rattle.std.specs.Prelude.{◌≡◌, ◌+◌, ◌<◌, ◌≤◌, ◌^◌, ◌↔◌, ◌||◌, true, false, Some, None, Ok, Err, IsTrue, IsSome, IfOk, OnOk, OnErr, length, is_some};
 ghost use Rattle.t3_store.specs.Value.{holder_at, can_have_at, can_lose_at, can_be_written, new_value, HasFittingLength, units_of};
 ghost use Rattle.t3_store.specs.Store.{value_at, is_full_with, no_number, with_object, created_in, after_write, written, taken, set_cell, saved, undone, is_held};
 ghost use Rattle.t3_store.specs.Whole.{HasSupersIn, supers_in, supers_of_live, supers_for};
@@ -210,6 +210,33 @@ impl Store {
             }
             None => false,
         }
+    }
+
+    /// Sets a property that an object has to another value. `false` exactly where there is no such property,
+    /// and then nothing changes. The object is looked up once, and no memory is taken.
+    #[inline(always)]
+    pub fn replace_prop(&mut self, number: u32, property: u16, value: Holder) -> bool
+        requires { self.old.writes < 2 ^ 63 }
+        ensures answer { result
+            ≡ is_some (holder_at (value_at self.old.store number) (Cell.Prop property)) }
+        ensures replaced { IsTrue result → self.new ≡ record self.old {
+          store = set_cell number (Cell.Prop property) value self.old.store;
+          writes = self.old.writes + 1;
+        } }
+        ensures kept { result ≡ false → self.new ≡ self.old }
+    {
+        let old = self.persistent.replace_prop(number, property, value);
+        if old.is_present() {
+            self.journal.note(number, Cell::Prop(property), old);
+            self.writes += 1;
+            return true;
+        }
+        let old = self.transient.replace_prop(number, property, value);
+        if old.is_present() {
+            self.writes += 1;
+            return true;
+        }
+        false
     }
 
     /// Sets a present cell of an object. No memory is taken.

@@ -1,0 +1,54 @@
+//! A property set to another value where it is present, in both halves and over a savepoint.
+use super::tests::{create, empty_store, few_writes, savepoint, set};
+use super::*;
+use std::alloc::Global;
+use std::test::Fail;
+use t3_holder::{Holder, NoMemory};
+use t3_lists::Holders;
+use t3_undo::Cell;
+
+/// Whether a property is set to a number in the place of another value.
+fn replaces(store: &mut Store, number: u32, prop: u16, value: i32) -> Result<bool, Fail> {
+    few_writes(store)?;
+    Ok(store.replace_prop(number, prop, Holder::Int(value)))
+}
+
+/// A vector of one element.
+fn vector(store: &mut Store, alloc: Global) -> Result<u32, StoreRefusal> {
+    let items = Holders(Vec::from_elem(alloc, Holder::Int(1), 1)?);
+    store.create(NewObject::Vector(items), false)
+}
+
+#[test]
+fn a_present_property_is_replaced(rt: HostRuntime) -> Result<(), Fail> {
+    let alloc = rt.alloc();
+    let mut store = empty_store(alloc, 9, 9, 8, 9)?;
+    for (transient, after_undo) in [(false, 1), (true, 2)] {
+        let object = create(&mut store, alloc, transient)?;
+        assert!(rt; !replaces(&mut store, object, 7, 1)?);
+        assert!(rt; set(&mut store, object, 7, Some(1))?);
+        savepoint(&mut store)?;
+        let units = store.units();
+        assert!(rt; replaces(&mut store, object, 7, 2)?);
+        assert!(rt; !replaces(&mut store, object, 8, 2)?);
+        assert_eq!(rt; store.get(object, &Cell::Prop(7)), Some(Holder::Int(2)));
+        assert_eq!(rt; store.units(), units);
+        assert!(rt; store.undo());
+        assert_eq!(rt;
+            store.get(object, &Cell::Prop(7)),
+            Some(Holder::Int(after_undo))
+        );
+    }
+    Ok(())
+}
+
+#[test]
+fn nothing_else_has_a_property_to_replace(rt: HostRuntime) -> Result<(), Fail> {
+    let alloc = rt.alloc();
+    let mut store = empty_store(alloc, 9, 9, 8, 2)?;
+    let vector = vector(&mut store, alloc)?;
+    assert!(rt; !replaces(&mut store, vector, 1, 2)?);
+    assert!(rt; !replaces(&mut store, 9, 1, 2)?);
+    assert_eq!(rt; store.get(vector, &Cell::Elem(1)), Some(Holder::Int(1)));
+    Ok(())
+}
