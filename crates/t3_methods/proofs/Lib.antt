@@ -1,4 +1,5 @@
 pub mod Windows
+pub mod Gathering
 pub mod Said
 pub mod Table
 pub mod Operating

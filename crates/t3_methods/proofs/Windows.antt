@@ -1,5 +1,5 @@
 -- The number in a part of bytes.
-use Rattle.std.proofs.Common.{◌≡◌, ℕ, suc, ◌+◌, ◌*◌, ◌^◌, ◌<◌, ◌≤◌, cond, List, [], ◌∷◌, ◌++◌, length, take, drop, get_or, refl, sym, ap, ◌∙◌, arith}
+use Rattle.std.proofs.Common.{◌≡◌, ℕ, zero, suc, ◌+◌, ◌*◌, ◌^◌, ◌<◌, ◌≤◌, cond, List, [], ◌∷◌, ◌++◌, length, take, drop, get_or, refl, sym, ap, ◌∙◌, arith}
 use Rattle.std.proofs.lemmas.Bool.{le-leb, lt-leb}
 use Rattle.std.proofs.lemmas.List.{drop_more}
 use Rattle.t3_holder.specs.NumberText.{little_endian, value_of, AreBytes}
@@ -37,3 +37,15 @@ AreBytes-each (x ∷ bytes) each = (each 0, AreBytes-each bytes (λ i. each (suc
 pub AreBytes-append : (a b : List ℕ) → AreBytes a → AreBytes b → AreBytes (a ++ b)
 AreBytes-append [] b are_a are_b = are_b
 AreBytes-append (x ∷ a) b are_a are_b = (are_a.0, AreBytes-append a b are_a.1 are_b)
+
+-- the first of bytes
+pub AreBytes-take : (count : ℕ) (bytes : List ℕ) → AreBytes bytes → AreBytes (take count bytes)
+AreBytes-take zero bytes are = tt
+AreBytes-take (suc count) [] are = tt
+AreBytes-take (suc count) (x ∷ bytes) are = (are.0, AreBytes-take count bytes are.1)
+
+-- each place of bytes
+pub each-AreBytes : (bytes : List ℕ) → AreBytes bytes → (i : ℕ) → get_or bytes i 0 < 256
+each-AreBytes [] are i = omega arith
+each-AreBytes (x ∷ bytes) are zero = are.0
+each-AreBytes (x ∷ bytes) are (suc i) = each-AreBytes bytes are.1 i

@@ -1,12 +1,12 @@
 //! The bytes of an instruction, a header, a case or an entry of an exception table, looked at where they
 //! stand.
-ghost use Rattle.std.specs.Prelude.{◌≡◌, ◌≤◌, ◌<◌, ◌^◌, ℕ, None, length, take};
+ghost use Rattle.std.specs.Prelude.{◌≡◌, ◌≤◌, ◌<◌, ◌^◌, ◌++◌, ℕ, None, length, take};
 ghost use Rattle.std.specs.FinMap.{get};
 ghost use Rattle.std.specs.Int.{w8, w16, w32, cast_signed};
-ghost use Rattle.t3_holder.specs.NumberText.{AreBytes};
+ghost use Rattle.t3_holder.specs.NumberText.{little_endian, AreBytes};
 ghost use Rattle.t3_methods.specs.Inner.Window.{number_at, Shows, ShowsAll};
 
-use t3_holder::{u16_at, u32_at};
+use t3_holder::{u16_at, u16_bytes, u32_at};
 use t3_pools::Pools;
 
 /// The number of the pool of code.
@@ -15,6 +15,9 @@ const CODE: u8 = 1;
 /// As many bytes as a method's header has, or an entry of an exception table. An instruction has 8
 /// at most, but for the cases of a switch.
 pub(crate) const WINDOW_SIZE: usize = 10;
+
+/// As many bytes as a `u64` has.
+const WORD_SIZE: usize = 8;
 
 /// Bytes of code from an address on: those of its page, or at most `WINDOW_SIZE` over its border.
 #[derive(Clone, Copy)]
@@ -144,9 +147,57 @@ impl<'b> Window<'b> {
 
 /// Puts the bytes from an address on into a room, page by page, until the room is full or no byte stands
 /// there. The answer is how many they are.
+///
+/// Mostly two pages have them all, which takes few steps.
 #[cold]
 #[inline(never)]
 fn gather(pools: &Pools, address: u32, room: &mut [u8; WINDOW_SIZE]) -> usize
+    ensures few { result ≤ 10 }
+    ensures shows { ShowsAll pools.now.code address (take result room.new) }
+{
+    let front = Window::in_page(pools, address).bytes;
+    if front.len() <= WORD_SIZE {
+        let back = Window::in_page(pools, address + front.len() as u32).bytes;
+        if back.len() >= WINDOW_SIZE {
+            join(front, back, room);
+            return WINDOW_SIZE;
+        }
+    }
+    gather_each(pools, address, room)
+}
+
+/// Fills a room with the bytes of two parts, the one behind the other.
+///
+/// The first eight are stored at once: a load of several bytes waits where each of them was stored alone.
+#[inline(always)]
+fn join(front: &[u8], back: &[u8], room: &mut [u8; WINDOW_SIZE])
+    requires few { length front.now ≤ 8 }
+    requires many { 10 ≤ length back.now }
+    ensures { take 10 room.new ≡ take 10 (front.now ++ back.now) }
+{
+    let mut word = first_word(back);
+    for count in 0..front.len() {
+        word = (word << 8) + u64::from(front[front.len() - 1 - count]);
+    }
+    room[..WORD_SIZE].copy_from_slice(&word.to_le_bytes());
+    room[WORD_SIZE..].copy_from_slice(&u16_bytes(u16_at(back, WORD_SIZE - front.len())));
+}
+
+/// The number in the first eight bytes, lowest first.
+#[inline(always)]
+fn first_word(bytes: &[u8]) -> u64
+    requires { 8 ≤ length bytes.now }
+    ensures { little_endian 8 result ≡ take 8 bytes.now }
+{
+    let mut word = [0; WORD_SIZE];
+    word.copy_from_slice(&bytes[..WORD_SIZE]);
+    u64::from_le_bytes(word)
+}
+
+/// As `gather`, one byte after the other, however short the pages are.
+#[cold]
+#[inline(never)]
+fn gather_each(pools: &Pools, address: u32, room: &mut [u8; WINDOW_SIZE]) -> usize
     ensures few { result ≤ 10 }
     ensures shows { ShowsAll pools.now.code address (take result room.new) }
 {

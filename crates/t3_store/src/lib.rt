@@ -10,6 +10,7 @@
 //! store.savepoint();                                                // takes no memory
 //! store.write(object, Cell::Prop(5), Some(Holder::Int(1)))?;        // a further property is a unit
 //! store.overwrite(object, Cell::Prop(5), Holder::Int(2));           // one that is there takes no memory
+//! store.replace_prop(object, 6, Holder::Int(2));                    // false: there is no property 6
 //! store.undo();                                                     // true: property 5 is absent again
 //! store.undo();                                                     // false: no savepoint is held
 //! ```

@@ -1,4 +1,4 @@
-ghost use Rattle.std.specs.Prelude.{◌≡◌, ◌+◌, ◌<◌, ◌≤◌, ◌^◌, ◌||◌, Some, None, Ok, IsSome, IfOk, is_some, length, map, option_map, option_and_then};
+ghost use Rattle.std.specs.Prelude.{◌≡◌, ◌+◌, ◌<◌, ◌≤◌, ◌^◌, ◌||◌, ℕ, Some, None, Ok, IsSome, IfOk, is_some, length, map, option_map, option_and_then};
 ghost use Rattle.std.specs.FinMap.{get, len, entries};
 ghost use Rattle.std.specs.List.Sorted.{IsStrictlyIncreasing};
 ghost use Rattle.t3_store.specs.Value.{Objects, holder_at, text_of, items_in, length_of, entries_in, kind_of, supers_of, is_class_at, props_at, units_in};
@@ -218,10 +218,11 @@ impl Store {
         self.next
     }
 
-    /// How many objects there are.
+    /// How many objects there are. No walk over superclasses from any number comes back.
     pub fn objects(&self) -> u32
         ensures objects { result ≡ objects_in self.now.store }
         ensures bound { result ≤ self.now.store.limits.objects }
+        ensures acyclic { (number : ℕ) → IsAcyclicFrom (supers_of_live self.now.store) number }
     {
         (self.persistent.len() + self.transient.len()) as u32
     }

@@ -1,7 +1,7 @@
 use Rattle.std.proofs.Common.{◌≡◌, ◌<◌, ◌+◌, ◌^◌, length, take}
 use Rattle.t3_holder.specs.NumberText.{AreBytes}
 use Rattle.t3_pools.specs.Pool.{HasBytes}
-use Rattle.t3_methods.proofs.window.gather.Given as goal
+use Rattle.t3_methods.proofs.window.gather_each.Given as goal
 
 -- the bytes so far stand, and behind them those that are left of their page
 abbrev pub invariant-loop-count : goal.invariant-loop-count
