@@ -1,4 +1,5 @@
 mod Cases
 mod Saying
 mod Searching
+mod Evaluating
 pub mod Runs

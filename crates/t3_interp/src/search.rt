@@ -37,7 +37,6 @@ pub(crate) fn find_property(
     number: u32,
     property: u16,
 ) -> Result<Option<Found>, NoMemory>
-    requires { IsAcyclicFrom (supers_of_live store.now.store) number }
     ensures { IfOk result (λ found. found_value found ≡ property_of store.now.store number property) }
 {
     let mut at = number;

@@ -5,7 +5,9 @@ ghost use Rattle.t3_interp.specs.Instructions.{call_action, retval_on};
 ghost use Rattle.t3_interp.specs.Machine.{returns};
 ghost use Rattle.t3_interp.specs.Inner.Acting.{HasAction};
 
-use super::evaluate::{evaluate, evaluate_by_pointer, evaluate_popped, evaluate_self_by_pointer};
+use super::evaluate::{
+    evaluate, evaluate_by_pointer, evaluate_popped, evaluate_self, evaluate_self_by_pointer,
+};
 use super::inherit::{delegate, delegate_popped, inherit};
 use crate::effect::Effect;
 use crate::event::CodeWhy;
@@ -25,7 +27,6 @@ pub(super) fn call(
 ) -> Result<Effect, NoMemory>
     ensures { IfOk result (λ effect. HasAction (call_action program.now code) core.old effect core.new) }
 {
-    let this = core.frames.this();
     match code {
         CallCode::Retval => Ok(return_popped(core)),
         CallCode::Retnil => Ok(return_with(core, Holder::Nil)),
@@ -34,8 +35,8 @@ pub(super) fn call(
         CallCode::Getprop(p) => evaluate_popped(alloc, program, core, p, 0),
         CallCode::Callprop(count, p) => evaluate_popped(alloc, program, core, p, count),
         CallCode::Ptrcallprop(count) => evaluate_by_pointer(alloc, program, core, count),
-        CallCode::Getpropself(p) => evaluate(alloc, program, core, this, p, 0),
-        CallCode::Callpropself(count, p) => evaluate(alloc, program, core, this, p, count),
+        CallCode::Getpropself(p) => evaluate_self(alloc, program, core, p, 0),
+        CallCode::Callpropself(count, p) => evaluate_self(alloc, program, core, p, count),
         CallCode::Ptrcallpropself(count) => evaluate_self_by_pointer(alloc, program, core, count),
         CallCode::Objgetprop(n, p) => evaluate(alloc, program, core, Holder::Obj(n), p, 0),
         CallCode::Objcallprop(count, n, p) => {

@@ -3,7 +3,7 @@ ghost use Rattle.std.specs.Prelude.{IfOk};
 ghost use Rattle.t3_store.specs.Store.{value_at};
 ghost use Rattle.t3_interp.specs.Machine.{answers};
 ghost use Rattle.t3_interp.specs.Objects.{pops, by_property, evaluates, of_object, found_action, asks};
-ghost use Rattle.t3_interp.specs.Inner.Acting.{HasAction};
+ghost use Rattle.t3_interp.specs.Inner.Acting.{HasAction, asks_object};
 
 use crate::effect::Effect;
 use crate::event::CodeWhy;
@@ -70,6 +70,21 @@ pub(super) fn evaluate_by_pointer(
     }
 }
 
+/// Of self.
+pub(super) fn evaluate_self(
+    alloc: Global,
+    program: &Program,
+    core: &mut Core,
+    property: u16,
+    count: u8,
+) -> Result<Effect, NoMemory>
+    ensures { IfOk result (λ effect. HasAction (λ context. evaluates program.now property count
+        context.frame.this context) core.old effect core.new) }
+{
+    let this = core.frames.this();
+    evaluate(alloc, program, core, this, property, count)
+}
+
 /// The property that is the topmost operand, of self.
 pub(super) fn evaluate_self_by_pointer(
     alloc: Global,
@@ -102,12 +117,22 @@ fn evaluate_object(
         (λ context. of_object program.now property count number (value_at context.store number) context)
         core.old effect core.new) }
 {
-    let Some(kind) = core.store.kind(number) else {
-        return Ok(Effect::Fault(Fault::Stale));
-    };
     match find_property(alloc, &core.store, number, property)? {
         Some(found) => Ok(give_found(core, found.value, count)),
-        None => Ok(ask(program, core, property, count, kind)),
+        None => Ok(ask_object(program, core, number, property, count)),
+    }
+}
+
+/// Of an object for which the property isn't found.
+#[cold]
+#[inline(never)]
+fn ask_object(program: &Program, core: &mut Core, number: u32, property: u16, count: u8) -> Effect
+    ensures { HasAction (λ context. asks_object program.now property count (value_at context.store number)
+        context) core.old result core.new }
+{
+    match core.store.kind(number) {
+        Some(kind) => ask(program, core, property, count, kind),
+        None => Effect::Fault(Fault::Stale),
     }
 }
 

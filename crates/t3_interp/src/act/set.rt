@@ -97,8 +97,27 @@ fn set(core: &mut Core, property: u16, object: Holder, value: Holder) -> Result<
     }
 }
 
-/// Sets a property of the object of a number.
+/// Sets a property of the object of a number. For one that the object has no memory is taken.
 fn set_of_object(
+    core: &mut Core,
+    property: u16,
+    number: u32,
+    value: Holder,
+) -> Result<Setting, NoMemory>
+    requires { core.old.store.writes < 2 ^ 63 }
+    ensures { IfOk result (λ setting. HasAction (λ context. sets_in property number value
+        (value_at context.store number) context) core.old (effect_of setting) core.new) }
+{
+    if core.store.replace_prop(number, property, value) {
+        return Ok(Setting::Done);
+    }
+    set_by_kind(core, property, number, value)
+}
+
+/// Sets a property of the object of a number, by what the object is.
+#[cold]
+#[inline(never)]
+fn set_by_kind(
     core: &mut Core,
     property: u16,
     number: u32,
@@ -115,7 +134,7 @@ fn set_of_object(
     }
 }
 
-/// Sets a property of a tads-object. For one that it has the store asks for no memory; no contract says so.
+/// Sets a property of a tads-object.
 fn write(core: &mut Core, property: u16, number: u32, value: Holder) -> Result<Setting, NoMemory>
     requires few { core.old.store.writes < 2 ^ 63 }
     requires tads { IsSome (option_and_then supers_of (value_at core.old.store.store number)) }

@@ -1,4 +1,4 @@
-use Rattle.std.proofs.Common.{sym, ◌∙◌}
+use Rattle.std.proofs.Common.{refl, sym, ◌∙◌}
 use Rattle.t3_interp.proofs.Searching.{here_by, above_by, nowhere_by}
 use Rattle.t3_interp.proofs.search.find_property.Goals as goal
 
@@ -17,3 +17,6 @@ loop-preserved c =
     let above = above_by c.args.store.now.store c.loop.at c.args.property c.in-Above.above c.loop.invariant.1
     (sym c.next_place.ensures ∙ c.in-Above.is) in
     (above.0 ∙ c.loop.invariant.0, above.1)
+
+pub loop-init : goal.loop-init
+loop-init c = (refl, c.objects-end.ensures.acyclic c.args.number)
