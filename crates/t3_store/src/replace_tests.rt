@@ -3,7 +3,7 @@ use super::tests::{create, empty_store, few_writes, savepoint, set};
 use super::*;
 use std::alloc::Global;
 use std::test::Fail;
-use t3_holder::{Holder, NoMemory};
+use t3_holder::Holder;
 use t3_lists::Holders;
 use t3_undo::Cell;
 
@@ -14,9 +14,9 @@ fn replaces(store: &mut Store, number: u32, prop: u16, value: i32) -> Result<boo
 }
 
 /// A vector of one element.
-fn vector(store: &mut Store, alloc: Global) -> Result<u32, StoreRefusal> {
+fn vector(store: &mut Store, alloc: Global) -> Result<u32, Fail> {
     let items = Holders(Vec::from_elem(alloc, Holder::Int(1), 1)?);
-    store.create(NewObject::Vector(items), false)
+    Ok(store.create(NewObject::Vector(items), false)?)
 }
 
 #[test]

@@ -37,7 +37,7 @@ fn finds_properties(rt: HostRuntime) -> Result<(), Fail> {
 }
 
 /// Evaluating a property of an operand.
-const EVALUATES_OPERANDS: [Row; 12] = [
+const EVALUATES_OPERANDS: [Row; 14] = [
     // Only the object and the property are taken.
     (
         "pushint8 7 / pushobj 4 / getprop 3 / getr0 / builtin_a 1 0 / pushobj 4 / callprop 0 4 / getr0 / builtin_a 1 0 / pushobj 4 / pushpropid 5 / ptrcallprop 0 / getr0 / builtin_a 1 0 / builtin_a 1 0 / retnil",
@@ -50,6 +50,14 @@ const EVALUATES_OPERANDS: [Row; 12] = [
     ),
     ("pushobj 99 / getprop 2", "[unhandled object=10 fault=20]\n"),
     ("pushnil / getprop 7", "[unhandled object=10 fault=1]\n"),
+    (
+        "pushpropid 2 / getprop 2",
+        "[unhandled object=10 fault=1]\n",
+    ),
+    (
+        "pushnil / pushpropid 2 / ptrcallprop 0",
+        "[unhandled object=10 fault=1]\n",
+    ),
     ("getprop 2", "[bad code at=10 why=Underflow]\n"),
     // A value takes no arguments.
     (
@@ -94,7 +102,7 @@ fn evaluates_of_operands(rt: HostRuntime) -> Result<(), Fail> {
 }
 
 /// Evaluating a property of an object that is named, or that another method is taken from.
-const EVALUATES_OBJECTS: [Row; 12] = [
+const EVALUATES_OBJECTS: [Row; 13] = [
     (
         "pushint8 7 / objgetprop 4 3 / getr0 / builtin_a 1 0 / objcallprop 0 4 4 / getr0 / builtin_a 1 0 / expinherit 0 3 4 / getr0 / builtin_a 1 0 / pushobj 4 / delegate 0 4 / getr0 / builtin_a 1 0 / builtin_a 1 0 / retnil",
         "233423347\n",
@@ -125,6 +133,7 @@ const EVALUATES_OBJECTS: [Row; 12] = [
         "[unhandled object=10 fault=20]\n",
     ),
     ("push_1 / delegate 0 2", "[unhandled object=10 fault=1]\n"),
+    ("pushnil / delegate 0 2", "[unhandled object=10 fault=1]\n"),
     (
         "push_1 / pushobj 4 / delegate 1 2",
         "[unhandled object=10 fault=2]\n",
@@ -175,7 +184,7 @@ fn has_no_self(rt: HostRuntime) -> Result<(), Fail> {
 }
 
 /// Setting properties.
-const SETS: [Row; 12] = [
+const SETS: [Row; 14] = [
     // The superclass keeps its own, and the register stays.
     (
         "pushint8 7 / objgetprop 4 2 / pushint8 5 / pushobj 4 / setprop 3 / getr0 / builtin_a 1 0 / objgetprop 4 3 / getr0 / builtin_a 1 0 / objgetprop 2 3 / getr0 / builtin_a 1 0 / builtin_a 1 0 / retnil",
@@ -204,6 +213,10 @@ const SETS: [Row; 12] = [
         "pushobj 4 / push_1 / setprop 3",
         "[unhandled object=10 fault=1]\n",
     ),
+    (
+        "push_1 / pushnil / setprop 3",
+        "[unhandled object=10 fault=1]\n",
+    ),
     ("pushobj 4 / setprop 3", "[bad code at=15 why=Underflow]\n"),
     (
         "push_1 / pushobj 99 / pushnil / ptrsetprop",
@@ -212,6 +225,10 @@ const SETS: [Row; 12] = [
     (
         "push_1 / pushobj 99 / pushpropid 3 / ptrsetprop",
         "[unhandled object=10 fault=20]\n",
+    ),
+    (
+        "push_1 / pushnil / pushpropid 3 / ptrsetprop",
+        "[unhandled object=10 fault=1]\n",
     ),
     (
         "pushobj 4 / pushpropid 3 / ptrsetprop",
@@ -231,18 +248,39 @@ fn sets_properties(rt: HostRuntime) -> Result<(), Fail> {
 }
 
 /// Values that are said or called, of the object or inherited. No function says texts, and nothing is called yet.
-const SAYS_OR_CALLS: [Row; 9] = [
+const SAYS_OR_CALLS: [Row; 17] = [
     ("objgetprop 7 6", "[unhandled object=10 fault=12]\n"),
     // A text takes no arguments.
     (
         "push_1 / objcallprop 1 7 6",
         "[unhandled object=10 fault=2]\n",
     ),
+    // A text that is inherited.
+    ("pushobj 8 / getprop 6", "[unhandled object=10 fault=12]\n"),
+    (
+        "push_1 / pushobj 8 / callprop 1 6",
+        "[unhandled object=10 fault=2]\n",
+    ),
+    (
+        "pushobj 8 / delegate 0 6",
+        "[unhandled object=10 fault=12]\n",
+    ),
+    ("expinherit 0 6 8", "[unhandled object=10 fault=12]\n"),
     ("objgetprop 7 7", "[bad code at=10 why=Unbuilt]\n"),
+    ("pushobj 9 / getprop 7", "[bad code at=15 why=Unbuilt]\n"),
+    (
+        "push_1 / objcallprop 1 8 7",
+        "[bad code at=11 why=Unbuilt]\n",
+    ),
     (
         "push_1 / pushobj 8 / callprop 1 7",
         "[bad code at=16 why=Unbuilt]\n",
     ),
+    (
+        "pushobj 8 / pushpropid 7 / ptrcallprop 0",
+        "[bad code at=18 why=Unbuilt]\n",
+    ),
+    ("expinherit 0 7 8", "[bad code at=10 why=Unbuilt]\n"),
     ("pushobj 8 / delegate 0 7", "[bad code at=15 why=Unbuilt]\n"),
     // A value that is set stands before what would be called.
     (
