@@ -58,11 +58,7 @@ pub(crate) fn empty_store(
 }
 
 /// Makes an object without anything.
-pub(crate) fn create(
-    store: &mut Store,
-    alloc: Global,
-    transient: bool,
-) -> Result<u32, StoreRefusal> {
+pub fn create(store: &mut Store, alloc: Global, transient: bool) -> Result<u32, StoreRefusal> {
     store.create(plain(alloc), transient)
 }
 

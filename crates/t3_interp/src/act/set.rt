@@ -97,7 +97,7 @@ fn set(core: &mut Core, property: u16, object: Holder, value: Holder) -> Result<
     }
 }
 
-/// Sets a property of the object of a number. For one that the object has no memory is taken.
+/// Sets a property of the object of a number. No memory is taken where the object has it.
 fn set_of_object(
     core: &mut Core,
     property: u16,
