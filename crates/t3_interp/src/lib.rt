@@ -16,6 +16,7 @@
 #![tactic(auto)]
 
 mod act;
+mod decode_cache;
 mod effect;
 mod event;
 mod exception;

@@ -6,6 +6,7 @@ ghost use Rattle.t3_interp.specs.Machine.{initial};
 ghost use Rattle.t3_interp.specs.Step.{Steps, Goes, state_of};
 ghost use Rattle.t3_interp.specs.Inner.Acting.{IsBetweenSteps};
 
+use crate::decode_cache::DecodeCache;
 use crate::event::{Event, Input, Want};
 use crate::running::{Core, Running, Stage};
 use std::alloc::Global;
@@ -26,6 +27,8 @@ pub struct Machine {
 pub(crate) struct Whole {
     alloc: Global,
     program: Program,
+    /// Instructions of the program. No contract sees it.
+    cache: DecodeCache,
     running: Running,
 }
 
@@ -47,8 +50,10 @@ impl Model for Machine {
     ghost view = { λ m. record { program = m.whole.value.program; state = state_of m.whole.value.running } };
 
     ghost use Rattle.t3_interp.specs.Inner.Acting.{IsBetweenSteps};
+    ghost use Rattle.t3_interp.specs.Inner.DecodeCache.{IsCacheOf};
 
-    ghost invariant = { λ m. IsBetweenSteps m.whole.value.running };
+    ghost invariant = { λ m. IsBetweenSteps m.whole.value.running
+        × IsCacheOf m.whole.value.program.pools.code m.whole.value.cache };
 }
 
 impl Machine {
@@ -58,6 +63,7 @@ impl Machine {
         ensures program { IfOk result (λ machine. machine.program ≡ program) }
         ensures state { IfOk result (λ machine. machine.state ≡ initial program) }
     {
+        let cache = DecodeCache::new(alloc)?;
         let running = begin(alloc, &program)?;
         Ok(Machine {
             whole: Box::new(
@@ -65,6 +71,7 @@ impl Machine {
                 Whole {
                     alloc,
                     program,
+                    cache,
                     running,
                 },
             )?,
@@ -99,7 +106,7 @@ impl Machine {
     {
         let Input::Go = input;
         let whole = &mut *self.whole;
-        whole.running.step(whole.alloc, &whole.program)?;
+        whole.running.step(whole.alloc, &whole.program, &mut whole.cache)?;
         let event = whole.running.take_event();
         Ok((self, event))
     }
@@ -117,7 +124,9 @@ impl Machine {
         ensures all { IfOk result (λ gone. gone.2 ≡ Went → gone.1 ≡ most) }
     {
         let whole = &mut *self.whole;
-        let made = whole.running.go(whole.alloc, &whole.program, most)?;
+        let made = whole
+            .running
+            .go(whole.alloc, &whole.program, &mut whole.cache, most)?;
         let event = whole.running.take_event();
         Ok((self, made, event))
     }

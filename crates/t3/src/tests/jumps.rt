@@ -1,5 +1,5 @@
 //! Instructions that go elsewhere: plain cases, faults, and targets that are no addresses.
-use crate::tests::builder::{Row, first_unlike};
+use crate::tests::builder::{ENTRY, FUNCTIONS, Row, code_image, first_unlike, outcome};
 use std::test::Fail;
 
 /// Jumps, each of the two ways.
@@ -57,6 +57,30 @@ const JUMPS: [Row; 16] = [
 #[test]
 fn jumps(rt: HostRuntime) -> Result<(), Fail> {
     assert_eq!(rt; first_unlike(rt.alloc(), 0, &JUMPS)?, None);
+    Ok(())
+}
+
+/// A page of code of at most 8,192 bytes.
+const LARGE_POOL: &[u8] =
+    b"CPDF\x0A\x00\x00\x00\x01\x00\x01\x00\x01\x00\x00\x00\x00\x20\x00\x00";
+
+/// The local is 0; then at 12 it grows by 1, and a jump goes to 4,108.
+const GROWS_BY_1: &[u8] = b"\xD6\x00\xD0\x00\x00\x91\xFC\x0F";
+
+/// At 4,108 the local grows by 10, and while it is below 50 a jump goes to 12; then it is said.
+const GROWS_BY_10: &[u8] = b"\xD2\x00\x0A\x80\x00\x03\x32\x98\xF8\xEF\x80\x00\xB1\x01\x00\x51";
+
+/// Two instructions 4,096 bytes apart, which have one line of the decoded ones, are carried out in turn.
+#[test]
+fn turns_between_instructions_of_one_line(rt: HostRuntime) -> Result<(), Fail> {
+    let alloc = rt.alloc();
+    let mut body = Vec::from_slice(alloc, GROWS_BY_1)?;
+    body.extend_from_slice(&[0xF2; 4090])?;
+    body.extend_from_slice(GROWS_BY_10)?;
+    let header = b"\x00\x00\x01\x00\x02\x00\x00\x00\x00\x00";
+    let image = code_image(alloc, &[ENTRY, LARGE_POOL, FUNCTIONS], header, &body)?;
+    let (_, shown) = outcome(alloc, &["run", "a.t3"], Some(&image))?;
+    assert_eq!(rt; shown.as_slice(), b"55\n".as_slice());
     Ok(())
 }
 

@@ -9,6 +9,7 @@ pub loop-made-init : goal.loop-made-init
 loop-made-init c =
     let running = c.args.self.now in
     record {
+      cache = c.requires.cache;
       goes = gone_none c.args.program.now (state_of running) running.event c.requires.untold;
       untold = c.requires.untold;
       wants = c.requires.wants;
@@ -36,6 +37,7 @@ loop-made-preserved c =
     let takes = subst (λ (e : Event). Steps program (state_of before) (record { state = state_of after; event = e })) untold made.step in
     let test = c.loop-made-test.true in
     record {
+      cache = made.cache;
       goes =
           gone_more program c.loop-made.made (state_of c.args.self.now) (state_of before) (state_of after) before.event after.event invariant.untold
           invariant.goes made.step;
