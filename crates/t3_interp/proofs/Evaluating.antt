@@ -7,7 +7,7 @@ use Rattle.t3_store.specs.Value.{Value, supers_of, kind_of}
 use Rattle.t3_store.specs.Store.{StoreValue, value_at, objects_in}
 use Rattle.t3_store.specs.Whole.{supers_of_live}
 use Rattle.t3_load.specs.Loading.{ProgramValue}
-use Rattle.t3_interp.specs.declared.effect.Effect.{Effect}
+use Rattle.t3_interp.specs.Effect.{Effect}
 use Rattle.t3_interp.specs.declared.running.Core.{Core}
 use Rattle.t3_interp.specs.Machine.{Context, Action}
 use Rattle.t3_interp.specs.Objects.{of_object, found_action, found_or_asks}

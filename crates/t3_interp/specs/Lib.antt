@@ -1,3 +1,4 @@
+pub mod Effect
 pub mod Machine
 pub mod Values
 pub mod Search

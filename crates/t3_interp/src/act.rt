@@ -18,6 +18,7 @@ mod push;
 mod set;
 mod stack;
 
+use crate::effect::Effect;
 use crate::running::Running;
 use std::alloc::Global;
 use t3_holder::NoMemory;
@@ -68,8 +69,7 @@ pub(crate) fn act(
     }
 }
 
-/// The same for what returns or evaluates a property. It stands apart, since its effect, which has room for
-/// a text, is handed over in memory.
+/// The same for what returns or evaluates a property. It stands apart, since it is long.
 #[inline(never)]
 fn act_call(
     alloc: Global,
@@ -85,7 +85,8 @@ fn act_call(
     running.settle(alloc, program, effect)
 }
 
-/// The same for what makes an object, says, throws, or calls a built-in function.
+/// The same for what makes an object, says, throws, or calls a built-in function. It stands apart, since its
+/// effect, which has room for a text, is handed over in memory.
 #[inline(never)]
 fn act_make(
     alloc: Global,
@@ -97,6 +98,11 @@ fn act_make(
     requires untold { running.old.event ≡ Went }
     ensures { OnOk result (HasActed program.now (Make code) running.old running.new) }
 {
-    let effect = make::make(alloc, program, &mut running.core, code)?;
-    running.settle(alloc, program, effect)
+    match make::make(alloc, program, &mut running.core, code)? {
+        Effect::Quiet(effect) => running.settle(alloc, program, effect),
+        Effect::Say(text) => {
+            running.say(text);
+            Ok(())
+        }
+    }
 }

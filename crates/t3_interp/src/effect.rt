@@ -2,17 +2,15 @@ use crate::event::CodeWhy;
 use t3_holder::Bytes;
 use t3_ops::Fault;
 
-/// What an instruction asks for.
-#[derive(Debug, Drop)]
-pub(crate) enum Effect {
+/// What an instruction asks for that says nothing. It owns nothing, so handing it on costs nothing.
+#[derive(Clone, Copy, Debug)]
+pub(crate) enum Quiet {
     /// To go on at the next instruction.
     Next,
     /// To go on at an address, or at what is none.
     Jump(Option<u32>),
     /// To return. The register has been set.
     Return,
-    /// To say a text to the console, and go on.
-    Say(Bytes),
     /// To make the exception of a fault, and throw it.
     Fault(Fault),
     /// To end the run, since nothing can be carried out at the frame's place.
@@ -21,4 +19,12 @@ pub(crate) enum Effect {
     Throw(u32),
     /// To end the run, since the store has no room.
     StoreFull,
+}
+
+/// What an instruction asks for that may say a text.
+#[derive(Debug, Drop)]
+pub(crate) enum Effect {
+    Quiet(Quiet),
+    /// To say a text to the console, and go on.
+    Say(Bytes),
 }

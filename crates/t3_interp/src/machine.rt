@@ -106,7 +106,9 @@ impl Machine {
     {
         let Input::Go = input;
         let whole = &mut *self.whole;
-        whole.running.step(whole.alloc, &whole.program, &mut whole.cache)?;
+        whole
+            .running
+            .step(whole.alloc, &whole.program, &mut whole.cache)?;
         let event = whole.running.take_event();
         Ok((self, event))
     }

@@ -87,18 +87,22 @@ impl Journal {
     /// object is older than the newest, and that one has no record of the cell. While there are as many
     /// records as the limit says, the oldest savepoint goes first, with its records; where none is left,
     /// nothing is recorded.
+    #[inline(always)]
     pub fn note(&mut self, number: u32, cell: Cell, old: Content)
         ensures { self.new ≡ record self.old {
           segments = note_in self.old.record_limit
               (record { number = number; cell = cell; old = shown old }) self.old.segments;
         } }
     {
-        note_record(
-            &mut self.marks,
-            &mut self.records,
-            self.record_limit,
-            Kept { number, cell, old },
-        );
+        // Mostly none is held, and then a caller pays for a test alone.
+        if !self.marks.is_empty() {
+            note_record(
+                &mut self.marks,
+                &mut self.records,
+                self.record_limit,
+                Kept { number, cell, old },
+            );
+        }
     }
 
     /// The number that was next at the newest savepoint. `None` exactly where none is held.

@@ -108,6 +108,7 @@ fn add_record(marks: &mut Vec<Mark>, records: &mut Vec<Kept>, kept: Kept)
 }
 
 /// Adds a record where one is due, after the oldest savepoints have made room for it.
+#[inline(never)]
 pub(crate) fn note_record(marks: &mut Vec<Mark>, records: &mut Vec<Kept>, limit: u32, kept: Kept)
     requires counted { AreCounted marks.old.items records.old.items }
     requires room { limit ≤ vec_capacity records.old }

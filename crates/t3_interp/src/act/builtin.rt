@@ -3,12 +3,12 @@ ghost use Rattle.std.specs.Prelude.{◌≡◌, ◌≤◌, ◌++◌, if◌then◌
 ghost use Rattle.t3_interp.specs.Values.{said_text, said_texts};
 ghost use Rattle.t3_interp.specs.Search.{kind_fault as kind_fault_of};
 ghost use Rattle.t3_interp.specs.Builtins.{builtin_action, io_action, is_gen_function, says};
-ghost use Rattle.t3_interp.specs.Inner.Acting.{HasAction, Appends};
-ghost use Rattle.t3_interp.specs.declared.effect.Effect.TheVariants.{Stop, Fault as FaultEffect};
+ghost use Rattle.t3_interp.specs.Inner.Acting.{HasAction, Appends, quiet_of, effect_of};
+ghost use Rattle.t3_interp.specs.Effect.{Stop, Fault as FaultEffect};
 ghost use Rattle.t3_interp.specs.declared.event.CodeWhy.TheVariants.{Unbuilt};
 ghost use Rattle.t3_ops.specs.declared.fault.Fault.TheVariants.{NoBuiltin};
 
-use crate::effect::Effect;
+use crate::effect::{Effect, Quiet};
 use crate::event::CodeWhy;
 use crate::running::Core;
 use crate::values::kind_fault;
@@ -36,35 +36,36 @@ pub(super) fn builtin(
     count: u8,
 ) -> Result<Effect, NoMemory>
     ensures { IfOk result (λ effect. HasAction (builtin_action program.now set index count) core.old
-        effect core.new) }
+        (effect_of effect) core.new) }
 {
     match program.sets.0.get(usize::from(set)) {
         Some(SetKind::Io) => io_builtin(alloc, core, index, count),
-        Some(SetKind::Gen) => Ok(unless_listed(is_gen_function(index))),
-        Some(SetKind::Vm) => Ok(unless_listed(index == SET_SAY)),
-        None => Ok(Effect::Fault(Fault::NoBuiltin)),
+        Some(SetKind::Gen) => Ok(Effect::Quiet(unless_listed(is_gen_function(index)))),
+        Some(SetKind::Vm) => Ok(Effect::Quiet(unless_listed(index == SET_SAY))),
+        None => Ok(Effect::Quiet(Quiet::Fault(Fault::NoBuiltin))),
     }
 }
 
 /// Calls a function of the set for input and output.
 fn io_builtin(alloc: Global, core: &mut Core, index: u8, count: u8) -> Result<Effect, NoMemory>
-    ensures { IfOk result (λ effect. HasAction (io_action index count) core.old effect core.new) }
+    ensures { IfOk result
+        (λ effect. HasAction (io_action index count) core.old (effect_of effect) core.new) }
 {
     match index {
         SAY => say(alloc, core, count),
-        INPUT_LINE => Ok(Effect::Stop(CodeWhy::Unbuilt)),
-        _ => Ok(Effect::Fault(Fault::NoBuiltin)),
+        INPUT_LINE => Ok(Effect::Quiet(Quiet::Stop(CodeWhy::Unbuilt))),
+        _ => Ok(Effect::Quiet(Quiet::Fault(Fault::NoBuiltin))),
     }
 }
 
 /// What is asked for by a function that is listed, but not built yet, or by one that there isn't.
-fn unless_listed(listed: bool) -> Effect
-    ensures { result ≡ if listed then Stop Unbuilt else FaultEffect NoBuiltin }
+fn unless_listed(listed: bool) -> Quiet
+    ensures { quiet_of result ≡ if listed then Stop Unbuilt else FaultEffect NoBuiltin }
 {
     if listed {
-        Effect::Stop(CodeWhy::Unbuilt)
+        Quiet::Stop(CodeWhy::Unbuilt)
     } else {
-        Effect::Fault(Fault::NoBuiltin)
+        Quiet::Fault(Fault::NoBuiltin)
     }
 }
 
@@ -79,10 +80,10 @@ fn is_gen_function(index: u8) -> bool
 fn say(alloc: Global, core: &mut Core, count: u8) -> Result<Effect, NoMemory>
     ensures { IfOk result (λ effect. HasAction (λ context. says count
         (take count context.frame.operands) (drop count context.frame.operands) context)
-        core.old effect core.new) }
+        core.old (effect_of effect) core.new) }
 {
     if count == 0 {
-        return Ok(Effect::Fault(Fault::ArgCount));
+        return Ok(Effect::Quiet(Quiet::Fault(Fault::ArgCount)));
     }
     match joined(alloc, core.frames.topmost(count))? {
         Some(text) => {
@@ -90,7 +91,7 @@ fn say(alloc: Global, core: &mut Core, count: u8) -> Result<Effect, NoMemory>
             core.register = Holder::Nil;
             Ok(Effect::Say(Bytes(text.into_bytes())))
         }
-        None => Ok(Effect::Fault(unsaid(core, count))),
+        None => Ok(Effect::Quiet(Quiet::Fault(unsaid(core, count)))),
     }
 }
 

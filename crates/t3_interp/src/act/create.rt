@@ -2,11 +2,11 @@
 ghost use Rattle.std.specs.Prelude.{◌≡◌, codes, IfOk};
 ghost use Rattle.t3_store.specs.Store.{value_at};
 ghost use Rattle.t3_interp.specs.Objects.{creation, tads_creation, supers_from, super_of, has_method, property_named as property_by};
-ghost use Rattle.t3_interp.specs.Inner.Acting.{HasAction};
+ghost use Rattle.t3_interp.specs.Inner.Acting.{HasDone};
 ghost use Rattle.t3_interp.specs.Inner.Finding.{IsClass, option_list};
 
 use super::evaluate::answer;
-use crate::effect::Effect;
+use crate::effect::Quiet;
 use crate::event::CodeWhy;
 use crate::exception::no_props;
 use crate::running::Core;
@@ -28,18 +28,18 @@ pub(super) fn create(
     transient: bool,
     count: u16,
     index: u16,
-) -> Result<Effect, NoMemory>
-    ensures { IfOk result (λ effect. HasAction (creation program.now transient count index) core.old
+) -> Result<Quiet, NoMemory>
+    ensures { IfOk result (λ effect. HasDone (creation program.now transient count index) core.old
         effect core.new) }
 {
     let Some(entry) = program.kinds.0.get(usize::from(index)) else {
-        return Ok(Effect::Fault(Fault::CannotMake));
+        return Ok(Quiet::Fault(Fault::CannotMake));
     };
     match entry.kind {
-        MetaKind::Root | MetaKind::Collection => Ok(Effect::Fault(Fault::CannotMake)),
+        MetaKind::Root | MetaKind::Collection => Ok(Quiet::Fault(Fault::CannotMake)),
         MetaKind::Tads => create_tads(alloc, program, core, transient, count),
         MetaKind::Text | MetaKind::List | MetaKind::Vector | MetaKind::Table => {
-            Ok(Effect::Stop(CodeWhy::Unbuilt))
+            Ok(Quiet::Stop(CodeWhy::Unbuilt))
         }
     }
 }
@@ -52,17 +52,17 @@ fn create_tads(
     core: &mut Core,
     transient: bool,
     count: u16,
-) -> Result<Effect, NoMemory>
-    ensures { IfOk result (λ effect. HasAction (λ context. tads_creation program.now transient count
+) -> Result<Quiet, NoMemory>
+    ensures { IfOk result (λ effect. HasDone (λ context. tads_creation program.now transient count
         (supers_from context.store transient count context.frame.operands) context) core.old effect
         core.new) }
 {
     let class = match class_argument(core, transient, count) {
         Ok(class) => class,
-        Err(fault) => return Ok(Effect::Fault(fault)),
+        Err(fault) => return Ok(Quiet::Fault(fault)),
     };
     if has_constructor(alloc, program, &core.store, class)? {
-        return Ok(Effect::Stop(CodeWhy::Unbuilt));
+        return Ok(Quiet::Stop(CodeWhy::Unbuilt));
     }
     let what = NewObject::Tads {
         supers: numbers_of(alloc, class)?,
@@ -71,7 +71,7 @@ fn create_tads(
     };
     match core.store.create(what, transient) {
         Ok(number) => Ok(answer(core, Holder::Obj(number), count)),
-        Err(StoreRefusal::Full) => Ok(Effect::StoreFull),
+        Err(StoreRefusal::Full) => Ok(Quiet::StoreFull),
         Err(StoreRefusal::NoMemory) => Err(NoMemory),
     }
 }

@@ -3,9 +3,9 @@ ghost use Rattle.std.specs.Prelude.{IfOk};
 ghost use Rattle.t3_store.specs.Store.{value_at};
 ghost use Rattle.t3_interp.specs.Machine.{answers};
 ghost use Rattle.t3_interp.specs.Objects.{pops, by_property, evaluates, of_object, found_action, asks};
-ghost use Rattle.t3_interp.specs.Inner.Acting.{HasAction, asks_object};
+ghost use Rattle.t3_interp.specs.Inner.Acting.{HasDone, asks_object};
 
-use crate::effect::Effect;
+use crate::effect::Quiet;
 use crate::event::CodeWhy;
 use crate::methods::{is_method, metaclasses_of, method_of};
 use crate::running::Core;
@@ -24,15 +24,15 @@ pub(super) fn evaluate(
     value: Holder,
     property: u16,
     count: u8,
-) -> Result<Effect, NoMemory>
+) -> Result<Quiet, NoMemory>
     ensures { IfOk result
-        (λ effect. HasAction (evaluates program.now property count value) core.old effect core.new) }
+        (λ effect. HasDone (evaluates program.now property count value) core.old effect core.new) }
 {
     match value {
         Holder::Obj(number) => evaluate_object(alloc, program, core, number, property, count),
         Holder::Text(_) => Ok(ask(program, core, property, count, Kind::Text)),
         Holder::List(_) => Ok(ask(program, core, property, count, Kind::List)),
-        _ => Ok(Effect::Fault(Fault::NotObject)),
+        _ => Ok(Quiet::Fault(Fault::NotObject)),
     }
 }
 
@@ -43,13 +43,13 @@ pub(super) fn evaluate_popped(
     core: &mut Core,
     property: u16,
     count: u8,
-) -> Result<Effect, NoMemory>
+) -> Result<Quiet, NoMemory>
     ensures { IfOk result
-        (λ effect. HasAction (pops (evaluates program.now property count)) core.old effect core.new) }
+        (λ effect. HasDone (pops (evaluates program.now property count)) core.old effect core.new) }
 {
     match core.frames.pop() {
         Some(value) => evaluate(alloc, program, core, value, property, count),
-        None => Ok(Effect::Stop(CodeWhy::Underflow)),
+        None => Ok(Quiet::Stop(CodeWhy::Underflow)),
     }
 }
 
@@ -59,14 +59,14 @@ pub(super) fn evaluate_by_pointer(
     program: &Program,
     core: &mut Core,
     count: u8,
-) -> Result<Effect, NoMemory>
-    ensures { IfOk result (λ effect. HasAction
+) -> Result<Quiet, NoMemory>
+    ensures { IfOk result (λ effect. HasDone
         (pops (by_property (λ p. pops (evaluates program.now p count)))) core.old effect core.new) }
 {
     match core.frames.pop() {
         Some(Holder::Prop(property)) => evaluate_popped(alloc, program, core, property, count),
-        Some(_) => Ok(Effect::Fault(Fault::Kind)),
-        None => Ok(Effect::Stop(CodeWhy::Underflow)),
+        Some(_) => Ok(Quiet::Fault(Fault::Kind)),
+        None => Ok(Quiet::Stop(CodeWhy::Underflow)),
     }
 }
 
@@ -77,8 +77,8 @@ pub(super) fn evaluate_self(
     core: &mut Core,
     property: u16,
     count: u8,
-) -> Result<Effect, NoMemory>
-    ensures { IfOk result (λ effect. HasAction (λ context. evaluates program.now property count
+) -> Result<Quiet, NoMemory>
+    ensures { IfOk result (λ effect. HasDone (λ context. evaluates program.now property count
         context.frame.this context) core.old effect core.new) }
 {
     let this = core.frames.this();
@@ -91,16 +91,16 @@ pub(super) fn evaluate_self_by_pointer(
     program: &Program,
     core: &mut Core,
     count: u8,
-) -> Result<Effect, NoMemory>
-    ensures { IfOk result (λ effect. HasAction (λ context. pops
+) -> Result<Quiet, NoMemory>
+    ensures { IfOk result (λ effect. HasDone (λ context. pops
         (by_property (λ p. evaluates program.now p count context.frame.this)) context) core.old effect
         core.new) }
 {
     let this = core.frames.this();
     match core.frames.pop() {
         Some(Holder::Prop(property)) => evaluate(alloc, program, core, this, property, count),
-        Some(_) => Ok(Effect::Fault(Fault::Kind)),
-        None => Ok(Effect::Stop(CodeWhy::Underflow)),
+        Some(_) => Ok(Quiet::Fault(Fault::Kind)),
+        None => Ok(Quiet::Stop(CodeWhy::Underflow)),
     }
 }
 
@@ -112,8 +112,8 @@ fn evaluate_object(
     number: u32,
     property: u16,
     count: u8,
-) -> Result<Effect, NoMemory>
-    ensures { IfOk result (λ effect. HasAction
+) -> Result<Quiet, NoMemory>
+    ensures { IfOk result (λ effect. HasDone
         (λ context. of_object program.now property count number (value_at context.store number) context)
         core.old effect core.new) }
 {
@@ -126,44 +126,44 @@ fn evaluate_object(
 /// Of an object for which the property isn't found.
 #[cold]
 #[inline(never)]
-fn ask_object(program: &Program, core: &mut Core, number: u32, property: u16, count: u8) -> Effect
-    ensures { HasAction (λ context. asks_object program.now property count (value_at context.store number)
+fn ask_object(program: &Program, core: &mut Core, number: u32, property: u16, count: u8) -> Quiet
+    ensures { HasDone (λ context. asks_object program.now property count (value_at context.store number)
         context) core.old result core.new }
 {
     match core.store.kind(number) {
         Some(kind) => ask(program, core, property, count, kind),
-        None => Effect::Fault(Fault::Stale),
+        None => Quiet::Fault(Fault::Stale),
     }
 }
 
 /// What comes of a value that was found for a property.
-pub(super) fn give_found(core: &mut Core, value: Holder, count: u8) -> Effect
-    ensures { HasAction (found_action value count) core.old result core.new }
+pub(super) fn give_found(core: &mut Core, value: Holder, count: u8) -> Quiet
+    ensures { HasDone (found_action value count) core.old result core.new }
 {
     match value {
-        Holder::Code(_) => Effect::Stop(CodeWhy::Unbuilt),
-        Holder::Shown(_) if count == 0 => Effect::Fault(Fault::NoSay),
+        Holder::Code(_) => Quiet::Stop(CodeWhy::Unbuilt),
+        Holder::Shown(_) if count == 0 => Quiet::Fault(Fault::NoSay),
         _ if count == 0 => answer(core, value, 0),
-        _ => Effect::Fault(Fault::ArgCount),
+        _ => Quiet::Fault(Fault::ArgCount),
     }
 }
 
 /// Asks the methods of a kind.
-fn ask(program: &Program, core: &mut Core, property: u16, count: u8, kind: Kind) -> Effect
-    ensures { HasAction (asks program.now property count kind) core.old result core.new }
+fn ask(program: &Program, core: &mut Core, property: u16, count: u8, kind: Kind) -> Quiet
+    ensures { HasDone (asks program.now property count kind) core.old result core.new }
 {
     match method_of(program.kinds.0.as_slice(), property, metaclasses_of(kind)) {
-        Some((metaclass, index)) if is_method(metaclass, index) => Effect::Stop(CodeWhy::Unbuilt),
-        Some(_) => Effect::Fault(Fault::NoMethod),
+        Some((metaclass, index)) if is_method(metaclass, index) => Quiet::Stop(CodeWhy::Unbuilt),
+        Some(_) => Quiet::Fault(Fault::NoMethod),
         None => answer(core, Holder::Nil, u16::from(count)),
     }
 }
 
 /// Drops the topmost operands, so many, and answers a value.
-pub(super) fn answer(core: &mut Core, value: Holder, count: u16) -> Effect
-    ensures { HasAction (answers value count) core.old result core.new }
+pub(super) fn answer(core: &mut Core, value: Holder, count: u16) -> Quiet
+    ensures { HasDone (answers value count) core.old result core.new }
 {
     core.frames.drop_operands(count);
     core.register = value;
-    Effect::Next
+    Quiet::Next
 }

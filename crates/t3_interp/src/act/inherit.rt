@@ -1,11 +1,11 @@
 //! Evaluating a property as another object has it.
 ghost use Rattle.std.specs.Prelude.{IfOk};
 ghost use Rattle.t3_interp.specs.Objects.{pops, delegates, inherits, found_or_nil};
-ghost use Rattle.t3_interp.specs.Inner.Acting.{HasAction};
+ghost use Rattle.t3_interp.specs.Inner.Acting.{HasDone};
 ghost use Rattle.t3_interp.specs.Inner.Finding.{found_value};
 
 use super::evaluate::{answer, give_found};
-use crate::effect::Effect;
+use crate::effect::Quiet;
 use crate::event::CodeWhy;
 use crate::running::Core;
 use crate::search::{Found, find_inherited, find_property};
@@ -19,8 +19,8 @@ pub(super) fn inherit(
     core: &mut Core,
     property: u16,
     count: u8,
-) -> Result<Effect, NoMemory>
-    ensures { IfOk result (λ effect. HasAction (inherits property count) core.old effect core.new) }
+) -> Result<Quiet, NoMemory>
+    ensures { IfOk result (λ effect. HasDone (inherits property count) core.old effect core.new) }
 {
     let defining = core.frames.defining();
     match tads_object(&core.store, core.frames.this()) {
@@ -28,7 +28,7 @@ pub(super) fn inherit(
             let found = find_inherited(alloc, &core.store, defining, number, property)?;
             Ok(give_found_or_nil(core, found, count))
         }
-        Err(fault) => Ok(Effect::Fault(fault)),
+        Err(fault) => Ok(Quiet::Fault(fault)),
     }
 }
 
@@ -39,15 +39,15 @@ pub(super) fn delegate(
     value: Holder,
     property: u16,
     count: u8,
-) -> Result<Effect, NoMemory>
-    ensures { IfOk result (λ effect. HasAction (delegates property count value) core.old effect core.new) }
+) -> Result<Quiet, NoMemory>
+    ensures { IfOk result (λ effect. HasDone (delegates property count value) core.old effect core.new) }
 {
     match tads_object(&core.store, value) {
         Ok(number) => {
             let found = find_property(alloc, &core.store, number, property)?;
             Ok(give_found_or_nil(core, found, count))
         }
-        Err(fault) => Ok(Effect::Fault(fault)),
+        Err(fault) => Ok(Quiet::Fault(fault)),
     }
 }
 
@@ -57,18 +57,18 @@ pub(super) fn delegate_popped(
     core: &mut Core,
     property: u16,
     count: u8,
-) -> Result<Effect, NoMemory>
-    ensures { IfOk result (λ effect. HasAction (pops (delegates property count)) core.old effect core.new) }
+) -> Result<Quiet, NoMemory>
+    ensures { IfOk result (λ effect. HasDone (pops (delegates property count)) core.old effect core.new) }
 {
     match core.frames.pop() {
         Some(value) => delegate(alloc, core, value, property, count),
-        None => Ok(Effect::Stop(CodeWhy::Underflow)),
+        None => Ok(Quiet::Stop(CodeWhy::Underflow)),
     }
 }
 
 /// What comes of what was found, or of nothing.
-fn give_found_or_nil(core: &mut Core, found: Option<Found>, count: u8) -> Effect
-    ensures { HasAction (found_or_nil count (found_value found)) core.old result core.new }
+fn give_found_or_nil(core: &mut Core, found: Option<Found>, count: u8) -> Quiet
+    ensures { HasDone (found_or_nil count (found_value found)) core.old result core.new }
 {
     match found {
         Some(found) => give_found(core, found.value, count),

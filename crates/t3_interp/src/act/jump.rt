@@ -3,9 +3,9 @@ ghost use Rattle.std.specs.Prelude.{◌≡◌, ◌+◌, ◌<◌, ◌^◌, ℤ, o
 ghost use Rattle.std.specs.List.{slice_get};
 ghost use Rattle.t3_methods.specs.declared.instr.JumpCode.TheVariants.{Switch};
 ghost use Rattle.t3_interp.specs.Instructions.{jump_action, switch_on, target as target_of, target_from as target_by, test_on, pair_on, keep_on, lret_on, subroutine, switched, jump_in};
-ghost use Rattle.t3_interp.specs.Inner.Acting.{HasAction, HasCasesOf, context_of};
+ghost use Rattle.t3_interp.specs.Inner.Acting.{HasDone, HasCasesOf, context_of};
 
-use crate::effect::Effect;
+use crate::effect::Quiet;
 use crate::event::CodeWhy;
 use crate::relation::{Relation, equal, related};
 use crate::running::Core;
@@ -19,14 +19,14 @@ const CODE: u8 = 1;
 
 /// Carries out an instruction that jumps.
 #[inline(always)]
-pub(super) fn jump(pools: &Pools, core: &mut Core, code: JumpCode) -> Effect
+pub(super) fn jump(pools: &Pools, core: &mut Core, code: JumpCode) -> Quiet
     requires cases { HasCasesOf pools.now.code code }
     requires next { core.old.frames.newest.next < 2 ^ 31 }
-    ensures { HasAction (jump_action pools.now.code code) core.old result core.new }
+    ensures { HasDone (jump_action pools.now.code code) core.old result core.new }
 {
     match code {
         JumpCode::Switch { count, at } => switch(pools, core, at, count),
-        JumpCode::Jmp(distance) => Effect::Jump(target(core, distance)),
+        JumpCode::Jmp(distance) => Quiet::Jump(target(core, distance)),
         JumpCode::Jt(distance) => jump_if(core, true, distance),
         JumpCode::Jf(distance) => jump_if(core, false, distance),
         JumpCode::Je(distance) => jump_by(core, Relation::Equal, distance),
@@ -60,93 +60,93 @@ fn target(core: &Core, distance: i16) -> Option<u32>
 
 /// Jumps where the topmost operand has this truth, and drops it.
 #[inline(always)]
-fn jump_if(core: &mut Core, wanted: bool, distance: i16) -> Effect
-    ensures { HasAction (λ context. test_on wanted distance context.frame.operands context) core.old result
+fn jump_if(core: &mut Core, wanted: bool, distance: i16) -> Quiet
+    ensures { HasDone (λ context. test_on wanted distance context.frame.operands context) core.old result
         core.new }
 {
     match core.frames.pop() {
-        Some(value) if truth(value) == wanted => Effect::Jump(target(core, distance)),
-        Some(_) => Effect::Next,
-        None => Effect::Stop(CodeWhy::Underflow),
+        Some(value) if truth(value) == wanted => Quiet::Jump(target(core, distance)),
+        Some(_) => Quiet::Next,
+        None => Quiet::Stop(CodeWhy::Underflow),
     }
 }
 
 /// Jumps where the two topmost operands are so to each other, of which the topmost is the right one, and
 /// drops both.
 #[inline(always)]
-fn jump_by(core: &mut Core, relation: Relation, distance: i16) -> Effect
-    ensures { HasAction (λ context. pair_on relation distance context.frame.operands context) core.old result
+fn jump_by(core: &mut Core, relation: Relation, distance: i16) -> Quiet
+    ensures { HasDone (λ context. pair_on relation distance context.frame.operands context) core.old result
         core.new }
 {
     let Some(right) = core.frames.pop() else {
-        return Effect::Stop(CodeWhy::Underflow);
+        return Quiet::Stop(CodeWhy::Underflow);
     };
     let Some(left) = core.frames.pop() else {
-        return Effect::Stop(CodeWhy::Underflow);
+        return Quiet::Stop(CodeWhy::Underflow);
     };
     match related(relation, &core.store, left, right) {
-        Ok(true) => Effect::Jump(target(core, distance)),
-        Ok(false) => Effect::Next,
-        Err(fault) => Effect::Fault(fault),
+        Ok(true) => Quiet::Jump(target(core, distance)),
+        Ok(false) => Quiet::Next,
+        Err(fault) => Quiet::Fault(fault),
     }
 }
 
 /// Jumps where the topmost operand has this truth, and keeps it, and else drops it.
 #[inline(always)]
-fn jump_keeping(core: &mut Core, wanted: bool, distance: i16) -> Effect
-    ensures { HasAction (λ context. keep_on wanted distance context.frame.operands context) core.old result
+fn jump_keeping(core: &mut Core, wanted: bool, distance: i16) -> Quiet
+    ensures { HasDone (λ context. keep_on wanted distance context.frame.operands context) core.old result
         core.new }
 {
     match core.frames.top() {
-        Some(value) if truth(value) == wanted => Effect::Jump(target(core, distance)),
+        Some(value) if truth(value) == wanted => Quiet::Jump(target(core, distance)),
         Some(_) => {
             core.frames.drop_operands(1);
-            Effect::Next
+            Quiet::Next
         }
-        None => Effect::Stop(CodeWhy::Underflow),
+        None => Quiet::Stop(CodeWhy::Underflow),
     }
 }
 
 /// Jumps, once the offset of the next instruction from the method's header is pushed.
-fn enter_subroutine(core: &mut Core, distance: i16) -> Effect
+fn enter_subroutine(core: &mut Core, distance: i16) -> Quiet
     requires { core.old.frames.newest.next < 2 ^ 31 }
-    ensures { HasAction (subroutine distance) core.old result core.new }
+    ensures { HasDone (subroutine distance) core.old result core.new }
 {
     if core.frames.is_full() {
-        return Effect::Fault(Fault::StackFull);
+        return Quiet::Fault(Fault::StackFull);
     }
     let method = core.frames.method().cast_signed();
     let offset = core.frames.next().cast_signed() - method;
     core.frames.push(Holder::Int(offset));
-    Effect::Jump(target(core, distance))
+    Quiet::Jump(target(core, distance))
 }
 
 /// Goes to the offset from the method's header that a local has.
-fn leave_subroutine(core: &mut Core, n: u16) -> Effect
-    ensures { HasAction (λ context. lret_on (slice_get context.frame.locals n) context) core.old result core.new }
+fn leave_subroutine(core: &mut Core, n: u16) -> Quiet
+    ensures { HasDone (λ context. lret_on (slice_get context.frame.locals n) context) core.old result core.new }
 {
     match core.frames.local(n) {
         Some(Holder::Int(offset)) if (0..65_536).contains(&offset) => {
-            Effect::Jump(core.frames.method().checked_add(offset.cast_unsigned()))
+            Quiet::Jump(core.frames.method().checked_add(offset.cast_unsigned()))
         }
-        Some(_) => Effect::Fault(Fault::Kind),
-        None => Effect::Stop(CodeWhy::Local),
+        Some(_) => Quiet::Fault(Fault::Kind),
+        None => Quiet::Stop(CodeWhy::Local),
     }
 }
 
 /// Jumps by the first case that is equal to the topmost operand, which goes, and else by the jump behind
 /// the last case.
-fn switch(pools: &Pools, core: &mut Core, at: u32, count: u16) -> Effect
+fn switch(pools: &Pools, core: &mut Core, at: u32, count: u16) -> Quiet
     requires { HasCasesOf pools.now.code (Switch count at) }
-    ensures { HasAction (λ context. switch_on pools.now.code at count context.frame.operands context) core.old
+    ensures { HasDone (λ context. switch_on pools.now.code at count context.frame.operands context) core.old
         result core.new }
 {
     let Some(value) = core.frames.pop() else {
-        return Effect::Stop(CodeWhy::Underflow);
+        return Quiet::Stop(CodeWhy::Underflow);
     };
     match chosen(pools, at, count, value) {
-        Some((operand, distance)) => Effect::Jump(target_from(operand, distance)),
-        None => Effect::Stop(CodeWhy::Operand),
+        Some((operand, distance)) => Quiet::Jump(target_from(operand, distance)),
+        None => Quiet::Stop(CodeWhy::Operand),
     }
 }
 

@@ -2,11 +2,11 @@
 ghost use Rattle.std.specs.Prelude.{IfOk};
 ghost use Rattle.t3_interp.specs.Instructions.{make_action};
 ghost use Rattle.t3_interp.specs.Objects.{pops, throws};
-ghost use Rattle.t3_interp.specs.Inner.Acting.{HasAction};
+ghost use Rattle.t3_interp.specs.Inner.Acting.{HasAction, HasDone, effect_of};
 
 use super::builtin::builtin;
 use super::create::create;
-use crate::effect::Effect;
+use crate::effect::{Effect, Quiet};
 use crate::event::CodeWhy;
 use crate::running::Core;
 use std::alloc::Global;
@@ -23,12 +23,17 @@ pub(super) fn make(
     core: &mut Core,
     code: MakeCode,
 ) -> Result<Effect, NoMemory>
-    ensures { IfOk result (λ effect. HasAction (make_action program.now code) core.old effect
-        core.new) }
+    ensures { IfOk result (λ effect. HasAction (make_action program.now code) core.old
+        (effect_of effect) core.new) }
 {
-    match code {
-        MakeCode::Say(_) | MakeCode::Sayval => Ok(Effect::Fault(Fault::NoSay)),
-        MakeCode::Throw => Ok(throw_popped(core)),
+    let effect = match code {
+        MakeCode::Builtina(count, index) => return builtin(alloc, program, core, 0, index, count),
+        MakeCode::Builtinb(count, index) => return builtin(alloc, program, core, 1, index, count),
+        MakeCode::Builtinc(count, index) => return builtin(alloc, program, core, 2, index, count),
+        MakeCode::Builtind(count, index) => return builtin(alloc, program, core, 3, index, count),
+        MakeCode::Builtin1(count, index, set) => {
+            return builtin(alloc, program, core, set, index, count);
+        }
         MakeCode::New1(count, index) => {
             create(
                 alloc,
@@ -37,9 +42,9 @@ pub(super) fn make(
                 false,
                 u16::from(count),
                 u16::from(index),
-            )
+            )?
         }
-        MakeCode::New2(count, index) => create(alloc, program, core, false, count, index),
+        MakeCode::New2(count, index) => create(alloc, program, core, false, count, index)?,
         MakeCode::Trnew1(count, index) => {
             create(
                 alloc,
@@ -48,26 +53,24 @@ pub(super) fn make(
                 true,
                 u16::from(count),
                 u16::from(index),
-            )
+            )?
         }
-        MakeCode::Trnew2(count, index) => create(alloc, program, core, true, count, index),
-        MakeCode::Builtina(count, index) => builtin(alloc, program, core, 0, index, count),
-        MakeCode::Builtinb(count, index) => builtin(alloc, program, core, 1, index, count),
-        MakeCode::Builtinc(count, index) => builtin(alloc, program, core, 2, index, count),
-        MakeCode::Builtind(count, index) => builtin(alloc, program, core, 3, index, count),
-        MakeCode::Builtin1(count, index, set) => builtin(alloc, program, core, set, index, count),
-        MakeCode::Index => Ok(Effect::Stop(CodeWhy::Unbuilt)),
-    }
+        MakeCode::Trnew2(count, index) => create(alloc, program, core, true, count, index)?,
+        MakeCode::Say(_) | MakeCode::Sayval => Quiet::Fault(Fault::NoSay),
+        MakeCode::Throw => throw_popped(core),
+        MakeCode::Index => Quiet::Stop(CodeWhy::Unbuilt),
+    };
+    Ok(Effect::Quiet(effect))
 }
 
 /// Throws the topmost operand, which has to be an object that is there.
-fn throw_popped(core: &mut Core) -> Effect
-    ensures { HasAction (pops throws) core.old result core.new }
+fn throw_popped(core: &mut Core) -> Quiet
+    ensures { HasDone (pops throws) core.old result core.new }
 {
     match core.frames.pop() {
-        Some(Holder::Obj(number)) if core.store.live(number) => Effect::Throw(number),
-        Some(Holder::Obj(_)) => Effect::Fault(Fault::Stale),
-        Some(_) => Effect::Fault(Fault::NotObject),
-        None => Effect::Stop(CodeWhy::Underflow),
+        Some(Holder::Obj(number)) if core.store.live(number) => Quiet::Throw(number),
+        Some(Holder::Obj(_)) => Quiet::Fault(Fault::Stale),
+        Some(_) => Quiet::Fault(Fault::NotObject),
+        None => Quiet::Stop(CodeWhy::Underflow),
     }
 }

@@ -3,9 +3,9 @@ ghost use Rattle.std.specs.Prelude.{◌≡◌, ◌<◌};
 ghost use Rattle.t3_frames.specs.Frame.{values, room};
 ghost use Rattle.t3_interp.specs.Instructions.{math_action, one, two, with_number, both, sum_of, telling, truth_told, gives};
 ghost use Rattle.t3_interp.specs.Values.{truth_value as truth_value_of};
-ghost use Rattle.t3_interp.specs.Inner.Acting.{HasAction};
+ghost use Rattle.t3_interp.specs.Inner.Acting.{HasDone};
 
-use crate::effect::Effect;
+use crate::effect::Quiet;
 use crate::event::CodeWhy;
 use crate::relation::{Relation, related};
 use crate::running::Core;
@@ -17,8 +17,8 @@ use t3_store::Store;
 
 /// Carries out an instruction that computes.
 #[inline(always)]
-pub(super) fn math(core: &mut Core, code: MathCode) -> Effect
-    ensures { HasAction (math_action code) core.old result core.new }
+pub(super) fn math(core: &mut Core, code: MathCode) -> Quiet
+    ensures { HasDone (math_action code) core.old result core.new }
 {
     match code {
         MathCode::Neg => number_and(core, ArithOp::Sub, 0),
@@ -49,39 +49,39 @@ pub(super) fn math(core: &mut Core, code: MathCode) -> Effect
 
 /// Computes of a number and the topmost operand, in this order.
 #[inline(always)]
-fn number_and(core: &mut Core, op: ArithOp, number: i32) -> Effect
-    ensures { HasAction (one (with_number op number)) core.old result core.new }
+fn number_and(core: &mut Core, op: ArithOp, number: i32) -> Quiet
+    ensures { HasDone (one (with_number op number)) core.old result core.new }
 {
     let Some(value) = core.frames.pop() else {
-        return Effect::Stop(CodeWhy::Underflow);
+        return Quiet::Stop(CodeWhy::Underflow);
     };
     give(core, computed(op, Holder::Int(number), value))
 }
 
 /// Computes of the two topmost operands, of which the topmost is the right one.
 #[inline(always)]
-fn pair(core: &mut Core, op: ArithOp) -> Effect
-    ensures { HasAction (two (both op)) core.old result core.new }
+fn pair(core: &mut Core, op: ArithOp) -> Quiet
+    ensures { HasDone (two (both op)) core.old result core.new }
 {
     let Some(right) = core.frames.pop() else {
-        return Effect::Stop(CodeWhy::Underflow);
+        return Quiet::Stop(CodeWhy::Underflow);
     };
     let Some(left) = core.frames.pop() else {
-        return Effect::Stop(CodeWhy::Underflow);
+        return Quiet::Stop(CodeWhy::Underflow);
     };
     give(core, computed(op, left, right))
 }
 
 /// Adds the two topmost operands, of which the topmost is the right one.
 #[inline(always)]
-fn add(core: &mut Core) -> Effect
-    ensures { HasAction (λ context. two (sum_of context.store) context) core.old result core.new }
+fn add(core: &mut Core) -> Quiet
+    ensures { HasDone (λ context. two (sum_of context.store) context) core.old result core.new }
 {
     let Some(right) = core.frames.pop() else {
-        return Effect::Stop(CodeWhy::Underflow);
+        return Quiet::Stop(CodeWhy::Underflow);
     };
     let Some(left) = core.frames.pop() else {
-        return Effect::Stop(CodeWhy::Underflow);
+        return Quiet::Stop(CodeWhy::Underflow);
     };
     let sum = sum(&core.store, left, right);
     give(core, sum)
@@ -89,14 +89,14 @@ fn add(core: &mut Core) -> Effect
 
 /// Tells whether the two topmost operands are so to each other, of which the topmost is the right one.
 #[inline(always)]
-fn tell(core: &mut Core, relation: Relation) -> Effect
-    ensures { HasAction (λ context. two (telling context.store relation) context) core.old result core.new }
+fn tell(core: &mut Core, relation: Relation) -> Quiet
+    ensures { HasDone (λ context. two (telling context.store relation) context) core.old result core.new }
 {
     let Some(right) = core.frames.pop() else {
-        return Effect::Stop(CodeWhy::Underflow);
+        return Quiet::Stop(CodeWhy::Underflow);
     };
     let Some(left) = core.frames.pop() else {
-        return Effect::Stop(CodeWhy::Underflow);
+        return Quiet::Stop(CodeWhy::Underflow);
     };
     let outcome = told(relation, &core.store, left, right);
     give(core, outcome)
@@ -104,27 +104,27 @@ fn tell(core: &mut Core, relation: Relation) -> Effect
 
 /// Tells whether the topmost operand has this truth.
 #[inline(always)]
-fn tell_truth(core: &mut Core, wanted: bool) -> Effect
-    ensures { HasAction (one (truth_told wanted)) core.old result core.new }
+fn tell_truth(core: &mut Core, wanted: bool) -> Quiet
+    ensures { HasDone (one (truth_told wanted)) core.old result core.new }
 {
     let Some(value) = core.frames.pop() else {
-        return Effect::Stop(CodeWhy::Underflow);
+        return Quiet::Stop(CodeWhy::Underflow);
     };
     give(core, Ok(truth_value(truth(value) == wanted)))
 }
 
 /// Puts a result on top, in the place of operands that were taken off.
 #[inline(always)]
-fn give(core: &mut Core, outcome: Result<Holder, Fault>) -> Effect
+fn give(core: &mut Core, outcome: Result<Holder, Fault>) -> Quiet
     requires { values core.old.frames < room }
-    ensures { HasAction (λ context. gives outcome context.frame.operands context) core.old result core.new }
+    ensures { HasDone (λ context. gives outcome context.frame.operands context) core.old result core.new }
 {
     match outcome {
         Ok(value) => {
             core.frames.push(value);
-            Effect::Next
+            Quiet::Next
         }
-        Err(fault) => Effect::Fault(fault),
+        Err(fault) => Quiet::Fault(fault),
     }
 }
 

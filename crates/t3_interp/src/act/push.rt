@@ -2,9 +2,9 @@
 ghost use Rattle.std.specs.Prelude.{◌≡◌};
 ghost use Rattle.t3_interp.specs.Machine.{pushes};
 ghost use Rattle.t3_interp.specs.Instructions.{push_value, push_action};
-ghost use Rattle.t3_interp.specs.Inner.Acting.{HasAction};
+ghost use Rattle.t3_interp.specs.Inner.Acting.{HasDone};
 
-use crate::effect::Effect;
+use crate::effect::Quiet;
 use crate::event::CodeWhy;
 use crate::running::Core;
 use t3_holder::Holder;
@@ -13,25 +13,25 @@ use t3_ops::Fault;
 
 /// Pushes the value of an instruction.
 #[inline(always)]
-pub(super) fn push(core: &mut Core, code: PushCode) -> Effect
-    ensures { HasAction (push_action code) core.old result core.new }
+pub(super) fn push(core: &mut Core, code: PushCode) -> Quiet
+    ensures { HasDone (push_action code) core.old result core.new }
 {
     match pushed(code) {
         Some(value) => push_value(core, value),
-        None => Effect::Stop(CodeWhy::Unbuilt),
+        None => Quiet::Stop(CodeWhy::Unbuilt),
     }
 }
 
 /// Pushes a value where there is room for it.
 #[inline(always)]
-pub(super) fn push_value(core: &mut Core, value: Holder) -> Effect
-    ensures { HasAction (pushes value) core.old result core.new }
+pub(super) fn push_value(core: &mut Core, value: Holder) -> Quiet
+    ensures { HasDone (pushes value) core.old result core.new }
 {
     if core.frames.is_full() {
-        return Effect::Fault(Fault::StackFull);
+        return Quiet::Fault(Fault::StackFull);
     }
     core.frames.push(value);
-    Effect::Next
+    Quiet::Next
 }
 
 /// The value that an instruction pushes, where that is built.

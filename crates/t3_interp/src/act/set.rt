@@ -4,9 +4,9 @@ ghost use Rattle.t3_undo.specs.declared.cell.Cell.TheVariants.{Prop};
 ghost use Rattle.t3_store.specs.Value.{supers_of};
 ghost use Rattle.t3_store.specs.Store.{value_at, written};
 ghost use Rattle.t3_interp.specs.Objects.{pops, by_property, sets, sets_in, sets_popped, takes_store};
-ghost use Rattle.t3_interp.specs.Inner.Acting.{HasAction, effect_of};
+ghost use Rattle.t3_interp.specs.Inner.Acting.{HasDone};
 
-use crate::effect::Effect;
+use crate::effect::Quiet;
 use crate::event::CodeWhy;
 use crate::running::Core;
 use t3_holder::{Holder, NoMemory};
@@ -14,86 +14,56 @@ use t3_ops::Fault;
 use t3_store::{Kind, StoreRefusal};
 use t3_undo::Cell;
 
-/// How the setting of a property went. It is handed on in place of an effect, which has room for a text.
-#[derive(Clone, Copy)]
-pub(super) enum Setting {
-    Done,
-    Refused(Fault),
-    /// An operand is missing.
-    Underflow,
-    /// The store has no room.
-    Full,
-}
-
-impl Setting {
-    /// What the instruction asks for then.
-    #[inline(always)]
-    pub(super) fn effect(self) -> Effect
-        ensures { result ≡ effect_of self }
-    {
-        match self {
-            Setting::Done => Effect::Next,
-            Setting::Refused(fault) => Effect::Fault(fault),
-            Setting::Underflow => Effect::Stop(CodeWhy::Underflow),
-            Setting::Full => Effect::StoreFull,
-        }
-    }
-}
-
 /// Sets a property of the topmost operand to the next one.
 #[inline(never)]
-pub(super) fn set_of_popped(core: &mut Core, property: u16) -> Result<Setting, NoMemory>
+pub(super) fn set_of_popped(core: &mut Core, property: u16) -> Result<Quiet, NoMemory>
     requires { core.old.store.writes < 2 ^ 63 }
     ensures { IfOk result
-        (λ setting. HasAction (pops (sets_popped property)) core.old (effect_of setting) core.new) }
+        (λ effect. HasDone (pops (sets_popped property)) core.old effect core.new) }
 {
     match core.frames.pop() {
         Some(object) => set_popped(core, property, object),
-        None => Ok(Setting::Underflow),
+        None => Ok(Quiet::Stop(CodeWhy::Underflow)),
     }
 }
 
 /// Sets the property that is the topmost operand, of the next one, to the one behind it.
 #[inline(never)]
-pub(super) fn set_by_pointer(core: &mut Core) -> Result<Setting, NoMemory>
+pub(super) fn set_by_pointer(core: &mut Core) -> Result<Quiet, NoMemory>
     requires { core.old.store.writes < 2 ^ 63 }
-    ensures { IfOk result (λ setting. HasAction (pops (by_property (λ p. pops (sets_popped p))))
-        core.old (effect_of setting) core.new) }
+    ensures { IfOk result (λ effect. HasDone (pops (by_property (λ p. pops (sets_popped p))))
+        core.old effect core.new) }
 {
     match core.frames.pop() {
         Some(Holder::Prop(property)) => set_of_popped(core, property),
-        Some(_) => Ok(Setting::Refused(Fault::Kind)),
-        None => Ok(Setting::Underflow),
+        Some(_) => Ok(Quiet::Fault(Fault::Kind)),
+        None => Ok(Quiet::Stop(CodeWhy::Underflow)),
     }
 }
 
 /// Sets a property of an object to the topmost operand.
 #[inline(never)]
-pub(super) fn set_popped(
-    core: &mut Core,
-    property: u16,
-    object: Holder,
-) -> Result<Setting, NoMemory>
+pub(super) fn set_popped(core: &mut Core, property: u16, object: Holder) -> Result<Quiet, NoMemory>
     requires { core.old.store.writes < 2 ^ 63 }
     ensures { IfOk result
-        (λ setting. HasAction (sets_popped property object) core.old (effect_of setting) core.new) }
+        (λ effect. HasDone (sets_popped property object) core.old effect core.new) }
 {
     match core.frames.pop() {
         Some(value) => set(core, property, object, value),
-        None => Ok(Setting::Underflow),
+        None => Ok(Quiet::Stop(CodeWhy::Underflow)),
     }
 }
 
 /// Sets a property of an object to a value.
-fn set(core: &mut Core, property: u16, object: Holder, value: Holder) -> Result<Setting, NoMemory>
+fn set(core: &mut Core, property: u16, object: Holder, value: Holder) -> Result<Quiet, NoMemory>
     requires { core.old.store.writes < 2 ^ 63 }
     ensures { IfOk result
-        (λ setting. HasAction (sets property object value) core.old (effect_of setting) core.new) }
+        (λ effect. HasDone (sets property object value) core.old effect core.new) }
 {
     match object {
         Holder::Obj(number) => set_of_object(core, property, number, value),
-        Holder::Text(_) | Holder::List(_) => Ok(Setting::Refused(Fault::CannotSet)),
-        _ => Ok(Setting::Refused(Fault::NotObject)),
+        Holder::Text(_) | Holder::List(_) => Ok(Quiet::Fault(Fault::CannotSet)),
+        _ => Ok(Quiet::Fault(Fault::NotObject)),
     }
 }
 
@@ -103,13 +73,13 @@ fn set_of_object(
     property: u16,
     number: u32,
     value: Holder,
-) -> Result<Setting, NoMemory>
+) -> Result<Quiet, NoMemory>
     requires { core.old.store.writes < 2 ^ 63 }
-    ensures { IfOk result (λ setting. HasAction (λ context. sets_in property number value
-        (value_at context.store number) context) core.old (effect_of setting) core.new) }
+    ensures { IfOk result (λ effect. HasDone (λ context. sets_in property number value
+        (value_at context.store number) context) core.old effect core.new) }
 {
     if core.store.replace_prop(number, property, value) {
-        return Ok(Setting::Done);
+        return Ok(Quiet::Next);
     }
     set_by_kind(core, property, number, value)
 }
@@ -122,29 +92,29 @@ fn set_by_kind(
     property: u16,
     number: u32,
     value: Holder,
-) -> Result<Setting, NoMemory>
+) -> Result<Quiet, NoMemory>
     requires { core.old.store.writes < 2 ^ 63 }
-    ensures { IfOk result (λ setting. HasAction (λ context. sets_in property number value
-        (value_at context.store number) context) core.old (effect_of setting) core.new) }
+    ensures { IfOk result (λ effect. HasDone (λ context. sets_in property number value
+        (value_at context.store number) context) core.old effect core.new) }
 {
     match core.store.kind(number) {
         Some(Kind::Tads) => write(core, property, number, value),
-        Some(_) => Ok(Setting::Refused(Fault::CannotSet)),
-        None => Ok(Setting::Refused(Fault::Stale)),
+        Some(_) => Ok(Quiet::Fault(Fault::CannotSet)),
+        None => Ok(Quiet::Fault(Fault::Stale)),
     }
 }
 
 /// Sets a property of a tads-object.
-fn write(core: &mut Core, property: u16, number: u32, value: Holder) -> Result<Setting, NoMemory>
+fn write(core: &mut Core, property: u16, number: u32, value: Holder) -> Result<Quiet, NoMemory>
     requires few { core.old.store.writes < 2 ^ 63 }
     requires tads { IsSome (option_and_then supers_of (value_at core.old.store.store number)) }
-    ensures { IfOk result (λ setting. HasAction
+    ensures { IfOk result (λ effect. HasDone
         (λ context. takes_store (written number (Prop property) value context.store) context) core.old
-        (effect_of setting) core.new) }
+        effect core.new) }
 {
     match core.store.write(number, Cell::Prop(property), Some(value)) {
-        Ok(()) => Ok(Setting::Done),
-        Err(StoreRefusal::Full) => Ok(Setting::Full),
+        Ok(()) => Ok(Quiet::Next),
+        Err(StoreRefusal::Full) => Ok(Quiet::StoreFull),
         Err(StoreRefusal::NoMemory) => Err(NoMemory),
     }
 }

@@ -5,10 +5,10 @@ ghost use Rattle.t3_holder.specs.declared.holder.Holder.TheVariants.{Int};
 ghost use Rattle.t3_interp.specs.declared.event.CodeWhy.TheVariants.{Local, Argument};
 ghost use Rattle.t3_interp.specs.Machine.{pushes};
 ghost use Rattle.t3_interp.specs.Instructions.{stack_action, dup_on, swap_on, disc_on, pushes_or};
-ghost use Rattle.t3_interp.specs.Inner.Acting.{HasAction};
+ghost use Rattle.t3_interp.specs.Inner.Acting.{HasDone};
 
 use super::push::push_value;
-use crate::effect::Effect;
+use crate::effect::Quiet;
 use crate::event::CodeWhy;
 use crate::running::Core;
 use t3_holder::Holder;
@@ -16,8 +16,8 @@ use t3_methods::StackCode;
 
 /// Carries out an instruction that moves values.
 #[inline(always)]
-pub(super) fn stack(core: &mut Core, code: StackCode) -> Effect
-    ensures { HasAction (stack_action code) core.old result core.new }
+pub(super) fn stack(core: &mut Core, code: StackCode) -> Quiet
+    ensures { HasDone (stack_action code) core.old result core.new }
 {
     match code {
         StackCode::Getlcl1(n) => push_local(core, u16::from(n)),
@@ -30,7 +30,7 @@ pub(super) fn stack(core: &mut Core, code: StackCode) -> Effect
         StackCode::Disc => disc(core),
         StackCode::Disc1(count) => {
             core.frames.drop_operands(u16::from(count));
-            Effect::Next
+            Quiet::Next
         }
         StackCode::Getr0 => push_register(core),
         StackCode::Swap => swap(core),
@@ -38,30 +38,30 @@ pub(super) fn stack(core: &mut Core, code: StackCode) -> Effect
 }
 
 #[inline(always)]
-fn push_local(core: &mut Core, n: u16) -> Effect
-    ensures { HasAction (λ context. pushes_or Local (slice_get context.frame.locals n) context) core.old result
+fn push_local(core: &mut Core, n: u16) -> Quiet
+    ensures { HasDone (λ context. pushes_or Local (slice_get context.frame.locals n) context) core.old result
         core.new }
 {
     match core.frames.local(n) {
         Some(value) => push_value(core, value),
-        None => Effect::Stop(CodeWhy::Local),
+        None => Quiet::Stop(CodeWhy::Local),
     }
 }
 
 #[inline(always)]
-fn push_argument(core: &mut Core, n: u16) -> Effect
-    ensures { HasAction (λ context. pushes_or Argument (slice_get context.frame.arguments n) context) core.old
+fn push_argument(core: &mut Core, n: u16) -> Quiet
+    ensures { HasDone (λ context. pushes_or Argument (slice_get context.frame.arguments n) context) core.old
         result core.new }
 {
     match core.frames.argument(n) {
         Some(value) => push_value(core, value),
-        None => Effect::Stop(CodeWhy::Argument),
+        None => Quiet::Stop(CodeWhy::Argument),
     }
 }
 
 #[inline(always)]
-fn push_this(core: &mut Core) -> Effect
-    ensures { HasAction (λ context. pushes context.frame.this context) core.old result core.new }
+fn push_this(core: &mut Core) -> Quiet
+    ensures { HasDone (λ context. pushes context.frame.this context) core.old result core.new }
 {
     let value = core.frames.this();
     push_value(core, value)
@@ -69,8 +69,8 @@ fn push_this(core: &mut Core) -> Effect
 
 /// Pushes how many arguments the method has.
 #[inline(always)]
-fn push_count(core: &mut Core) -> Effect
-    ensures { HasAction (λ context. pushes (Int (pos (length context.frame.arguments))) context) core.old result
+fn push_count(core: &mut Core) -> Quiet
+    ensures { HasDone (λ context. pushes (Int (pos (length context.frame.arguments))) context) core.old result
         core.new }
 {
     let count = core.frames.arguments() as i32;
@@ -78,8 +78,8 @@ fn push_count(core: &mut Core) -> Effect
 }
 
 #[inline(always)]
-fn push_register(core: &mut Core) -> Effect
-    ensures { HasAction (λ context. pushes context.register context) core.old result core.new }
+fn push_register(core: &mut Core) -> Quiet
+    ensures { HasDone (λ context. pushes context.register context) core.old result core.new }
 {
     let value = core.register;
     push_value(core, value)
@@ -87,38 +87,38 @@ fn push_register(core: &mut Core) -> Effect
 
 /// Doubles the topmost operand.
 #[inline(always)]
-fn dup(core: &mut Core) -> Effect
-    ensures { HasAction (λ context. dup_on context.frame.operands context) core.old result core.new }
+fn dup(core: &mut Core) -> Quiet
+    ensures { HasDone (λ context. dup_on context.frame.operands context) core.old result core.new }
 {
     match core.frames.top() {
         Some(value) => push_value(core, value),
-        None => Effect::Stop(CodeWhy::Underflow),
+        None => Quiet::Stop(CodeWhy::Underflow),
     }
 }
 
 /// Drops the topmost operand.
 #[inline(always)]
-fn disc(core: &mut Core) -> Effect
-    ensures { HasAction (λ context. disc_on context.frame.operands context) core.old result core.new }
+fn disc(core: &mut Core) -> Quiet
+    ensures { HasDone (λ context. disc_on context.frame.operands context) core.old result core.new }
 {
     match core.frames.pop() {
-        Some(_) => Effect::Next,
-        None => Effect::Stop(CodeWhy::Underflow),
+        Some(_) => Quiet::Next,
+        None => Quiet::Stop(CodeWhy::Underflow),
     }
 }
 
 /// Exchanges the two topmost operands.
 #[inline(always)]
-fn swap(core: &mut Core) -> Effect
-    ensures { HasAction (λ context. swap_on context.frame.operands context) core.old result core.new }
+fn swap(core: &mut Core) -> Quiet
+    ensures { HasDone (λ context. swap_on context.frame.operands context) core.old result core.new }
 {
     let Some(upper) = core.frames.pop() else {
-        return Effect::Stop(CodeWhy::Underflow);
+        return Quiet::Stop(CodeWhy::Underflow);
     };
     let Some(lower) = core.frames.pop() else {
-        return Effect::Stop(CodeWhy::Underflow);
+        return Quiet::Stop(CodeWhy::Underflow);
     };
     core.frames.push(upper);
     core.frames.push(lower);
-    Effect::Next
+    Quiet::Next
 }

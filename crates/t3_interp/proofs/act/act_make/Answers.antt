@@ -1,0 +1,17 @@
+use Rattle.std.proofs.Common.{◌∙◌, ◌≤◌, ◌+◌, sym, subst}
+use Rattle.t3_interp.specs.declared.effect.Effect.{Effect}
+use Rattle.t3_interp.specs.Instructions.{make_action}
+use Rattle.t3_interp.specs.Step.{after_effect}
+use Rattle.t3_interp.specs.Inner.Acting.{HasAction, effect_of}
+use Rattle.t3_interp.proofs.act.act_make.Goals as goal
+
+pub returns-in-Say : goal.returns-in-Say
+returns-in-Say c =
+    let program = c.args.program.now in
+    let made = subst (λ (effect : Effect). HasAction (make_action program c.args.code) c.args.running.now.core (effect_of effect) c.make.new.core)
+    c.in-Say.is c.in_ok-effect.ensures in
+    record {
+      after = c.say.ensures.after program ∙ (λ i. after_effect program (made.older i) c.args.running.now.steps (sym made.asks i) (made.leaves i));
+      writes = subst (λ n. n ≤ c.args.running.now.core.store.writes + 1) (sym c.say.ensures.writes) made.writes;
+      steps = c.say.ensures.steps;
+    }
