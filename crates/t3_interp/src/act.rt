@@ -18,7 +18,7 @@ mod push;
 mod set;
 mod stack;
 
-use crate::effect::Effect;
+use crate::effect::MakeEffect;
 use crate::running::Running;
 use std::alloc::Global;
 use t3_holder::NoMemory;
@@ -99,8 +99,8 @@ fn act_make(
     ensures { OnOk result (HasActed program.now (Make code) running.old running.new) }
 {
     match make::make(alloc, program, &mut running.core, code)? {
-        Effect::Quiet(effect) => running.settle(alloc, program, effect),
-        Effect::Say(text) => {
+        MakeEffect::Quiet(effect) => running.settle(alloc, program, effect),
+        MakeEffect::Say(text) => {
             running.say(text);
             Ok(())
         }

@@ -21,9 +21,9 @@ pub(crate) enum Quiet {
     StoreFull,
 }
 
-/// What an instruction asks for that may say a text.
+/// What an instruction asks for that makes, throws or may say a text.
 #[derive(Debug, Drop)]
-pub(crate) enum Effect {
+pub(crate) enum MakeEffect {
     Quiet(Quiet),
     /// To say a text to the console, and go on.
     Say(Bytes),

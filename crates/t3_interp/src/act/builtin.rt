@@ -8,7 +8,7 @@ ghost use Rattle.t3_interp.specs.Effect.{Stop, Fault as FaultEffect};
 ghost use Rattle.t3_interp.specs.declared.event.CodeWhy.TheVariants.{Unbuilt};
 ghost use Rattle.t3_ops.specs.declared.fault.Fault.TheVariants.{NoBuiltin};
 
-use crate::effect::{Effect, Quiet};
+use crate::effect::{MakeEffect, Quiet};
 use crate::event::CodeWhy;
 use crate::running::Core;
 use crate::values::kind_fault;
@@ -34,27 +34,27 @@ pub(super) fn builtin(
     set: u8,
     index: u8,
     count: u8,
-) -> Result<Effect, NoMemory>
+) -> Result<MakeEffect, NoMemory>
     ensures { IfOk result (λ effect. HasAction (builtin_action program.now set index count) core.old
         (effect_of effect) core.new) }
 {
     match program.sets.0.get(usize::from(set)) {
         Some(SetKind::Io) => io_builtin(alloc, core, index, count),
-        Some(SetKind::Gen) => Ok(Effect::Quiet(unless_listed(is_gen_function(index)))),
-        Some(SetKind::Vm) => Ok(Effect::Quiet(unless_listed(index == SET_SAY))),
-        None => Ok(Effect::Quiet(Quiet::Fault(Fault::NoBuiltin))),
+        Some(SetKind::Gen) => Ok(MakeEffect::Quiet(unless_listed(is_gen_function(index)))),
+        Some(SetKind::Vm) => Ok(MakeEffect::Quiet(unless_listed(index == SET_SAY))),
+        None => Ok(MakeEffect::Quiet(Quiet::Fault(Fault::NoBuiltin))),
     }
 }
 
 /// Calls a function of the set for input and output.
-fn io_builtin(alloc: Global, core: &mut Core, index: u8, count: u8) -> Result<Effect, NoMemory>
+fn io_builtin(alloc: Global, core: &mut Core, index: u8, count: u8) -> Result<MakeEffect, NoMemory>
     ensures { IfOk result
         (λ effect. HasAction (io_action index count) core.old (effect_of effect) core.new) }
 {
     match index {
         SAY => say(alloc, core, count),
-        INPUT_LINE => Ok(Effect::Quiet(Quiet::Stop(CodeWhy::Unbuilt))),
-        _ => Ok(Effect::Quiet(Quiet::Fault(Fault::NoBuiltin))),
+        INPUT_LINE => Ok(MakeEffect::Quiet(Quiet::Stop(CodeWhy::Unbuilt))),
+        _ => Ok(MakeEffect::Quiet(Quiet::Fault(Fault::NoBuiltin))),
     }
 }
 
@@ -77,21 +77,21 @@ fn is_gen_function(index: u8) -> bool
 }
 
 /// Says so many operands, the topmost first.
-fn say(alloc: Global, core: &mut Core, count: u8) -> Result<Effect, NoMemory>
+fn say(alloc: Global, core: &mut Core, count: u8) -> Result<MakeEffect, NoMemory>
     ensures { IfOk result (λ effect. HasAction (λ context. says count
         (take count context.frame.operands) (drop count context.frame.operands) context)
         core.old (effect_of effect) core.new) }
 {
     if count == 0 {
-        return Ok(Effect::Quiet(Quiet::Fault(Fault::ArgCount)));
+        return Ok(MakeEffect::Quiet(Quiet::Fault(Fault::ArgCount)));
     }
     match joined(alloc, core.frames.topmost(count))? {
         Some(text) => {
             core.frames.drop_operands(u16::from(count));
             core.register = Holder::Nil;
-            Ok(Effect::Say(Bytes(text.into_bytes())))
+            Ok(MakeEffect::Say(Bytes(text.into_bytes())))
         }
-        None => Ok(Effect::Quiet(Quiet::Fault(unsaid(core, count)))),
+        None => Ok(MakeEffect::Quiet(Quiet::Fault(unsaid(core, count)))),
     }
 }
 

@@ -6,7 +6,7 @@ ghost use Rattle.t3_interp.specs.Inner.Acting.{HasAction, HasDone, effect_of};
 
 use super::builtin::builtin;
 use super::create::create;
-use crate::effect::{Effect, Quiet};
+use crate::effect::{MakeEffect, Quiet};
 use crate::event::CodeWhy;
 use crate::running::Core;
 use std::alloc::Global;
@@ -22,7 +22,7 @@ pub(super) fn make(
     program: &Program,
     core: &mut Core,
     code: MakeCode,
-) -> Result<Effect, NoMemory>
+) -> Result<MakeEffect, NoMemory>
     ensures { IfOk result (λ effect. HasAction (make_action program.now code) core.old
         (effect_of effect) core.new) }
 {
@@ -60,7 +60,7 @@ pub(super) fn make(
         MakeCode::Throw => throw_popped(core),
         MakeCode::Index => Quiet::Stop(CodeWhy::Unbuilt),
     };
-    Ok(Effect::Quiet(effect))
+    Ok(MakeEffect::Quiet(effect))
 }
 
 /// Throws the topmost operand, which has to be an object that is there.
