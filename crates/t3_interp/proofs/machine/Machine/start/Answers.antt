@@ -1,4 +1,4 @@
-use Rattle.std.proofs.Common.{◌≡◌, sym, subst}
+use Rattle.std.proofs.Common.{sym, subst}
 use Rattle.t3_interp.specs.declared.machine.Whole.{Whole}
 use Rattle.t3_interp.specs.Inner.Acting.{IsBetweenSteps}
 use Rattle.t3_interp.specs.Inner.DecodeCache.{IsCacheOf}
