@@ -61,8 +61,7 @@ fn jumps(rt: HostRuntime) -> Result<(), Fail> {
 }
 
 /// A page of code of at most 8,192 bytes.
-const LARGE_POOL: &[u8] =
-    b"CPDF\x0A\x00\x00\x00\x01\x00\x01\x00\x01\x00\x00\x00\x00\x20\x00\x00";
+const LARGE_POOL: &[u8] = b"CPDF\x0A\x00\x00\x00\x01\x00\x01\x00\x01\x00\x00\x00\x00\x20\x00\x00";
 
 /// The local is 0; then at 12 it grows by 1, and a jump goes to 4,108.
 const GROWS_BY_1: &[u8] = b"\xD6\x00\xD0\x00\x00\x91\xFC\x0F";
