@@ -16,7 +16,7 @@ use crate::stage::{Stage, size_width};
 use crate::values::long_at;
 use std::alloc::Global;
 use t3_asm_line::{Argument, Keyword};
-use t3_blocks::{Block, Meta, Metas, Names, Static, Statics, Symbol, Symbols};
+use t3_blocks::{Block, Meta, Metas, Names, PageBytes, Static, Statics, Symbol, Symbols};
 use t3_holder::{Bytes, NoMemory};
 use t3_image_read::{HEADER_SIZE, PlacedBlock};
 
@@ -87,7 +87,7 @@ fn block_of(alloc: Global, labels: &Labels, item: &Item, behind: &[Item]) -> Res
             pool: short_at(head, 0),
             index: number_at(head, 1),
             mask: (number_at(head, 2) % 256) as u8,
-            bytes: contents(alloc, Level::InBlock, labels, behind)?,
+            bytes: PageBytes::new(alloc, contents(alloc, Level::InBlock, labels, behind)?)?,
         },
         Stage::ObjectsHead => Block::Objects {
             metaclass: short_at(head, 0),

@@ -118,7 +118,7 @@ fn append_block(alloc: Global, block: &Block, out: &mut Vec<u8>) -> Result<(), N
                 Listed::Number(u32::from(*mask)),
             ];
             append(alloc, Keyword::Page, &arguments, out)?;
-            append_bytes(alloc, &bytes.0, out)
+            append_bytes(alloc, bytes.as_slice(), out)
         }
         Block::Metas { metas } => append_all(alloc, 0, &metas.0, out),
         Block::Functions { names } => append_all(alloc, 0, &names.0, out),

@@ -73,7 +73,7 @@ fn append_payload(block: &Block, out: &mut Vec<u8>) -> Result<(), NoMemory>
             append_u16(*pool, out)?;
             append_u32(*index, out)?;
             append_bytes(&[*mask], out)?;
-            append_masked(&bytes.0, *mask, out)
+            append_masked(bytes.as_slice(), *mask, out)
         }
         Block::Metas { metas } => append_counted(&MetaLayout, &metas.0, out),
         Block::Functions { names } => append_counted(&NameLayout, &names.0, out),

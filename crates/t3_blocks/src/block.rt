@@ -6,6 +6,7 @@ ghost use Rattle.t3_blocks.specs.Malformed.{IsMalformed};
 ghost use Rattle.t3_blocks.specs.declared.block.Block.{Block as AnyBlock};
 
 use crate::items::{Metas, Names, Statics, Symbols};
+use crate::page_bytes::PageBytes;
 use t3_holder::Bytes;
 
 /// What a block says, apart from its flags. The layouts are those of the chapter on the image format.
@@ -45,7 +46,7 @@ pub enum Block {
         pool: u16,
         index: u32,
         mask: u8,
-        bytes: Bytes,
+        bytes: PageBytes,
     },
     /// `MCLD`: the metaclasses, in the order of their indices.
     Metas {

@@ -4,6 +4,7 @@ ghost use Rattle.t3_blocks.specs.Parsing.{Gives};
 ghost use Rattle.t3_blocks.specs.Spelling.{masked_bytes};
 
 use crate::block::Block;
+use crate::page_bytes::PageBytes;
 use crate::refusal::PayloadRefusal;
 use std::alloc::{AllocError, Global};
 use t3_holder::{Bytes, u16_at, u32_at};
@@ -63,17 +64,18 @@ pub(crate) fn page(alloc: Global, payload: &[u8]) -> Result<Block, PayloadRefusa
         return Err(NO_HEAD);
     }
     let mask = payload[PAGE_HEAD - 1];
+    let page = unmasked(alloc, &payload[PAGE_HEAD..], mask)?;
     Ok(Block::Page {
         pool: u16_at(payload, 0),
         index: u32_at(payload, 2),
         mask,
-        bytes: Bytes(unmasked(alloc, &payload[PAGE_HEAD..], mask)?),
+        bytes: PageBytes::new(alloc, page)?,
     })
 }
 
 /// The bytes of a page, which lie under a mask.
-fn unmasked(alloc: Global, bytes: &[u8], mask: u8) -> Result<Vec<u8>, AllocError>
-    ensures { IfOk result (λ page. page.items ≡ masked_bytes mask bytes.now) }
+fn unmasked(alloc: Global, bytes: &[u8], mask: u8) -> Result<Bytes, AllocError>
+    ensures { IfOk result (λ page. page ≡ masked_bytes mask bytes.now) }
 {
-    bytes.iter().map(|byte| *byte ^ mask).collect(alloc)
+    Ok(Bytes(bytes.iter().map(|byte| *byte ^ mask).collect(alloc)?))
 }

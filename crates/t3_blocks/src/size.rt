@@ -28,7 +28,7 @@ impl Block {
                 (OBJECTS_HEAD + items_size(&StaticLayout { flags: *flags }, &objects.0)) as u32
             }
             Block::PoolDef { .. } => POOL_DEF_SIZE as u32,
-            Block::Page { bytes, .. } => (PAGE_HEAD + bytes.0.len()) as u32,
+            Block::Page { bytes, .. } => (PAGE_HEAD + bytes.as_slice().len()) as u32,
             Block::Metas { metas } => (COUNT_SIZE + items_size(&MetaLayout, &metas.0)) as u32,
             Block::Functions { names } => (COUNT_SIZE + items_size(&NameLayout, &names.0)) as u32,
             Block::Symbols { symbols } => {

@@ -125,19 +125,19 @@ fn takes_pages_apart(rt: HostRuntime) -> Result<(), Fail> {
             b"CPPG",
             1,
             b"\x02\x00\x03\x00\x00\x00\xFF\xAB\x0D",
-            "Ok(Page { pool: 2, index: 3, mask: 255, bytes: Bytes([84, 242]) })",
+            "Ok(Page { pool: 2, index: 3, mask: 255, bytes: PageBytes(Bytes([84, 242])) })",
         ),
         (
             b"CPPG",
             1,
             b"\x01\x00\x00\x00\x00\x00\x5A",
-            "Ok(Page { pool: 1, index: 0, mask: 90, bytes: Bytes([]) })",
+            "Ok(Page { pool: 1, index: 0, mask: 90, bytes: PageBytes(Bytes([])) })",
         ),
         (
             b"CPPG",
             0,
             b"\x01\x00\x00\x00\x00\x01\x00\x01",
-            "Ok(Page { pool: 1, index: 16777216, mask: 0, bytes: Bytes([1]) })",
+            "Ok(Page { pool: 1, index: 16777216, mask: 0, bytes: PageBytes(Bytes([1])) })",
         ),
         (b"CPPG", 1, &[0; 6], "Err(Malformed { items: 0 })"),
     ];

@@ -42,16 +42,15 @@ at_least_one sheet sheets =
     let counted = ap (λ (pages : List (List ℕ)). length pages) first in
     omega arith
 
-pub two_sheets : (sheets : List Sheet) (i : ℕ) (d : Sheet) (found : Option (Bor (List ℕ))) → i < length sheets → is_some found ≡ true
-    → listed now found ++ sheets_at (get_or sheets i d).index (drop i sheets) ≡ sheets_at (get_or sheets i d).index sheets
-    → 2 ≤ length (sheets_at (get_or sheets i d).index sheets)
-two_sheets sheets i d None inside there all = absurd cc
-two_sheets sheets i d (Some page) inside there all =
-    let sheet : Sheet = get_or sheets i d in
-    let rest : drop i sheets ≡ get_or sheets i d ∷ drop (suc i) sheets = drop-cons sheets i d inside in
-    let left : 1 ≤ length (sheets_at (get_or sheets i d).index (drop i sheets)) =
-    subst (λ (s : List Sheet). 1 ≤ length (sheets_at (get_or sheets i d).index s)) (sym rest)
-    (at_least_one (get_or sheets i d) (drop (suc i) sheets)) in
+pub two_sheets : (sheets : List Sheet) (i : ℕ) (sheet : Sheet) (found : Option (Bor (List ℕ))) → i < length sheets
+    → sheet ≡ get_or sheets i sheet → is_some found ≡ true
+    → listed now found ++ sheets_at sheet.index (drop i sheets) ≡ sheets_at sheet.index sheets
+    → 2 ≤ length (sheets_at sheet.index sheets)
+two_sheets sheets i sheet None inside is there all = absurd cc
+two_sheets sheets i sheet (Some page) inside is there all =
+    let rest : drop i sheets ≡ sheet ∷ drop (suc i) sheets = drop-cons sheets i sheet inside ∙ ap (λ (s : Sheet). s ∷ drop (suc i) sheets) (sym is) in
+    let left : 1 ≤ length (sheets_at sheet.index (drop i sheets)) =
+    subst (λ (s : List Sheet). 1 ≤ length (sheets_at sheet.index s)) (sym rest) (at_least_one sheet (drop (suc i) sheets)) in
     let counted = ap (λ (pages : List (List ℕ)). length pages) all in
     omega arith
 

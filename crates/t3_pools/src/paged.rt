@@ -7,13 +7,13 @@ ghost use Rattle.t3_pools.specs.Inner.Keeping.{run_in, kept_pool, Runs};
 use crate::page_size::PageSize;
 use std::alloc::{AllocError, Global};
 use std::marker::Model;
-use t3_holder::Bytes;
+use t3_blocks::PageBytes;
 
 /// A pool. Contracts see the map from addresses to bytes, and the page size.
 #[derive(Debug, Drop)]
 pub(crate) struct PagedPool {
     size: PageSize,
-    pages: Vec<Bytes>,
+    pages: Vec<PageBytes>,
 }
 
 impl Model for PagedPool {
@@ -30,15 +30,19 @@ impl Model for PagedPool {
 }
 
 impl PagedPool {
-    /// The pool of these pages, whose bytes it copies.
-    pub(crate) fn new(alloc: Global, size: u32, pages: &[&[u8]]) -> Result<PagedPool, AllocError>
+    /// The pool of these pages, whose bytes it shares.
+    pub(crate) fn new(
+        alloc: Global,
+        size: u32,
+        pages: &[&PageBytes],
+    ) -> Result<PagedPool, AllocError>
         requires fits { list_any (λ page. nat_lt size (length page.now)) pages.now ≡ false }
         requires narrow { length pages.now * size < 2 ^ 31 }
         ensures { IfOk result (λ pool. pool ≡ kept_pool size (map (λ page. page.now) pages.now)) }
     {
         Ok(PagedPool {
             size: PageSize::new(size),
-            pages: copied(alloc, pages)?,
+            pages: shared(alloc, pages)?,
         })
     }
 
@@ -59,26 +63,26 @@ impl PagedPool {
     }
 }
 
-fn copied(alloc: Global, pages: &[&[u8]]) -> Result<Vec<Bytes>, AllocError>
-    ensures { IfOk result (λ copies. copies.items ≡ map (λ page. page.now) pages.now) }
+fn shared(alloc: Global, pages: &[&PageBytes]) -> Result<Vec<PageBytes>, AllocError>
+    ensures { IfOk result (λ shared. shared.items ≡ map (λ page. page.now) pages.now) }
 {
-    let mut copies = Vec::with_capacity(alloc, pages.len())?;
+    let mut shared = Vec::with_capacity(alloc, pages.len())?;
     for page in pages {
-        copies.push(Bytes(Vec::from_slice(alloc, page)?))?;
+        shared.push(page.share()?)?;
     }
-    Ok(copies)
+    Ok(shared)
 }
 
 /// The bytes from an address to the end of its page.
 #[inline(always)]
-fn run_at(size: PageSize, pages: &[Bytes], address: u32) -> &[u8]
+fn run_at(size: PageSize, pages: &[PageBytes], address: u32) -> &[u8]
     ensures { result.now ≡ run_in size.size pages.now address }
 {
     let Some((index, place)) = size.index_and_place(address) else {
         return &[];
     };
     match pages.get(index as usize) {
-        Some(page) => from_place(&page.0, place as usize),
+        Some(page) => from_place(page.as_slice(), place as usize),
         None => &[],
     }
 }

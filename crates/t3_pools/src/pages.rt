@@ -7,13 +7,14 @@ use crate::definitions::{CODE, CONSTANTS, Layout, layouts};
 use crate::refusal::{PageRule, PoolRefusal};
 use crate::sheets::{has_far, has_long, in_order, sheets_of, sorted};
 use std::alloc::{AllocError, Global};
+use t3_blocks::PageBytes;
 use t3_image_read::PlacedBlock;
 
 /// The pages of a pool by their indices, none of them longer than the page size.
 #[derive(Debug, Drop)]
 pub(crate) struct PoolPages<'b> {
     pub(crate) size: u32,
-    pub(crate) pages: Vec<&'b [u8]>,
+    pub(crate) pages: Vec<&'b PageBytes>,
 }
 
 /// The pages of the code and of the constants, or the first rule that the blocks break.

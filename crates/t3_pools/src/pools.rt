@@ -30,7 +30,7 @@ impl Model for Pools {
 }
 
 impl Pools {
-    /// The pools of an image. What they keep of it is copied, one page at a time.
+    /// The pools of an image, which have the bytes of its pages together with it.
     ///
     /// Pages may stand in any order and be shorter than the page size, and a definition may stand behind
     /// its pages. Blocks of other pool numbers aren't looked at. A refusal names the first rule that the

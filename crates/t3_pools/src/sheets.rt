@@ -10,18 +10,18 @@ ghost use Rattle.t3_pools.specs.Inner.Gathering.{paged, Sorts, Orders};
 
 use std::alloc::{AllocError, AllocFailed, Global};
 use std::collections::BTreeMap;
-use t3_blocks::Block;
+use t3_blocks::{Block, PageBytes};
 use t3_image_read::PlacedBlock;
 
 /// A page as a block says it.
 #[derive(Clone, Copy, Debug)]
 pub(crate) struct Sheet<'b> {
     pub(crate) index: u32,
-    pub(crate) bytes: &'b [u8],
+    pub(crate) bytes: &'b PageBytes,
 }
 
 /// The bytes of pages by their indices.
-pub(crate) type Sorted<'b> = BTreeMap<u32, &'b [u8]>;
+pub(crate) type Sorted<'b> = BTreeMap<u32, &'b PageBytes>;
 
 /// The pages of the pool of a number, as they come.
 pub(crate) fn sheets_of(
@@ -43,7 +43,7 @@ pub(crate) fn sheets_of(
             if *pool == number {
                 sheets.push(Sheet {
                     index: *index,
-                    bytes: &bytes.0,
+                    bytes,
                 })?;
             }
         }
@@ -62,14 +62,16 @@ pub(crate) fn has_far(sheets: &[Sheet<'_>], count: u32) -> bool
 pub(crate) fn has_long(sheets: &[Sheet<'_>], size: u32) -> bool
     ensures { result ≡ list_any (λ sheet. nat_lt size (length sheet.bytes.now)) sheets.now }
 {
-    sheets.iter().any(|sheet| sheet.bytes.len() > size as usize)
+    sheets
+        .iter()
+        .any(|sheet| sheet.bytes.as_slice().len() > size as usize)
 }
 
 /// The pages by their indices, or none where two have one index.
 pub(crate) fn sorted<'b>(
     alloc: Global,
     sheets: &[Sheet<'b>],
-) -> Result<Option<Sorted<'b>>, AllocFailed<(u32, &'b [u8])>>
+) -> Result<Option<Sorted<'b>>, AllocFailed<(u32, &'b PageBytes)>>
     ensures { IfOk result (λ found. Sorts sheets.now found) }
 {
     let mut pages = BTreeMap::new(alloc);
@@ -87,7 +89,7 @@ pub(crate) fn in_order<'b>(
     alloc: Global,
     pages: &Sorted<'b>,
     count: u32,
-) -> Result<Option<Vec<&'b [u8]>>, AllocError>
+) -> Result<Option<Vec<&'b PageBytes>>, AllocError>
     ensures { IfOk result (λ found. Orders count pages.now (option_map (λ v. v.items) found)) }
 {
     let mut ordered = Vec::new(alloc);

@@ -10,6 +10,6 @@ returns-then-payload-lt-PAGE_HEAD c = page_short c.args.payload.now c.if-payload
 pub returns : goal.returns
 returns c =
     let payload = c.args.payload.now in
-    spells_page payload c.u16_at.result c.u32_at.result _ c.in_ok-unmasked.field-0.items c.u16_at.type_inv c.u32_at.type_inv
+    spells_page payload c.u16_at.result c.u32_at.result _ c.in_ok-new.field-0 c.u16_at.type_inv c.u32_at.type_inv
     (omega (arith, c.type_inv.payload 6)) (omega arith) c.u16_at.ensures c.u32_at.ensures refl
-    (c.in_ok-unmasked.ensures ∙ ap (masked_bytes _) (take_rest payload 7))
+    (c.in_ok-new.ensures ∙ c.in_ok-page.ensures ∙ ap (masked_bytes _) (take_rest payload 7))

@@ -16,8 +16,7 @@ returns-in-Some-get c =
     let l = c.in-Some-get.ensures.lookup in
     let there = ap bytes_of (slice_get-get_or c.args.pages.now c.in-Some.index c.in-Some-get.page.now l.3.0) ∙ sym l.1 in
     let found = ap (λ n. bytes_of (slice_get c.args.pages.now n)) (sym at.1) ∙ there in
-    let same : c.deref.result.now ≡ c.in-Some-get.page.now = cc (c.deref.ensures.value, c.page.view_is) in
-    c.from_place.ensures ∙ ap (λ p. drop c.in-Some.place p) same ∙ ap (λ n. drop n c.in-Some-get.page.now) at.2
+    c.from_place.ensures ∙ ap (λ p. drop c.in-Some.place p) c.as_slice.ensures ∙ ap (λ n. drop n c.in-Some-get.page.now) at.2
     ∙ run_in-page c.args.size.size c.args.pages.now c.args.address c.in-Some-get.page.now (omega (arith, at.0)) found
 
 pub returns-in-None : goal.returns-in-None

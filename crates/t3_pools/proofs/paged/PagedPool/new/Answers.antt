@@ -8,4 +8,4 @@ invariant_of-result c =
     let pages = c.args.pages.now in
     let size = c.new.result.size in
     let kept = subst (λ (n : ℕ). IsKept n (map (λ page. page.now) pages)) (sym c.new.ensures) (kept_pages c.args.size pages c.requires.fits c.requires.narrow) in
-    subst (λ (all : List (List ℕ)). IsKept size all) (sym c.in_ok-copied.ensures) kept
+    subst (λ (all : List (List ℕ)). IsKept size all) (sym c.in_ok-shared.ensures) kept
