@@ -1,3 +1,4 @@
+mod Caching
 mod Cases
 mod Saying
 mod Searching

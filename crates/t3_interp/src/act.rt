@@ -1,9 +1,9 @@
 //! The seven kinds of instructions, and the actions that they share.
-ghost use Rattle.std.specs.Prelude.{◌≡◌, ◌<◌, ◌^◌, OnOk};
+ghost use Rattle.std.specs.Prelude.{◌≡◌, ◌<◌, ◌^◌, IfOk, OnOk};
 ghost use Rattle.t3_interp.specs.declared.event.Event.TheVariants.{Went};
 ghost use Rattle.t3_interp.specs.declared.running.Stage.TheVariants.{Method};
 ghost use Rattle.t3_methods.specs.declared.instr.Instr.TheVariants.{Call, Make};
-ghost use Rattle.t3_interp.specs.Inner.Acting.{IsCased, HasActed};
+ghost use Rattle.t3_interp.specs.Inner.Acting.{IsCased, HasActed, Tells};
 
 mod builtin;
 mod call;
@@ -26,24 +26,25 @@ use t3_load::Program;
 use t3_methods::{CallCode, Instr, MakeCode};
 
 /// Does to the newest frame, to the register and to the objects what an instruction does, and what comes of
-/// that.
+/// that. Answers whether something is told.
 #[inline(always)]
 pub(crate) fn act(
     alloc: Global,
     program: &Program,
     running: &mut Running,
-    instr: Instr,
-) -> Result<(), NoMemory>
+    instr: &Instr,
+) -> Result<bool, NoMemory>
     requires method { running.old.stage ≡ Method }
     requires untold { running.old.event ≡ Went }
-    requires cases { IsCased program.now.pools.code instr }
+    requires cases { IsCased program.now.pools.code instr.now }
     requires next { running.old.core.frames.newest.next < 2 ^ 31 }
     requires few { running.old.core.store.writes < 2 ^ 63 }
-    ensures { OnOk result (HasActed program.now instr running.old running.new) }
+    ensures acted { OnOk result (HasActed program.now instr.now running.old running.new) }
+    ensures told { IfOk result (Tells running.new) }
 {
     // What comes of an effect is settled beside the instructions of its kind, so that the compiler knows it
     // where there is but one.
-    match instr {
+    match *instr {
         Instr::Push(code) => {
             let effect = push::push(&mut running.core, code);
             running.settle(alloc, program, effect)
@@ -76,10 +77,11 @@ fn act_call(
     program: &Program,
     running: &mut Running,
     code: CallCode,
-) -> Result<(), NoMemory>
+) -> Result<bool, NoMemory>
     requires method { running.old.stage ≡ Method }
     requires untold { running.old.event ≡ Went }
-    ensures { OnOk result (HasActed program.now (Call code) running.old running.new) }
+    ensures acted { OnOk result (HasActed program.now (Call code) running.old running.new) }
+    ensures told { IfOk result (Tells running.new) }
 {
     let effect = call::call(alloc, program, &mut running.core, code)?;
     running.settle(alloc, program, effect)
@@ -93,16 +95,17 @@ fn act_make(
     program: &Program,
     running: &mut Running,
     code: MakeCode,
-) -> Result<(), NoMemory>
+) -> Result<bool, NoMemory>
     requires method { running.old.stage ≡ Method }
     requires untold { running.old.event ≡ Went }
-    ensures { OnOk result (HasActed program.now (Make code) running.old running.new) }
+    ensures acted { OnOk result (HasActed program.now (Make code) running.old running.new) }
+    ensures told { IfOk result (Tells running.new) }
 {
     match make::make(alloc, program, &mut running.core, code)? {
         MakeEffect::Quiet(effect) => running.settle(alloc, program, effect),
         MakeEffect::Say(text) => {
             running.say(text);
-            Ok(())
+            Ok(true)
         }
     }
 }

@@ -57,8 +57,8 @@ impl Model for Machine {
 }
 
 impl Machine {
-    /// A machine that hasn't made a step. It takes all the room that the values of a run may want, and copies
-    /// the objects of the program.
+    /// A machine that hasn't made a step. It takes all the room that the values of a run may want, and that of
+    /// the instructions that it keeps decoded, and copies the objects of the program.
     pub fn start(alloc: Global, program: Program) -> Result<Machine, NoMemory>
         ensures program { IfOk result (λ machine. machine.program ≡ program) }
         ensures state { IfOk result (λ machine. machine.state ≡ initial program) }

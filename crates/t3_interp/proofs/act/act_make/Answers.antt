@@ -5,8 +5,8 @@ use Rattle.t3_interp.specs.Step.{after_effect}
 use Rattle.t3_interp.specs.Inner.Acting.{HasAction, effect_of}
 use Rattle.t3_interp.proofs.act.act_make.Goals as goal
 
-pub returns-in-Say : goal.returns-in-Say
-returns-in-Say c =
+pub returns-in-Say-clause-acted : goal.returns-in-Say-clause-acted
+returns-in-Say-clause-acted c =
     let program = c.args.program.now in
     let made = subst (λ (effect : MakeEffect). HasAction (make_action program c.args.code) c.args.running.now.core (effect_of effect) c.make.new.core)
     c.in-Say.is c.in_ok-effect.ensures in

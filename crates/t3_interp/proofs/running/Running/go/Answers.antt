@@ -1,9 +1,16 @@
-use Rattle.std.proofs.Common.{subst, arith}
+use Rattle.std.proofs.Common.{◌≡◌, Bool, true, false, subst, arith}
 use Rattle.t3_interp.specs.declared.event.Event.{Event}
 use Rattle.t3_interp.specs.declared.event.Event.TheVariants.{Went}
+use Rattle.t3_interp.specs.declared.running.Running.{Running}
 use Rattle.t3_interp.specs.Step.{state_of, Steps}
+use Rattle.t3_interp.specs.Inner.Acting.{Tells}
 use Rattle.t3_interp.proofs.Runs.{gone_none, gone_more, wants_on}
 use Rattle.t3_interp.proofs.running.Running.go.Goals as goal
+
+-- where the step tells nothing
+tells_nothing : (running : Running) (told : Bool) → Tells running told → told ≡ false → running.event ≡ Went
+tells_nothing running true tells is = absurd cc
+tells_nothing running false tells is = tells
 
 pub loop-made-init : goal.loop-made-init
 loop-made-init c =
@@ -18,8 +25,8 @@ loop-made-init c =
       bound = omega arith;
     }
 
-pub returns-then-has_told-clause-goes : goal.returns-then-has_told-clause-goes
-returns-then-has_told-clause-goes c =
+pub returns-then-branch-clause-goes : goal.returns-then-branch-clause-goes
+returns-then-branch-clause-goes c =
     let before = c.loop-made.self in
     let after = c.step.new.self in
     let invariant = c.loop-made.invariant in
@@ -33,7 +40,7 @@ loop-made-preserved c =
     let after = c.step.new.self in
     let invariant = c.loop-made.invariant in
     let made = c.in_ok-step.ensures in
-    let untold = c.if-has_told.ensures in
+    let untold : after.event ≡ Went = tells_nothing after c.in_ok-step.field-0 made.told c.if-branch.false in
     let takes = subst (λ (e : Event). Steps program (state_of before) (record { state = state_of after; event = e })) untold made.step in
     let test = c.loop-made-test.true in
     record {
