@@ -44,27 +44,27 @@ pub(crate) fn act(
 {
     // What comes of an effect is settled beside the instructions of its kind, so that the compiler knows it
     // where there is but one.
-    match *instr {
+    match instr {
         Instr::Push(code) => {
-            let effect = push::push(&mut running.core, code);
+            let effect = push::push(&mut running.core, *code);
             running.settle(alloc, program, effect)
         }
         Instr::Math(code) => {
-            let effect = math::math(&mut running.core, code);
+            let effect = math::math(&mut running.core, *code);
             running.settle(alloc, program, effect)
         }
         Instr::Call(code) => act_call(alloc, program, running, code),
         Instr::Stack(code) => {
-            let effect = stack::stack(&mut running.core, code);
+            let effect = stack::stack(&mut running.core, *code);
             running.settle(alloc, program, effect)
         }
         Instr::Jump(code) => {
-            let effect = jump::jump(&program.pools, &mut running.core, code);
+            let effect = jump::jump(&program.pools, &mut running.core, *code);
             running.settle(alloc, program, effect)
         }
         Instr::Make(code) => act_make(alloc, program, running, code),
         Instr::Local(code) => {
-            let effect = local::local(&mut running.core, code)?;
+            let effect = local::local(&mut running.core, *code)?;
             running.settle(alloc, program, effect)
         }
     }
@@ -76,14 +76,14 @@ fn act_call(
     alloc: Global,
     program: &Program,
     running: &mut Running,
-    code: CallCode,
+    code: &CallCode,
 ) -> Result<bool, NoMemory>
     requires method { running.old.stage ≡ Method }
     requires untold { running.old.event ≡ Went }
-    ensures acted { OnOk result (HasActed program.now (Call code) running.old running.new) }
+    ensures acted { OnOk result (HasActed program.now (Call code.now) running.old running.new) }
     ensures told { IfOk result (Tells running.new) }
 {
-    let effect = call::call(alloc, program, &mut running.core, code)?;
+    let effect = call::call(alloc, program, &mut running.core, *code)?;
     running.settle(alloc, program, effect)
 }
 
@@ -94,14 +94,14 @@ fn act_make(
     alloc: Global,
     program: &Program,
     running: &mut Running,
-    code: MakeCode,
+    code: &MakeCode,
 ) -> Result<bool, NoMemory>
     requires method { running.old.stage ≡ Method }
     requires untold { running.old.event ≡ Went }
-    ensures acted { OnOk result (HasActed program.now (Make code) running.old running.new) }
+    ensures acted { OnOk result (HasActed program.now (Make code.now) running.old running.new) }
     ensures told { IfOk result (Tells running.new) }
 {
-    match make::make(alloc, program, &mut running.core, code)? {
+    match make::make(alloc, program, &mut running.core, *code)? {
         MakeEffect::Quiet(effect) => running.settle(alloc, program, effect),
         MakeEffect::Say(text) => {
             running.say(text);

@@ -2,7 +2,7 @@
 ghost use Rattle.std.specs.Prelude.{◌≡◌, ◌+◌, ◌<◌, ◌^◌, ℤ, option_map};
 ghost use Rattle.std.specs.List.{slice_get};
 ghost use Rattle.t3_methods.specs.declared.instr.JumpCode.TheVariants.{Switch};
-ghost use Rattle.t3_interp.specs.Instructions.{jump_action, switch_on, target as target_of, target_from as target_by, test_on, pair_on, keep_on, lret_on, subroutine, switched, jump_in};
+ghost use Rattle.t3_interp.specs.Instructions.{as_address, jump_action, switch_on, target as target_of, target_from as target_by, test_on, pair_on, keep_on, lret_on, subroutine, switched, jump_in};
 ghost use Rattle.t3_interp.specs.Inner.Acting.{HasDone, HasCasesOf, context_of};
 
 use crate::effect::Quiet;
@@ -47,7 +47,19 @@ pub(super) fn jump(pools: &Pools, core: &mut Core, code: JumpCode) -> Quiet
 fn target_from(operand: u32, distance: i16) -> Option<u32>
     ensures { result ≡ target_by operand distance }
 {
-    u32::try_from(i64::from(operand) + i64::from(distance)).ok()
+    address_of(i64::from(operand) + i64::from(distance))
+}
+
+/// A number as an address, where it is one. One comparison tells that.
+#[inline(always)]
+fn address_of(number: i64) -> Option<u32>
+    ensures { result ≡ as_address number }
+{
+    if (0..1 << 32).contains(&number) {
+        Some(number as u32)
+    } else {
+        None
+    }
 }
 
 /// Where a jump goes whose operand is the instruction's only one.
@@ -55,7 +67,7 @@ fn target_from(operand: u32, distance: i16) -> Option<u32>
 fn target(core: &Core, distance: i16) -> Option<u32>
     ensures { result ≡ target_of distance (context_of core.now) }
 {
-    u32::try_from(i64::from(core.frames.place()) + 1 + i64::from(distance)).ok()
+    address_of(i64::from(core.frames.place()) + 1 + i64::from(distance))
 }
 
 /// Jumps where the topmost operand has this truth, and drops it.

@@ -1,7 +1,6 @@
 //! Pushing values.
-ghost use Rattle.std.specs.Prelude.{◌≡◌};
 ghost use Rattle.t3_interp.specs.Machine.{pushes};
-ghost use Rattle.t3_interp.specs.Instructions.{push_value, push_action};
+ghost use Rattle.t3_interp.specs.Instructions.{push_action};
 ghost use Rattle.t3_interp.specs.Inner.Acting.{HasDone};
 
 use crate::effect::Quiet;
@@ -11,14 +10,23 @@ use t3_holder::Holder;
 use t3_methods::PushCode;
 use t3_ops::Fault;
 
-/// Pushes the value of an instruction.
+/// Pushes the value of an instruction, where that is built.
 #[inline(always)]
 pub(super) fn push(core: &mut Core, code: PushCode) -> Quiet
     ensures { HasDone (push_action code) core.old result core.new }
 {
-    match pushed(code) {
-        Some(value) => push_value(core, value),
-        None => Quiet::Stop(CodeWhy::Unbuilt),
+    match code {
+        PushCode::Push0 => push_value(core, Holder::Int(0)),
+        PushCode::Push1 => push_value(core, Holder::Int(1)),
+        PushCode::Pushint8(number) => push_value(core, Holder::Int(i32::from(number))),
+        PushCode::Pushint(number) => push_value(core, Holder::Int(number)),
+        PushCode::Pushnil => push_value(core, Holder::Nil),
+        PushCode::Pushtrue => push_value(core, Holder::True),
+        PushCode::Pushpropid(number) => push_value(core, Holder::Prop(number)),
+        PushCode::Pushfnptr(address) => push_value(core, Holder::Func(address)),
+        PushCode::Pushenum(number) => push_value(core, Holder::Enum(number)),
+        PushCode::Pushobj(number) => push_value(core, Holder::Obj(number)),
+        _ => Quiet::Stop(CodeWhy::Unbuilt),
     }
 }
 
@@ -32,24 +40,4 @@ pub(super) fn push_value(core: &mut Core, value: Holder) -> Quiet
     }
     core.frames.push(value);
     Quiet::Next
-}
-
-/// The value that an instruction pushes, where that is built.
-#[inline(always)]
-fn pushed(code: PushCode) -> Option<Holder>
-    ensures { result ≡ push_value code }
-{
-    match code {
-        PushCode::Push0 => Some(Holder::Int(0)),
-        PushCode::Push1 => Some(Holder::Int(1)),
-        PushCode::Pushint8(number) => Some(Holder::Int(i32::from(number))),
-        PushCode::Pushint(number) => Some(Holder::Int(number)),
-        PushCode::Pushnil => Some(Holder::Nil),
-        PushCode::Pushtrue => Some(Holder::True),
-        PushCode::Pushpropid(number) => Some(Holder::Prop(number)),
-        PushCode::Pushfnptr(address) => Some(Holder::Func(address)),
-        PushCode::Pushenum(number) => Some(Holder::Enum(number)),
-        PushCode::Pushobj(number) => Some(Holder::Obj(number)),
-        _ => None,
-    }
 }

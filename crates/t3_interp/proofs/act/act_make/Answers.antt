@@ -8,7 +8,7 @@ use Rattle.t3_interp.proofs.act.act_make.Goals as goal
 pub returns-in-Say-clause-acted : goal.returns-in-Say-clause-acted
 returns-in-Say-clause-acted c =
     let program = c.args.program.now in
-    let made = subst (λ (effect : MakeEffect). HasAction (make_action program c.args.code) c.args.running.now.core (effect_of effect) c.make.new.core)
+    let made = subst (λ (effect : MakeEffect). HasAction (make_action program c.args.code.now) c.args.running.now.core (effect_of effect) c.make.new.core)
     c.in-Say.is c.in_ok-effect.ensures in
     record {
       after = c.say.ensures.after program ∙ (λ i. after_effect program (made.older i) c.args.running.now.steps (sym made.asks i) (made.leaves i));
