@@ -23,15 +23,26 @@ END = block(b"EOF ", b"")
 
 
 def timed(words, folder):
-    """The seconds, the peak memory in bytes and the output of one run."""
+    """The seconds, the peak memory in bytes and the output of one run.
+
+    A small process of its own begins the run, since the peak memory of a run counts that of what begins it.
+    """
+    told = subprocess.run([sys.executable, __file__, *words], cwd=folder, stdout=subprocess.PIPE).stdout
+    figures, shown = told.split(b"\n", 1)
+    seconds, memory, status = figures.split()
+    if int(status) != 0:
+        sys.exit(f"{words[0]} failed: {shown!r}")
+    return float(seconds), int(memory), shown
+
+
+def run_once(words):
+    """Runs a program, and tells the seconds, the peak memory in bytes, the status, and then its output."""
     start = time.perf_counter()
-    child = subprocess.Popen(words, cwd=folder, stdout=subprocess.PIPE)
+    child = subprocess.Popen(words, stdout=subprocess.PIPE)
     shown = child.stdout.read()
     _, status, usage = os.wait4(child.pid, 0)
     seconds = time.perf_counter() - start
-    if status != 0:
-        sys.exit(f"{words[0]} failed: {shown!r}")
-    return seconds, usage.ru_maxrss * 1024, shown
+    sys.stdout.buffer.write(f"{seconds} {usage.ru_maxrss * 1024} {status}\n".encode() + shown)
 
 
 def against_sha256sum(words, wanted, name, folder):
@@ -56,3 +67,7 @@ def store_bench(*words):
     """The seconds, the peak memory in bytes and the output of `t3_store_bench`, the fastest of three runs."""
     program = os.path.join(TOP, "build", "t3_store_bench")
     return min(timed([program, *map(str, words)], TOP) for _ in range(3))
+
+
+if __name__ == "__main__":
+    run_once(sys.argv[1:])
