@@ -6,8 +6,8 @@ use std::marker::Model;
 use std::rc::Rc;
 use t3_holder::Bytes;
 
-/// The bytes of a page, without the mask. All that share them have them at one place in memory. Contracts see the
-/// bytes.
+/// The bytes of a page, without the mask. All that share them have them at one place in memory.
+/// Contracts see the bytes.
 #[derive(Debug, Drop)]
 pub struct PageBytes(Rc<Bytes>);
 
@@ -20,7 +20,8 @@ impl Model for PageBytes {
 }
 
 impl PageBytes {
-    /// These bytes, which aren't copied.
+    /// These bytes, which aren't copied. `AllocError` comes for want of memory for the count of
+    /// those that share them.
     pub fn new(alloc: Global, bytes: Bytes) -> Result<PageBytes, AllocError>
         ensures { IfOk result (λ shared. shared ≡ bytes) }
     {
@@ -30,7 +31,8 @@ impl PageBytes {
         }
     }
 
-    /// The same bytes for one more that has them. They aren't copied.
+    /// The same bytes for one more that has them. They aren't copied, and no memory is taken.
+    /// `AllocError` comes when the count of those that share them can't get larger.
     pub fn share(&self) -> Result<PageBytes, AllocError>
         ensures { IfOk result (λ shared. shared ≡ self.now) }
     {
