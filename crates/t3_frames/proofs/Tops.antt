@@ -1,11 +1,14 @@
 -- Values on one stack, from the topmost on, as those of frames.
-use Rattle.std.proofs.Common.{◌≡◌, ◌≢◌, ℕ, zero, suc, ◌+◌, ◌-◌, ◌<◌, ◌≤◌, min, List, [], ◌∷◌, ◌++◌, reverse, length, take, drop, set, replicate, get_or, append_assoc, Option, Some, None, IsSome, refl, sym, ap, ◌∙◌, arith}
+use Rattle.std.proofs.Common.{◌≡◌, ℕ, zero, suc, ◌+◌, ◌-◌, ◌<◌, ◌≤◌, min, List, [], ◌∷◌, ◌++◌, reverse, length, take, drop, set, replicate, get_or, append_assoc, Option, Some, None, IsSome, refl, sym, ap, ◌∙◌, arith}
 use Rattle.std.specs.Option.{option_to_list}
-use Rattle.std.proofs.lemmas.List.{reverse-append, length-reverse, length-take, length-drop, length-replicate, set_split, set-get_or, take-append-drop, take-set-le, drop-set-lt, drop-set-add, take_all, drop_all, drop_at, get_or-reverse}
+use Rattle.std.proofs.lemmas.List.{reverse-append, length-reverse, length-take, length-drop, length-replicate, set_split, set-get_or, take-append-drop, take-set-le, drop-set-lt, drop-set-add, take_all, drop_all, drop_at, get_or-reverse, get_or-take, get_or-drop}
+use Rattle.std.proofs.lemmas.Option.{slice_get-get_or}
+use Rattle.std.specs.List.{slice_get}
 use Rattle.std.proofs.Math.Seq.{take-set-lt, take-append_seam, set-append_seam}
 use Rattle.t3_holder.specs.declared.holder.Holder.{Holder}
 use Rattle.t3_holder.specs.declared.holder.Holder.TheVariants.{Nil}
 use Rattle.t3_frames.specs.declared.mark.FrameMark.{FrameMark}
+use Rattle.t3_frames.specs.declared.mark.OlderMark.{OlderMark}
 use Rattle.t3_frames.specs.Frame.{FramesValue, values_of, all_values, values, of_newest, with_operands, with_local, with_argument, begun, Pops, HasTop}
 use Rattle.t3_frames.specs.Inner.Marks.{count_of, counts, frame_of, below, older_of, frames_of}
 
@@ -55,67 +58,67 @@ reverse-replicate (suc n) =
 
 -- ---- counts
 
-frame_counted : (tops : List Holder) (mark : FrameMark) (rest : ℕ) → length tops ≡ count_of mark + rest
-    → (values_of (frame_of tops mark) ≡ count_of mark) × (length (below tops mark) ≡ rest)
-frame_counted tops mark rest is =
-    let inner = drop mark.operands tops in
+frame_counted : (tops : List Holder) (o : ℕ) (mark : FrameMark) (rest : ℕ) → length tops ≡ count_of o mark + rest
+    → (values_of (frame_of tops o mark) ≡ count_of o mark) × (length (below tops o mark) ≡ rest)
+frame_counted tops o mark rest is =
+    let inner = drop o tops in
     let outer = drop mark.locals inner in
-    let one = length-drop mark.operands tops in
+    let one = length-drop o tops in
     let two = length-drop mark.locals inner in
     let three = length-drop mark.arguments outer in
-    let a = length-take mark.operands tops in
+    let a = length-take o tops in
     let b = length-take mark.locals inner in
     let c = length-take mark.arguments outer in
     (omega (arith, is, one, two, a, b, c), omega (arith, is, one, two, three))
 
-older_counted : (tops : List Holder) (marks : List FrameMark) → length tops ≡ counts marks → all_values (older_of tops marks) ≡ counts marks
+older_counted : (tops : List Holder) (marks : List OlderMark) → length tops ≡ counts marks → all_values (older_of tops marks) ≡ counts marks
 older_counted tops [] is = refl
-older_counted tops (mark ∷ marks) is =
-    let first = frame_counted tops mark (counts marks) is in
-    omega (arith, first.0, older_counted (below tops mark) marks first.1)
+older_counted tops (older ∷ others) is =
+    let first = frame_counted tops older.operands older.mark (counts others) is in
+    omega (arith, first.0, older_counted (below tops older.operands older.mark) others first.1)
 
-pub values-frames_of : (tops : List Holder) (newest : FrameMark) (older : List FrameMark) → length tops ≡ count_of newest + counts older
-    → values (frames_of tops newest older) ≡ length tops
-values-frames_of tops newest older is =
-    let first = frame_counted tops newest (counts older) is in
-    omega (arith, is, first.0, older_counted (below tops newest) older first.1)
+pub values-frames_of : (tops : List Holder) (o base : ℕ) (newest : FrameMark) (older : List OlderMark)
+    → base ≡ newest.locals + newest.arguments + counts older → length tops ≡ o + base → values (frames_of tops o newest older) ≡ length tops
+values-frames_of tops o base newest older counted all =
+    let is : length tops ≡ count_of o newest + counts older = omega (arith, counted, all) in
+    let first = frame_counted tops o newest (counts older) is in
+    omega (arith, is, first.0, older_counted (below tops o newest) older first.1)
 
 -- ---- operands
 
-pub pushes : (tops : List Holder) (mark : FrameMark) (older : List FrameMark) (v : Holder)
-    → frames_of (v ∷ tops) (record mark { operands = mark.operands + 1 }) older
-    ≡ of_newest (with_operands (v ∷ take mark.operands tops)) (frames_of tops mark older)
-pushes tops mark older v =
-    let count : mark.operands + 1 ≡ suc mark.operands = omega arith in
-    λ i. frames_of (v ∷ tops) (record mark { operands = count i }) older
+pub pushes : (tops : List Holder) (o more : ℕ) (mark : FrameMark) (older : List OlderMark) (v : Holder) → more ≡ o + 1
+    → frames_of (v ∷ tops) more mark older ≡ of_newest (with_operands (v ∷ take o tops)) (frames_of tops o mark older)
+pushes tops o more mark older v is =
+    let count : more ≡ suc o = omega (arith, is) in
+    λ i. frames_of (v ∷ tops) (count i) mark older
 
-pub pops : (old new : List Holder) (found : Option Holder) (mark : FrameMark) (older : List FrameMark) (frames : FramesValue)
-    → frames_of (reverse old) mark older ≡ frames → mark.operands ≢ 0 → 0 < length old → old ≡ new ++ option_to_list found
+pub pops : (old new : List Holder) (o less : ℕ) (found : Option Holder) (mark : FrameMark) (older : List OlderMark) (frames : FramesValue)
+    → frames_of (reverse old) o mark older ≡ frames → o ≡ less + 1 → 0 < length old → old ≡ new ++ option_to_list found
     → (found ≡ None → length old ≡ 0)
-    → Pops frames found (frames_of (reverse new) (record mark { operands = mark.operands - 1 }) older)
-pops old new None mark older frames view some long is none = absurd (omega (arith, long, none refl))
-pops old new (Some v) mark older frames view some long is none =
+    → Pops frames found (frames_of (reverse new) less mark older)
+pops old new o less None mark older frames view some long is none = absurd (omega (arith, long, none refl))
+pops old new o less (Some v) mark older frames view some long is none =
     let tops : reverse old ≡ v ∷ reverse new = ap reverse is ∙ reverse-push new v in
-    let count : mark.operands ≡ suc (mark.operands - 1) = omega (arith, some) in
-    let step : frames ≡ frames_of (v ∷ reverse new) (record mark { operands = suc (mark.operands - 1) }) older =
-    sym view ∙ (λ i. frames_of (tops i) (record mark { operands = count i }) older) in (
+    let count : o ≡ suc less = omega (arith, some) in
+    let step : frames ≡ frames_of (v ∷ reverse new) (suc less) mark older =
+    sym view ∙ (λ i. frames_of (tops i) (count i) mark older) in (
       ap (λ (f : FramesValue). f.newest.operands) step,
-      sym (ap (λ (f : FramesValue). of_newest (with_operands (take (mark.operands - 1) (reverse new))) f) step),
+      sym (ap (λ (f : FramesValue). of_newest (with_operands (take less (reverse new))) f) step),
     )
 
-pub has_top : (items : List Holder) (mark : FrameMark) (older : List FrameMark) (frames : FramesValue) (place : ℕ) (v : Holder)
-    → frames_of (reverse items) mark older ≡ frames → mark.operands ≢ 0 → place + 1 ≡ length items → get_or items place v ≡ v
+pub has_top : (items : List Holder) (o : ℕ) (mark : FrameMark) (older : List OlderMark) (frames : FramesValue) (place : ℕ) (v : Holder)
+    → frames_of (reverse items) o mark older ≡ frames → 0 < o → place + 1 ≡ length items → get_or items place v ≡ v
     → HasTop frames (Some v)
-has_top items mark older frames place v view some at is =
+has_top items o mark older frames place v view some at is =
     let here : get_or (reverse items) 0 v ≡ v =
     get_or-reverse items 0 v (omega (arith, at)) ∙ ap (λ n. get_or items n v) (omega (arith, at)) ∙ is in
     let long : 0 < length (reverse items) = omega (arith, at, length-reverse items) in
-    first (reverse items) (mark.operands) here long some (ap (λ (f : FramesValue). f.newest.operands) view)
+    first (reverse items) o here long some (ap (λ (f : FramesValue). f.newest.operands) view)
   where
-    first : (tops : List Holder) (o : ℕ) → get_or tops 0 v ≡ v → 0 < length tops → o ≢ 0 → take o tops ≡ frames.newest.operands
+    first : (tops : List Holder) (o : ℕ) → get_or tops 0 v ≡ v → 0 < length tops → 0 < o → take o tops ≡ frames.newest.operands
         → HasTop frames (Some v)
     first [] o here long some same = absurd (omega (arith, long))
-    first (x ∷ tops) zero here long some same = absurd (some refl)
+    first (x ∷ tops) zero here long some same = absurd (omega (arith, some))
     first (x ∷ tops) (suc o) here long some same = (take o tops, sym same ∙ ap (λ y. y ∷ take o tops) here)
 
 pub takes : (tops : List Holder) (count o : ℕ) → take (min count o) tops ≡ take count (take o tops)
@@ -135,10 +138,28 @@ values-pops old new (Some v) is some =
 
 -- ---- variables
 
-pub sets_local : (tops : List Holder) (mark : FrameMark) (older : List FrameMark) (n : ℕ) (v : Holder) → n < mark.locals
-    → frames_of (set tops (mark.operands + n) v) mark older ≡ of_newest (with_local n v) (frames_of tops mark older)
-sets_local tops mark older n v less =
-    let o = mark.operands in
+pub finds_argument : (items : List Holder) (o place : ℕ) (mark : FrameMark) (older : List OlderMark) (frames : FramesValue) (n : ℕ) (v : Holder)
+    → frames_of (reverse items) o mark older ≡ frames → n < mark.arguments → place + (o + mark.locals + n) + 1 ≡ length items → get_or items place v ≡ v
+    → Some v ≡ slice_get frames.newest.arguments n
+finds_argument items o place mark older frames n v view less sum is =
+    let tops = reverse items in
+    let l = mark.locals in
+    let inner = drop l (drop o tops) in
+    let k = o + l + n in
+    let seen : length items - 1 - k ≡ place = omega (arith, sum) in
+    let at : get_or tops k v ≡ v = get_or-reverse items k v (omega (arith, sum)) ∙ ap (λ m. get_or items m v) seen ∙ is in
+    let there : get_or (take mark.arguments inner) n v ≡ v =
+    get_or-take mark.arguments inner n v less ∙ get_or-drop l (drop o tops) n v ∙ get_or-drop o tops (l + n) v
+    ∙ ap (λ m. get_or tops m v) (omega arith) ∙ at in
+    let one = length-drop o tops in
+    let two = length-drop l (drop o tops) in
+    let three = length-take mark.arguments inner in
+    let long : n < length (take mark.arguments inner) = omega (arith, sum, less, one, two, three, length-reverse items) in
+    sym (slice_get-get_or (take mark.arguments inner) n v long ∙ ap Some there) ∙ ap (λ (f : FramesValue). slice_get f.newest.arguments n) view
+
+pub sets_local : (tops : List Holder) (o : ℕ) (mark : FrameMark) (older : List OlderMark) (n : ℕ) (v : Holder) → n < mark.locals
+    → frames_of (set tops (o + n) v) o mark older ≡ of_newest (with_local n v) (frames_of tops o mark older)
+sets_local tops o mark older n v less =
     let l = mark.locals in
     let inner : drop o (set tops (o + n) v) ≡ set (drop o tops) n v = drop-set-add o tops n v in
     let operands : take o (set tops (o + n) v) ≡ take o tops = take-set-le o tops (o + n) v (omega arith) in
@@ -146,7 +167,7 @@ sets_local tops mark older n v less =
     let outer : drop l (drop o (set tops (o + n) v)) ≡ drop l (drop o tops) = ap (drop l) inner ∙ drop-set-lt l (drop o tops) n v less in
     λ i. record {
       newest =
-          record (frame_of tops mark) {
+          record (frame_of tops o mark) {
             operands = operands i;
             locals = locals i;
             arguments = take mark.arguments (outer i);
@@ -154,10 +175,9 @@ sets_local tops mark older n v less =
       older = older_of (drop mark.arguments (outer i)) older;
     }
 
-pub sets_argument : (tops : List Holder) (mark : FrameMark) (older : List FrameMark) (n : ℕ) (v : Holder) → n < mark.arguments
-    → frames_of (set tops (mark.operands + mark.locals + n) v) mark older ≡ of_newest (with_argument n v) (frames_of tops mark older)
-sets_argument tops mark older n v less =
-    let o = mark.operands in
+pub sets_argument : (tops : List Holder) (o : ℕ) (mark : FrameMark) (older : List OlderMark) (n : ℕ) (v : Holder) → n < mark.arguments
+    → frames_of (set tops (o + mark.locals + n) v) o mark older ≡ of_newest (with_argument n v) (frames_of tops o mark older)
+sets_argument tops o mark older n v less =
     let l = mark.locals in
     let a = mark.arguments in
     let k = o + l + n in
@@ -172,7 +192,7 @@ sets_argument tops mark older n v less =
     let rest : drop a (drop l (drop o (set tops k v))) ≡ drop a (drop l (drop o tops)) = ap (drop a) outer ∙ drop-set-lt a (drop l (drop o tops)) n v less in
     λ i. record {
       newest =
-          record (frame_of tops mark) {
+          record (frame_of tops o mark) {
             operands = operands i;
             locals = locals i;
             arguments = arguments i;
@@ -205,17 +225,16 @@ drop-min (suc count) (suc o) (x ∷ xs) le =
     let less : min (suc count) (suc o) ≡ suc (min count o) = omega arith in
     ap (λ n. drop n (x ∷ xs)) less ∙ drop-min count o xs (omega (arith, le))
 
-pub drops : (tops : List Holder) (mark : FrameMark) (older : List FrameMark) (count : ℕ)
-    → frames_of (drop (min count mark.operands) tops) (record mark { operands = mark.operands - min count mark.operands }) older
-    ≡ of_newest (with_operands (drop count (take mark.operands tops))) (frames_of tops mark older)
-drops tops mark older count =
-    let o = mark.operands in
+pub drops : (tops : List Holder) (o left : ℕ) (mark : FrameMark) (older : List OlderMark) (count : ℕ) → left ≡ o - min count o
+    → frames_of (drop (min count o) tops) left mark older ≡ of_newest (with_operands (drop count (take o tops))) (frames_of tops o mark older)
+drops tops o left mark older count is =
     let d = min count o in
-    let inner : drop (o - d) (drop d tops) ≡ drop o tops = drop-drop (o - d) d tops ∙ ap (λ n. drop n tops) (omega arith) in
-    let operands : take (o - d) (drop d tops) ≡ drop count (take o tops) = sym (drop-take d o tops) ∙ drop-min count o (take o tops) (omega (arith, length-take o tops)) in
+    let inner : drop left (drop d tops) ≡ drop o tops = drop-drop left d tops ∙ ap (λ n. drop n tops) (omega (arith, is)) in
+    let operands : take left (drop d tops) ≡ drop count (take o tops) =
+    ap (λ n. take n (drop d tops)) is ∙ sym (drop-take d o tops) ∙ drop-min count o (take o tops) (omega (arith, length-take o tops)) in
     λ i. record {
       newest =
-          record (frame_of tops mark) {
+          record (frame_of tops o mark) {
             operands = operands i;
             locals = take mark.locals (inner i);
             arguments = take mark.arguments (drop mark.locals (inner i));
@@ -225,12 +244,12 @@ drops tops mark older count =
 
 -- ---- the first frame
 
-pub begins : (method locals : ℕ) (items cleared : List Holder) (older : List FrameMark) (mark : FrameMark) → items ≡ cleared ++ replicate locals Nil
-    → cleared ≡ [] → older ≡ []
-    → mark ≡ record { method = method; place = method + 10; next = method + 10; arguments = 0; locals = locals; operands = 0; this = Nil; defining = 0; gives = None }
-    → frames_of (reverse items) mark (reverse older) ≡ record { newest = begun method locals; older = [] }
-begins method locals items cleared older mark is empty none same =
+pub begins : (method locals o : ℕ) (items cleared : List Holder) (older : List OlderMark) (mark : FrameMark)
+    → items ≡ cleared ++ replicate locals Nil → cleared ≡ [] → older ≡ [] → o ≡ 0
+    → mark ≡ record { method = method; place = method + 10; next = method + 10; arguments = 0; locals = locals; this = Nil; defining = 0; gives = None }
+    → frames_of (reverse items) o mark (reverse older) ≡ record { newest = begun method locals; older = [] }
+begins method locals o items cleared older mark is empty none no_operands same =
     let tops : reverse items ≡ replicate locals Nil = ap reverse (is ∙ ap (λ (t : List Holder). t ++ replicate locals Nil) empty) ∙ reverse-replicate locals in
     let all : take locals (replicate locals Nil) ≡ replicate locals Nil = take_all locals (replicate locals Nil) (omega (arith, length-replicate locals Nil)) in
-    (λ i. frames_of (tops i) (same i) (reverse (none i)))
+    (λ i. frames_of (tops i) (no_operands i) (same i) (reverse (none i)))
     ∙ (λ i. record { newest = record (begun method locals) { locals = all i }; older = [] })

@@ -4,7 +4,7 @@ ghost use Rattle.std.specs.List.{slice_get};
 ghost use Rattle.t3_holder.specs.declared.holder.Holder.TheVariants.{Nil};
 ghost use Rattle.t3_frames.specs.Frame.{values, value_limit, room, of_newest, begun, goes_to, carries_out, with_operands, with_local, with_argument, Pops, HasTop};
 
-use crate::mark::FrameMark;
+use crate::mark::{FrameMark, OlderMark};
 use crate::stack::push_nils;
 use std::alloc::Global;
 use std::marker::Model;
@@ -23,9 +23,11 @@ pub struct Frames {
     /// The values of all frames. Those of the newest come last: its arguments and its locals, of each the
     /// first one last, and its operands, of which the topmost is the last.
     values: Vec<Holder>,
+    /// How many of them lie below the operands of the newest.
+    base: usize,
     newest: FrameMark,
     /// The newer last.
-    older: Vec<FrameMark>,
+    older: Vec<OlderMark>,
 }
 
 impl Model for Frames {
@@ -33,13 +35,14 @@ impl Model for Frames {
 
     ghost Value = { FramesValue };
 
-    ghost use Rattle.std.specs.Prelude.{reverse, vec_capacity};
+    ghost use Rattle.std.specs.Prelude.{◌-◌, reverse, vec_len, vec_capacity};
     ghost use Rattle.t3_frames.specs.Inner.Marks.{frames_of, IsStack};
 
-    ghost view = { λ f. frames_of (reverse f.values.items) f.newest (reverse f.older.items) };
+    ghost view = { λ f. frames_of (reverse f.values.items) (vec_len f.values - f.base) f.newest
+        (reverse f.older.items) };
 
-    ghost invariant = { λ f. IsStack (reverse f.values.items) f.newest (reverse f.older.items)
-        (vec_capacity f.values) };
+    ghost invariant = { λ f. IsStack (reverse f.values.items) f.base f.newest
+        (reverse f.older.items) (vec_capacity f.values) };
 }
 
 impl Frames {
@@ -49,6 +52,7 @@ impl Frames {
     {
         Ok(Frames {
             values: Vec::with_capacity(alloc, ROOM)?,
+            base: 0,
             newest: FrameMark::begun(0, 0),
             older: Vec::new(alloc),
         })
@@ -64,6 +68,7 @@ impl Frames {
         self.newest = FrameMark::begun(method, locals);
         self.values.clear();
         push_nils(&mut self.values, locals);
+        self.base = usize::from(locals);
     }
 
     /// Whether the frames hold as many values as they may.
@@ -79,7 +84,7 @@ impl Frames {
     pub fn operands(&self) -> usize
         ensures { result ≡ length self.now.newest.operands }
     {
-        self.newest.operands
+        self.values.len() - self.base
     }
 
     /// The topmost operand. `None` exactly where there is none.
@@ -87,7 +92,7 @@ impl Frames {
     pub fn top(&self) -> Option<Holder>
         ensures { HasTop self.now result }
     {
-        if self.newest.operands == 0 {
+        if self.values.len() <= self.base {
             return None;
         }
         Some(self.values[self.values.len() - 1])
@@ -99,10 +104,9 @@ impl Frames {
         ensures pops { Pops self.old result self.new }
         ensures room { IsSome result → values self.new < room }
     {
-        if self.newest.operands == 0 {
+        if self.values.len() <= self.base {
             return None;
         }
-        self.newest.operands -= 1;
         self.values.pop()
     }
 
@@ -112,7 +116,6 @@ impl Frames {
         requires { values self.old < room }
         ensures { self.new ≡ of_newest (with_operands (value ∷ self.old.newest.operands)) self.old }
     {
-        self.newest.operands += 1;
         self.values.push_reserved(value);
     }
 
@@ -120,8 +123,7 @@ impl Frames {
     pub fn drop_operands(&mut self, count: u16)
         ensures { self.new ≡ of_newest (with_operands (drop count self.old.newest.operands)) self.old }
     {
-        let dropped = usize::from(count).min(self.newest.operands);
-        self.newest.operands -= dropped;
+        let dropped = usize::from(count).min(self.values.len() - self.base);
         self.values.truncate(self.values.len() - dropped);
     }
 
@@ -129,7 +131,7 @@ impl Frames {
     pub fn topmost(&self, count: u8) -> &[Holder]
         ensures { reverse result.now ≡ take count self.now.newest.operands }
     {
-        let shown = usize::from(count).min(self.newest.operands);
+        let shown = usize::from(count).min(self.values.len() - self.base);
         &self.values[self.values.len() - shown..]
     }
 
@@ -141,7 +143,7 @@ impl Frames {
         if usize::from(n) >= self.newest.locals {
             return None;
         }
-        Some(self.values[self.values.len() - 1 - (self.newest.operands + usize::from(n))])
+        Some(self.values[self.base - 1 - usize::from(n)])
     }
 
     /// Sets the local variable of a number, from 0, where the frame has such.
@@ -150,8 +152,7 @@ impl Frames {
         ensures { self.new ≡ of_newest (with_local n value) self.old }
     {
         if usize::from(n) < self.newest.locals {
-            let place = self.values.len() - 1 - (self.newest.operands + usize::from(n));
-            self.values[place] = value;
+            self.values[self.base - 1 - usize::from(n)] = value;
         }
     }
 
@@ -163,8 +164,7 @@ impl Frames {
         if usize::from(n) >= self.newest.arguments {
             return None;
         }
-        let above = self.newest.operands + self.newest.locals;
-        Some(self.values[self.values.len() - 1 - (above + usize::from(n))])
+        Some(self.values[self.base - 1 - (self.newest.locals + usize::from(n))])
     }
 
     /// Sets the argument of a number, from 0, where the frame has such.
@@ -173,9 +173,7 @@ impl Frames {
         ensures { self.new ≡ of_newest (with_argument n value) self.old }
     {
         if usize::from(n) < self.newest.arguments {
-            let above = self.newest.operands + self.newest.locals;
-            let place = self.values.len() - 1 - (above + usize::from(n));
-            self.values[place] = value;
+            self.values[self.base - 1 - (self.newest.locals + usize::from(n))] = value;
         }
     }
 

@@ -1,6 +1,6 @@
 use t3_holder::Holder;
 
-/// What of a frame is no value, and how many values of each sort it has.
+/// What of a frame is no value, and how many arguments and locals it has.
 #[derive(Clone, Copy, Debug)]
 pub(crate) struct FrameMark {
     pub(crate) method: u32,
@@ -8,10 +8,16 @@ pub(crate) struct FrameMark {
     pub(crate) next: u32,
     pub(crate) arguments: usize,
     pub(crate) locals: usize,
-    pub(crate) operands: usize,
     pub(crate) this: Holder,
     pub(crate) defining: u32,
     pub(crate) gives: Option<u32>,
+}
+
+/// What of an older frame is no value, and how many values of each sort it has.
+#[derive(Clone, Copy, Debug)]
+pub(crate) struct OlderMark {
+    pub(crate) mark: FrameMark,
+    pub(crate) operands: usize,
 }
 
 impl FrameMark {
@@ -27,7 +33,6 @@ impl FrameMark {
           next = method + 10;
           arguments = 0;
           locals = locals;
-          operands = 0;
           this = Nil;
           defining = 0;
           gives = None;
@@ -39,7 +44,6 @@ impl FrameMark {
             next: method + 10,
             arguments: 0,
             locals: usize::from(locals),
-            operands: 0,
             this: Holder::Nil,
             defining: 0,
             gives: None,

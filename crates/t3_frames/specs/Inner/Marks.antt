@@ -2,50 +2,53 @@
 use Rattle.std.specs.Prelude.{◌≡◌, ℕ, ◌+◌, ◌≤◌, ◌<◌, ◌^◌, List, [], ◌∷◌, length, take, drop}
 use Rattle.t3_holder.specs.declared.holder.Holder.{Holder}
 use Rattle.t3_frames.specs.declared.mark.FrameMark.{FrameMark}
+use Rattle.t3_frames.specs.declared.mark.OlderMark.{OlderMark}
 use Rattle.t3_frames.specs.Frame.{FrameValue, FramesValue, room}
 
--- how many values a frame has
-abbrev pub count_of : FrameMark → ℕ
-count_of mark = mark.operands + (mark.locals + mark.arguments)
+-- how many values a frame with so many operands has
+abbrev pub count_of : ℕ → FrameMark → ℕ
+count_of operands mark = operands + (mark.locals + mark.arguments)
 
-abbrev pub counts : List FrameMark → ℕ
+abbrev pub counts : List OlderMark → ℕ
 counts [] = 0
-counts (mark ∷ marks) = count_of mark + counts marks
+counts (older ∷ others) = count_of older.operands older.mark + counts others
 
 -- its operands are the topmost, then come its locals and then its arguments, the first ones first
-abbrev pub frame_of : List Holder → FrameMark → FrameValue
-frame_of tops mark =
+abbrev pub frame_of : List Holder → ℕ → FrameMark → FrameValue
+frame_of tops operands mark =
     record {
       method = mark.method;
       place = mark.place;
       next = mark.next;
-      arguments = take mark.arguments (drop mark.locals (drop mark.operands tops));
-      locals = take mark.locals (drop mark.operands tops);
-      operands = take mark.operands tops;
+      arguments = take mark.arguments (drop mark.locals (drop operands tops));
+      locals = take mark.locals (drop operands tops);
+      operands = take operands tops;
       this = mark.this;
       defining = mark.defining;
       gives = mark.gives;
     }
 
 -- the values of the frames below it
-abbrev pub below : List Holder → FrameMark → List Holder
-below tops mark = drop mark.arguments (drop mark.locals (drop mark.operands tops))
+abbrev pub below : List Holder → ℕ → FrameMark → List Holder
+below tops operands mark = drop mark.arguments (drop mark.locals (drop operands tops))
 
 -- older frames, of which the newest is marked last
-abbrev pub older_of : List Holder → List FrameMark → List FrameValue
+abbrev pub older_of : List Holder → List OlderMark → List FrameValue
 older_of tops [] = []
-older_of tops (mark ∷ marks) = frame_of tops mark ∷ older_of (below tops mark) marks
+older_of tops (older ∷ others) = frame_of tops older.operands older.mark ∷ older_of (below tops older.operands older.mark) others
 
-abbrev pub frames_of : List Holder → FrameMark → List FrameMark → FramesValue
-frames_of tops newest older =
+-- frames, the newest of which has so many operands
+abbrev pub frames_of : List Holder → ℕ → FrameMark → List OlderMark → FramesValue
+frames_of tops operands newest older =
     record {
-      newest = frame_of tops newest;
-      older = older_of (below tops newest) older;
+      newest = frame_of tops operands newest;
+      older = older_of (below tops operands newest) older;
     }
 
--- each value is a frame's, there is no more room than is wanted, and the method stands where code can
-pub record IsStack (tops : List Holder) (newest : FrameMark) (older : List FrameMark) (capacity : ℕ) : Type 0 where
-  pub counted : length tops ≡ count_of newest + counts older
+-- each value below the operands of the newest is a frame's, there is no more room than is wanted, and the method stands where code can
+pub record IsStack (tops : List Holder) (base : ℕ) (newest : FrameMark) (older : List OlderMark) (capacity : ℕ) : Type 0 where
+  pub counted : base ≡ newest.locals + newest.arguments + counts older
+  pub holds : base ≤ length tops
   pub few : length tops ≤ room
   pub room_is : capacity ≡ room
   pub within : newest.method < 2 ^ 31

@@ -1,4 +1,4 @@
-use Rattle.std.proofs.Common.{sym, ap, ◌∙◌, reverse}
+use Rattle.std.proofs.Common.{◌≡◌, ◌+◌, ◌-◌, length, sym, ap, ◌∙◌, reverse, vec_len, arith}
 use Rattle.std.specs.Prelude.{nat_le}
 use Rattle.std.proofs.lemmas.List.{length-reverse}
 use Rattle.t3_frames.specs.Frame.{values, value_limit}
@@ -9,6 +9,9 @@ pub returns : goal.returns
 returns c =
     let tops = reverse c.self.inside.values.items in
     let older = reverse c.self.inside.older.items in
-    let count = values-frames_of tops c.self.inside.newest older c.self.invariant.counted in
+    let base = c.self.inside.base in
+    let all : length tops ≡ vec_len c.self.inside.values - base + base =
+    omega (arith, c.self.inside.values.ok.0, length-reverse c.self.inside.values.items, c.self.invariant.holds) in
+    let count = values-frames_of tops (vec_len c.self.inside.values - base) base c.self.inside.newest older c.self.invariant.counted all in
     ap (λ n. nat_le value_limit n)
     (c.len.ensures ∙ c.self.inside.values.ok.0 ∙ sym (length-reverse c.self.inside.values.items) ∙ sym count ∙ ap values c.self.view_is)
