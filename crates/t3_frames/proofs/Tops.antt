@@ -20,7 +20,8 @@ reverse-push xs x = reverse-append xs (x ∷ [])
 
 -- the list before a place, the value there, and those behind
 reverse-split : (p s : List Holder) (x : Holder) → reverse (p ++ x ∷ s) ≡ reverse s ++ x ∷ reverse p
-reverse-split p s x = reverse-append p (x ∷ s) ∙ ap (λ (t : List Holder). t ++ reverse p) (reverse-append (x ∷ []) s) ∙ append_assoc (reverse s) (x ∷ []) (reverse p)
+reverse-split p s x = reverse-append p (x ∷ s) ∙ ap (λ (t : List Holder). t ++ reverse p) (reverse-append (x ∷ []) s)
+    ∙ append_assoc (reverse s) (x ∷ []) (reverse p)
 
 pub reverse-set : (xs : List Holder) (i k : ℕ) (v : Holder) → i + k + 1 ≡ length xs → reverse (set xs i v) ≡ set (reverse xs) k v
 reverse-set xs i k v sum =
@@ -45,7 +46,8 @@ reverse-drop xs i k sum =
     let at : length (reverse (drop i xs)) ≡ k = length-reverse (drop i xs) ∙ length-drop i xs ∙ omega (arith, sum) in
     let whole : reverse xs ≡ reverse (drop i xs) ++ reverse (take i xs) =
     ap reverse (sym (take-append-drop i xs)) ∙ reverse-append (take i xs) (drop i xs) in
-    sym (ap (take k) whole ∙ (λ j. take (sym at j) (reverse (drop i xs) ++ reverse (take i xs))) ∙ take-append_seam (reverse (drop i xs)) (reverse (take i xs)))
+    sym (ap (take k) whole ∙ (λ j. take (sym at j) (reverse (drop i xs) ++ reverse (take i xs)))
+    ∙ take-append_seam (reverse (drop i xs)) (reverse (take i xs)))
 
 snoc-replicate : (n : ℕ) → replicate n Nil ++ Nil ∷ [] ≡ Nil ∷ replicate n Nil
 snoc-replicate zero = refl
@@ -138,8 +140,10 @@ values-pops old new (Some v) is some =
 
 -- ---- variables
 
-pub finds_argument : (items : List Holder) (o place : ℕ) (mark : FrameMark) (older : List OlderMark) (frames : FramesValue) (n : ℕ) (v : Holder)
-    → frames_of (reverse items) o mark older ≡ frames → n < mark.arguments → place + (o + mark.locals + n) + 1 ≡ length items → get_or items place v ≡ v
+pub finds_argument : (items : List Holder) (o place : ℕ) (mark : FrameMark) (older : List OlderMark) (frames : FramesValue) (n : ℕ)
+    (v : Holder)
+    → frames_of (reverse items) o mark older ≡ frames → n < mark.arguments → place + (o + mark.locals + n) + 1 ≡ length items
+    → get_or items place v ≡ v
     → Some v ≡ slice_get frames.newest.arguments n
 finds_argument items o place mark older frames n v view less sum is =
     let tops = reverse items in
@@ -155,7 +159,8 @@ finds_argument items o place mark older frames n v view less sum is =
     let two = length-drop l (drop o tops) in
     let three = length-take mark.arguments inner in
     let long : n < length (take mark.arguments inner) = omega (arith, sum, less, one, two, three, length-reverse items) in
-    sym (slice_get-get_or (take mark.arguments inner) n v long ∙ ap Some there) ∙ ap (λ (f : FramesValue). slice_get f.newest.arguments n) view
+    sym (slice_get-get_or (take mark.arguments inner) n v long ∙ ap Some there)
+    ∙ ap (λ (f : FramesValue). slice_get f.newest.arguments n) view
 
 pub sets_local : (tops : List Holder) (o : ℕ) (mark : FrameMark) (older : List OlderMark) (n : ℕ) (v : Holder) → n < mark.locals
     → frames_of (set tops (o + n) v) o mark older ≡ of_newest (with_local n v) (frames_of tops o mark older)
@@ -163,7 +168,8 @@ sets_local tops o mark older n v less =
     let l = mark.locals in
     let inner : drop o (set tops (o + n) v) ≡ set (drop o tops) n v = drop-set-add o tops n v in
     let operands : take o (set tops (o + n) v) ≡ take o tops = take-set-le o tops (o + n) v (omega arith) in
-    let locals : take l (drop o (set tops (o + n) v)) ≡ set (take l (drop o tops)) n v = ap (take l) inner ∙ take-set-lt l (drop o tops) n v less in
+    let locals : take l (drop o (set tops (o + n) v)) ≡ set (take l (drop o tops)) n v = ap (take l) inner
+    ∙ take-set-lt l (drop o tops) n v less in
     let outer : drop l (drop o (set tops (o + n) v)) ≡ drop l (drop o tops) = ap (drop l) inner ∙ drop-set-lt l (drop o tops) n v less in
     λ i. record {
       newest =
@@ -185,11 +191,13 @@ sets_argument tops o mark older n v less =
     let inner : drop o (set tops k v) ≡ set (drop o tops) (l + n) v =
     ap (λ m. drop o (set tops m v)) sum ∙ drop-set-add o tops (l + n) v in
     let operands : take o (set tops k v) ≡ take o tops = take-set-le o tops k v (omega arith) in
-    let locals : take l (drop o (set tops k v)) ≡ take l (drop o tops) = ap (take l) inner ∙ take-set-le l (drop o tops) (l + n) v (omega arith) in
+    let locals : take l (drop o (set tops k v)) ≡ take l (drop o tops) = ap (take l) inner
+    ∙ take-set-le l (drop o tops) (l + n) v (omega arith) in
     let outer : drop l (drop o (set tops k v)) ≡ set (drop l (drop o tops)) n v = ap (drop l) inner ∙ drop-set-add l (drop o tops) n v in
     let arguments : take a (drop l (drop o (set tops k v))) ≡ set (take a (drop l (drop o tops))) n v =
     ap (take a) outer ∙ take-set-lt a (drop l (drop o tops)) n v less in
-    let rest : drop a (drop l (drop o (set tops k v))) ≡ drop a (drop l (drop o tops)) = ap (drop a) outer ∙ drop-set-lt a (drop l (drop o tops)) n v less in
+    let rest : drop a (drop l (drop o (set tops k v))) ≡ drop a (drop l (drop o tops)) = ap (drop a) outer
+    ∙ drop-set-lt a (drop l (drop o tops)) n v less in
     λ i. record {
       newest =
           record (frame_of tops o mark) {
@@ -226,7 +234,8 @@ drop-min (suc count) (suc o) (x ∷ xs) le =
     ap (λ n. drop n (x ∷ xs)) less ∙ drop-min count o xs (omega (arith, le))
 
 pub drops : (tops : List Holder) (o left : ℕ) (mark : FrameMark) (older : List OlderMark) (count : ℕ) → left ≡ o - min count o
-    → frames_of (drop (min count o) tops) left mark older ≡ of_newest (with_operands (drop count (take o tops))) (frames_of tops o mark older)
+    → frames_of (drop (min count o) tops) left mark older ≡ of_newest (with_operands (drop count (take o tops)))
+    (frames_of tops o mark older)
 drops tops o left mark older count is =
     let d = min count o in
     let inner : drop left (drop d tops) ≡ drop o tops = drop-drop left d tops ∙ ap (λ n. drop n tops) (omega (arith, is)) in
@@ -249,7 +258,9 @@ pub begins : (method locals o : ℕ) (items cleared : List Holder) (older : List
     → mark ≡ record { method = method; place = method + 10; next = method + 10; arguments = 0; locals = locals; this = Nil; defining = 0; gives = None }
     → frames_of (reverse items) o mark (reverse older) ≡ record { newest = begun method locals; older = [] }
 begins method locals o items cleared older mark is empty none no_operands same =
-    let tops : reverse items ≡ replicate locals Nil = ap reverse (is ∙ ap (λ (t : List Holder). t ++ replicate locals Nil) empty) ∙ reverse-replicate locals in
-    let all : take locals (replicate locals Nil) ≡ replicate locals Nil = take_all locals (replicate locals Nil) (omega (arith, length-replicate locals Nil)) in
+    let tops : reverse items ≡ replicate locals Nil = ap reverse (is ∙ ap (λ (t : List Holder). t ++ replicate locals Nil) empty)
+    ∙ reverse-replicate locals in
+    let all : take locals (replicate locals Nil) ≡ replicate locals Nil = take_all locals (replicate locals Nil) (omega
+    (arith, length-replicate locals Nil)) in
     (λ i. frames_of (tops i) (no_operands i) (same i) (reverse (none i)))
     ∙ (λ i. record { newest = record (begun method locals) { locals = all i }; older = [] })

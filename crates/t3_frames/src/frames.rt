@@ -79,12 +79,20 @@ impl Frames {
         self.values.len() >= VALUE_LIMIT
     }
 
-    /// How many operands there are.
+    /// Whether the frames may hold so many values more.
     #[inline(always)]
-    pub fn operands(&self) -> usize
-        ensures { result ≡ length self.now.newest.operands }
+    pub fn has_room(&self, count: u16) -> bool
+        ensures { result ≡ nat_le (values self.now + count) value_limit }
     {
-        self.values.len() - self.base
+        self.values.len() + usize::from(count) <= VALUE_LIMIT
+    }
+
+    /// Whether there are so many operands.
+    #[inline(always)]
+    pub fn has_operands(&self, count: u32) -> bool
+        ensures { result ≡ nat_le count (length self.now.newest.operands) }
+    {
+        self.base + count as usize <= self.values.len()
     }
 
     /// The topmost operand. `None` exactly where there is none.

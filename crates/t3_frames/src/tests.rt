@@ -21,7 +21,8 @@ fn does_the_same(frames: &mut Frames, plain: &mut Plain, number: u32) -> Result<
                 frames.push(value);
                 plain.operands.push(value)?;
             }
-            frames.operands() == plain.operands.len()
+            let count = plain.operands.len() as u32;
+            frames.has_operands(count) && !frames.has_operands(count.saturating_add(1))
         }
         4 | 5 => frames.pop() == plain.operands.pop(),
         6 => {

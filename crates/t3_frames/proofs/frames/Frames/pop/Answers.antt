@@ -13,7 +13,8 @@ returns-clause-pops c =
     let long : 0 < length old = omega (arith, more, c.self.inside.values.ok.0) in
     let none : c.pop.result ≡ None → length old ≡ 0 = search arith in
     let fewer : vec_len c.self.inside.values - base ≡ vec_len c.pop.new.self - base + 1 = search arith in
-    pops old new (vec_len c.self.inside.values - base) (vec_len c.pop.new.self - base) c.pop.result c.self.inside.newest (reverse c.self.inside.older.items)
+    pops old new (vec_len c.self.inside.values - base) (vec_len c.pop.new.self - base) c.pop.result c.self.inside.newest (reverse
+    c.self.inside.older.items)
     c.args.self.now c.self.view_is fewer long c.pop.ensures.items none
 
 pub returns-clause-room : goal.returns-clause-room

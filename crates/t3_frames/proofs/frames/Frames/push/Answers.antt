@@ -12,7 +12,8 @@ push_reserved-requires c =
     let all : length (reverse items) ≡ vec_len c.self.inside.values - base + base =
     omega (arith, c.self.inside.values.ok.0, length-reverse items, c.self.invariant.holds) in
     let count =
-    values-frames_of (reverse items) (vec_len c.self.inside.values - base) base c.self.inside.newest (reverse c.self.inside.older.items) c.self.invariant.counted all in
+    values-frames_of (reverse items) (vec_len c.self.inside.values - base) base c.self.inside.newest (reverse
+    c.self.inside.older.items) c.self.invariant.counted all in
     let same = ap values c.self.view_is in
     omega (arith, c.requires, c.self.inside.values.ok.0, length-reverse items, count, same, c.self.invariant.room_is)
 

@@ -14,7 +14,16 @@ returns-then-from-self c =
     let o = vec_len c.self.inside.values - base in
     let n = c.args.n in
     let place = reverse-set items (base - 1 - c.from-then-from-self.result) (o + n) c.args.value
-    (omega (arith, c.self.inside.values.ok.0, length-reverse items, c.self.invariant.counted, c.self.invariant.holds, c.from-then-from-self.ensures, c.from.ensures, c.if-from-self.true)) in
+    (omega (
+      arith,
+      c.self.inside.values.ok.0,
+      length-reverse items,
+      c.self.invariant.counted,
+      c.self.invariant.holds,
+      c.from-then-from-self.ensures,
+      c.from.ensures,
+      c.if-from-self.true,
+    )) in
     (λ i. frames_of (place i) o mark older)
     ∙ sets_local (reverse items) o mark older n c.args.value (omega (arith, c.from.ensures, c.if-from-self.true))
     ∙ ap (of_newest (with_local n c.args.value)) c.self.view_is

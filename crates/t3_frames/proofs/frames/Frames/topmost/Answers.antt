@@ -14,6 +14,13 @@ returns c =
     let from = c.len-2.result - shown in
     let shown_is : shown ≡ min c.args.count o = search arith in
     ap reverse (take_rest c.deref.result.now from) ∙ ap (λ (xs : List Holder). reverse (drop from xs)) c.deref.ensures.value
-    ∙ reverse-drop items from shown (omega (arith, c.len-2.ensures, c.self.inside.values.ok.0, length-reverse items, c.self.invariant.holds, shown_is))
+    ∙ reverse-drop items from shown (omega (
+      arith,
+      c.len-2.ensures,
+      c.self.inside.values.ok.0,
+      length-reverse items,
+      c.self.invariant.holds,
+      shown_is,
+    ))
     ∙ ap (λ n. take n (reverse items)) shown_is ∙ takes (reverse items) c.args.count o
     ∙ ap (λ (f : FramesValue). take c.args.count f.newest.operands) c.self.view_is
