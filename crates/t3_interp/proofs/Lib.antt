@@ -1,4 +1,7 @@
 mod Caching
+mod Stepping
+mod Joining
+mod Going
 mod Cases
 mod Saying
 mod Searching

@@ -2,3 +2,4 @@
 pub mod Acting
 pub mod DecodeCache
 pub mod Finding
+pub mod Superinstruction

@@ -20,6 +20,7 @@ mod stack;
 
 use crate::effect::MakeEffect;
 use crate::running::Running;
+pub(crate) use jump::target_from;
 use std::alloc::Global;
 use t3_holder::NoMemory;
 use t3_load::Program;

@@ -30,6 +30,7 @@ mod running;
 mod search;
 mod settle;
 mod step;
+mod superinstruction;
 mod symbols;
 mod values;
 

@@ -44,7 +44,7 @@ pub(super) fn jump(pools: &Pools, core: &mut Core, code: JumpCode) -> Quiet
 
 /// Where a jump goes whose operand stands at an address.
 #[inline(always)]
-fn target_from(operand: u32, distance: i16) -> Option<u32>
+pub(crate) fn target_from(operand: u32, distance: i16) -> Option<u32>
     ensures { result ≡ target_by operand distance }
 {
     address_of(i64::from(operand) + i64::from(distance))
