@@ -21,7 +21,9 @@ fn does_the_same(frames: &mut Frames, plain: &mut Plain, number: u32) -> Result<
                 frames.push(value);
                 plain.operands.push(value)?;
             }
-            let count = plain.operands.len() as u32;
+            let Ok(count) = u32::try_from(plain.operands.len()) else {
+                return Ok(false);
+            };
             frames.has_operands(count) && !frames.has_operands(count.saturating_add(1))
         }
         4 | 5 => frames.pop() == plain.operands.pop(),
