@@ -81,7 +81,7 @@ impl Frames {
 
     /// Whether the frames may hold so many values more.
     #[inline(always)]
-    pub fn has_room(&self, count: u16) -> bool
+    pub fn may_hold(&self, count: u16) -> bool
         ensures { result ≡ nat_le (values self.now + count) value_limit }
     {
         self.values.len() + usize::from(count) <= VALUE_LIMIT

@@ -2,10 +2,12 @@
 ghost use Rattle.std.specs.Prelude.{◌≤◌};
 
 use super::*;
+use crate::superinstruction::superinstruction_at;
 use std::alloc::Global;
 use std::test::Fail;
 use t3_image_read::ImageReader;
 use t3_load::{Program, load};
+use t3_methods::instr_at;
 use t3_ops::Fault;
 use t3_store::StoreLimits;
 
@@ -33,6 +35,15 @@ const MAKES_TWO: &[u8] =
                         MCLD\x14\x00\x00\x00\x01\x00\x01\x00\x12\x00\x0Btads-object\x00\x00\x02\x00\
                         CPPG\x18\x00\x00\x00\x01\x00\x01\x00\x00\x00\x00\x00\x00\
                         \x00\x00\x00\x00\x02\x00\x00\x00\x00\x00\xC0\x00\x00\xC0\x00\x00\x51\
+                        EOF \x00\x00\x00\x00\x00\x00";
+
+/// The entry, and a page of code. The method counts a local from 0 to 2.
+const COUNTS: &[u8] =
+    b"ENTP\x10\x00\x00\x00\x01\x00\x00\x00\x00\x00\x0A\x00\x0A\x00\x00\x00\x00\x00\x00\x00\x00\x00\
+                        CPDF\x0A\x00\x00\x00\x01\x00\x01\x00\x01\x00\x00\x00\x40\x00\x00\x00\
+                        CPPG\x21\x00\x00\x00\x01\x00\x01\x00\x00\x00\x00\x00\x00\
+                        \x00\x00\x01\x00\x02\x00\x00\x00\x00\x00\xD6\x00\x80\x00\x02\x22\xE0\x00\
+                        \x80\x00\x03\x02\x98\xF5\xFF\x51\
                         EOF \x00\x00\x00\x00\x00\x00";
 
 /// The program of an image of these blocks, with room for so many objects.
@@ -126,12 +137,41 @@ fn goes_to_a_text_and_no_further_than_it_may(rt: HostRuntime) -> Result<(), Fail
     Ok(())
 }
 
+/// Whether a superinstruction begins at an address.
+fn begins_one(program: &Program, address: u32) -> bool {
+    match instr_at(&program.pools, address) {
+        Ok((first, size)) => superinstruction_at(&program.pools, address, first, size).is_some(),
+        Err(_) => false,
+    }
+}
+
+#[test]
+fn superinstructions_are_as_many_steps(rt: HostRuntime) -> Result<(), Fail> {
+    let alloc = rt.alloc();
+    let program = program(alloc, COUNTS, 10)?;
+    // A sum that goes into a local, and a jump by a local and an integer.
+    assert!(rt; begins_one(&program, 12) && begins_one(&program, 18));
+    assert!(rt; !begins_one(&program, 10) && !begins_one(&program, 14));
+    let machine = Machine::start(alloc, program)?;
+    // The entry's call, the local, and one instruction of the sum, of which no more may be carried out.
+    let (machine, made, _) = went(machine, 2)?;
+    let (machine, more, _) = went(machine, 1)?;
+    assert!(rt; (made, more) == (2, 1));
+    // The rest of the sum, and the first turn to its end; then a turn in which all is carried out at once.
+    let (machine, made, _) = went(machine, 6)?;
+    let (machine, more, event) = went(machine, 9)?;
+    assert!(rt; (made, more) == (6, 8));
+    assert!(rt; matches!(event, Event::Ended(End::Returned)));
+    assert!(rt; machine.steps() == 17);
+    Ok(())
+}
+
 /// What a machine comes to by so many steps at most, or as it is where it wants none.
 fn went(machine: Machine, most: u32) -> Result<(Machine, u32, Event), Fail>
     requires { most ≤ 9 }
 {
     match machine.wants() {
-        Want::Go if machine.steps() < 10 => Ok(machine.go(most)?),
+        Want::Go if machine.steps() < 100 => Ok(machine.go(most)?),
         _ => Ok((machine, 0, Event::Went)),
     }
 }

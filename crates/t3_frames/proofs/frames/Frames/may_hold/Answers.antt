@@ -3,7 +3,7 @@ use Rattle.std.specs.Prelude.{nat_le}
 use Rattle.std.proofs.lemmas.List.{length-reverse}
 use Rattle.t3_frames.specs.Frame.{values, value_limit}
 use Rattle.t3_frames.proofs.Tops.{values-frames_of}
-use Rattle.t3_frames.proofs.frames.Frames.has_room.Goals as goal
+use Rattle.t3_frames.proofs.frames.Frames.may_hold.Goals as goal
 
 pub returns : goal.returns
 returns c =
