@@ -45,11 +45,14 @@ def run_once(words):
     sys.stdout.buffer.write(f"{seconds} {usage.ru_maxrss * 1024} {status}\n".encode() + shown)
 
 
-def against_sha256sum(words, wanted, name, folder):
+def against_sha256sum(words, wanted, name, folder, put=None):
     """Prints the time of `t3` with these words over that of `sha256sum` on a file, the best of RUNS
-    each, and the peak memory of `t3` over the file's size."""
+    each, and the peak memory of `t3` over the file's size. A file that it puts is a new one each time:
+    to free an old one of 64 MB takes the system as long again."""
     ours, peers, peak = [], [], 0
     for _ in range(RUNS):
+        if put and os.path.exists(os.path.join(folder, put)):
+            os.remove(os.path.join(folder, put))
         seconds, memory, shown = timed([T3, *words], folder)
         if shown != wanted:
             sys.exit(f"t3 {words[0]}: {shown!r}, not {wanted!r}")

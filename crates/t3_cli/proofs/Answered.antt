@@ -9,12 +9,13 @@ use Rattle.t3_cli.specs.declared.status.Status.TheVariants.{Done, Usage, Absent,
 use Rattle.t3_interp.specs.declared.event.End.{End}
 use Rattle.t3_interp.specs.declared.event.End.TheVariants as ends
 use Rattle.t3_cli.specs.Cause.{Cause}
+use Rattle.t3_image_read.specs.declared.reader.Totals.{Totals}
 use Rattle.t3_cli.specs.Command.{CommandValue, Check, Show, Run, Rewrite, Listing, Asm}
 use Rattle.t3_cli.specs.Lines.{usage_line}
 use Rattle.t3_cli.specs.Outcome.{Outcome, showing, IsResult, IsImageOutcome, input_of, status_of}
 use Rattle.t3_cli.specs.Top.{CutsShort, IsInput, IsWhole, IsCut, IsShown, ShowsSome, HasExactCause}
 use Rattle.t3_cli.specs.Inner.Reading.{ReadsInput}
-use Rattle.t3_cli.specs.Inner.Following.{Answers, Follows, FollowsSome, IsReadOutcome}
+use Rattle.t3_cli.specs.Inner.Following.{Answers, Follows, FollowsSome, IsReadOutcome, IsCountedOutcome, IsWrittenOutcome}
 use Rattle.t3_cli.proofs.Results.{read_result}
 use Rattle.t3_cli.proofs.Causes.{exact_cause, result_not_cut}
 use Rattle.t3_cli.proofs.Followed.{follows_shown}
@@ -112,11 +113,24 @@ image_not_usage (Run name options) image outcome (inl (why, loaded, is)) = other
 image_not_usage (Run name options) image outcome (inr (ran, runs, is)) =
     other_status outcome (status_of ran.end) _ is (end_not_usage ran.end)
 
+counted_not_usage : (command : CommandValue) (totals : Totals) (outcome : Outcome) → IsCountedOutcome command totals outcome
+    → outcome.status ≢ Usage
+counted_not_usage (Check name) totals outcome is = other_status outcome Done _ is (λ e. absurd cc)
+counted_not_usage _ totals outcome is = absurd is
+
+written_not_usage : (command : CommandValue) (mask : Option ℕ) (written : List ℕ) (outcome : Outcome)
+    → IsWrittenOutcome command mask written outcome → outcome.status ≢ Usage
+written_not_usage (Rewrite name out under) mask written outcome is =
+    λ same. let clash : Done ≡ Usage = sym (ap (λ (o : Outcome). o.status) is) ∙ same in absurd cc
+written_not_usage _ mask written outcome is = absurd is
+
 read_not_usage : (command : CommandValue) (found : ReadImage) (outcome : Outcome) → IsReadOutcome command found outcome
     → outcome.status ≢ Usage
 read_not_usage command read.Absent outcome is = other_status outcome Absent _ is (λ e. absurd cc)
 read_not_usage command (read.Refused place why) outcome is = other_status outcome ImageRefused _ is (λ e. absurd cc)
 read_not_usage command (read.BadLine line why) outcome is = other_status outcome SourceRefused _ is (λ e. absurd cc)
+read_not_usage command (read.Counted totals) outcome is = counted_not_usage command totals outcome is
+read_not_usage command (read.Rewritten mask written) outcome is = written_not_usage command mask written.items outcome is.1
 read_not_usage command (read.Image image) outcome is = image_not_usage command image outcome is
 
 pub follows_not_usage : (command : CommandValue) (found : ReadImage) (all left : Option Files) (before after : Option Session) (answer : Status)

@@ -1,11 +1,10 @@
 -- What the pieces of a file give, one after the other.
-use Rattle.std.proofs.Common.{◌≡◌, ◌≢◌, ℕ, ◌+◌, ◌≤◌, List, [], ◌++◌, length, take, drop, Option, Some, None, Result, Ok, Err, refl, sym, ap, subst, ◌∙◌, arith}
+use Rattle.std.proofs.Common.{◌≡◌, ℕ, ◌+◌, ◌≤◌, inl, inr, Bool, true, false, List, [], ◌++◌, length, take, drop, Option, Some, None, Result, Ok, Err, refl, sym, ap, subst, ◌∙◌, arith}
 use Rattle.std.specs.FinMap.{get}
 use Rattle.std.specs.Global.{Vec}
 use Rattle.std.specs.Option.{option_map}
 use Rattle.std.proofs.lemmas.List.{take-append-drop, take-take, take_all, length-append, length-take-le}
 use Rattle.t3_io.specs.Files.{Files}
-use Rattle.t3_io.specs.Cause.{MovesFaults}
 use Rattle.t3_io.specs.Reading.{IsAtMost}
 use Rattle.t3_io.specs.declared.depot.Got.{Got}
 use Rattle.t3_io.specs.declared.depot.Got.TheVariants as got
@@ -18,12 +17,15 @@ use Rattle.t3_image_read.specs.declared.refusal.ReadRefusal.TheVariants.{At, NoM
 use Rattle.t3_image_read.specs.declared.refusal.ReadWhy.TheVariants.{Truncated}
 use Rattle.t3_image_read.specs.ImageText.{ImageValue, text}
 use Rattle.t3_image_read.specs.Refusal.{Refused}
-use Rattle.t3_image_read.specs.Reader.{Reading, Taking, Ended, Failed, RefusesBy, EndsIn, TakesPiece}
+use Rattle.t3_image_read.specs.Reader.{Reading, Taking, Ended, Failed, RefusesBy, EndsIn, TakesPiece, AreParts, FinishesParts}
+use Rattle.t3_image_read.specs.declared.reader.ImageParts.{ImageParts}
+use Rattle.t3_image_write.specs.Masks.{masked_image}
+use Rattle.t3_image_write.specs.Rewriting.{HasRewritten}
 use Rattle.t3_image_read.proofs.Lists.{take_add}
 use Rattle.t3_cli.specs.declared.images.read.ReadImage.{ReadImage}
 use Rattle.t3_cli.specs.declared.images.read.ReadImage.TheVariants as read
 use Rattle.t3_cli.specs.Outcome.{read_bytes, read_limit}
-use Rattle.t3_cli.specs.Inner.Reading.{ReadsBytes, ReadsImage, IsPiece, PieceOf, GivesPiece, Concludes, TakesPrefix, TakesSoFar, HasRead, IsFed, Assembles, IsAssembled, ReadsText, ReadsSource, ReadsFile}
+use Rattle.t3_cli.specs.Inner.Reading.{ReadsBytes, ReadsImage, IsPiece, PieceOf, GivesPiece, Concludes, TellsText, TakesPrefix, TakesSoFar, HasRead, IsEndOf, IsEnd, HasReadAll, IsFed, ReadsFile}
 
 -- ---- one file
 
@@ -130,36 +132,68 @@ reads_more files name buffer (Failed NoMemory) after at want count has piece the
 
 -- ---- what a reader is concluded with
 
--- the file ended at the place, or the limit stands there
-abbrev IsEndOf : Option (List ℕ) → ℕ → Type 0
-IsEndOf None at = at ≢ 0
-IsEndOf (Some file) at = take at file ≡ read_bytes file
+-- the parts that a reader gave are those of the image that it ended with
+pub parts_are : (mask : Option ℕ) (reader : Reading) (parts : ImageParts (List ℕ))
+    → FinishesParts (HasRewritten mask) reader (Ok parts)
+    → (image : ImageValue) × (reader ≡ Ended image) × AreParts (HasRewritten mask) image parts
+parts_are mask (Taking taken) parts finishes = absurd (let clash = finishes.1 in cc)
+parts_are mask (Ended image) parts finishes =
+    let same : finishes.0 ≡ parts = let e = finishes.1 in cc in
+    (image, refl, subst (λ p. AreParts (HasRewritten mask) image p) same finishes.2)
+parts_are mask (Failed refusal) parts finishes = absurd (let clash = finishes in cc)
 
-abbrev IsEnd : Option Files → List ℕ → ℕ → Type 0
-IsEnd None name at = Unit {0}
-IsEnd (Some files) name at = IsEndOf (get files name) at
+pub rewrites_parts : (under mask : Option ℕ) (reader : Reading) (parts : ImageParts (List ℕ)) (written : Vec ℕ)
+    → under ≡ mask → FinishesParts (HasRewritten mask) reader (Ok parts)
+    → ((image : ImageValue) → AreParts (HasRewritten mask) image parts → written.items ≡ text (masked_image mask image))
+    → Concludes (TellsText under) reader (Ok (read.Rewritten under written))
+rewrites_parts under mask reader parts written same finishes is =
+    let are = parts_are mask reader parts finishes in
+    subst (λ r. Concludes (TellsText under) r (Ok (read.Rewritten under written))) (sym are.1)
+    (inr (written, refl, is are.0 are.2 ∙ ap (λ m. text (masked_image m are.0)) (sym same)))
 
 cut_of : (o : Option (List ℕ)) (taken : List ℕ) (at place : ℕ) → TakesPrefix o taken at → IsEndOf o at → Refused taken place Truncated
     → ReadsBytes o (read.Refused place Truncated)
 cut_of None taken at place so_far ended refused = absurd (ended so_far)
 cut_of (Some file) taken at place so_far ended refused = subst (λ s. Refused s place Truncated) (so_far ∙ ended) refused
 
-concludes_at : (files : Option Files) (name : List ℕ) (reader : Reading) (at : ℕ) (answer : Result ReadImage DeviceRefusal)
-    → HasRead files name reader at → IsEnd files name at → Concludes reader answer
-    → ReadsImage files name answer
-concludes_at files name (Taking taken) at answer has ended concludes =
+wanting : (files : Option Files) (name : List ℕ) → ReadsImage files name (Err device.NoMemory)
+wanting None name = tt
+wanting (Some files) name = tt
+
+text_of : (mask : Option ℕ) (files : Option Files) (name : List ℕ) (image : ImageValue) (answer : Result ReadImage DeviceRefusal)
+    → ReadsImage files name (Ok (read.Image image)) → TellsText mask image answer → ReadsImage files name answer
+text_of mask files name image answer reads (inl is) = subst (λ a. ReadsImage files name a) (sym is) (wanting files name)
+text_of mask files name image answer reads (inr (written, is, text_is)) =
+    subst (λ a. ReadsImage files name a) (sym is) (rewritten files reads)
+  where
+    of_file : (o : Option (List ℕ)) → ReadsBytes o (read.Image image) → ReadsBytes o (read.Rewritten mask written)
+    of_file None reads = reads
+    of_file (Some file) reads = (image, reads, text_is)
+
+    rewritten : (files : Option Files) → ReadsImage files name (Ok (read.Image image))
+        → ReadsImage files name (Ok (read.Rewritten mask written))
+    rewritten None reads = tt
+    rewritten (Some files) reads = of_file (get files name) reads
+
+-- a file that was read to its end, of whose image the text is told
+text_at : (mask : Option ℕ) (files : Option Files) (name : List ℕ) (reader : Reading) (at : ℕ) (answer : Result ReadImage DeviceRefusal)
+    → HasRead files name reader at → IsEnd files name at → Concludes (TellsText mask) reader answer → ReadsImage files name answer
+text_at mask files name (Taking taken) at answer has ended concludes =
     subst (λ a. ReadsImage files name a) (sym concludes.1) (
     told files name (read.Refused concludes.0 Truncated) (λ all e.
-    cut_of (get all name) taken at concludes.0 (subst (λ f. TakesSoFar f name taken at) e has.1) (subst (λ f. IsEnd f name at) e ended) concludes.2)
+    cut_of (get all name) taken at concludes.0 (subst (λ f. TakesSoFar f name taken at) e has.1) (subst (λ f. IsEnd f name at) e ended)
+    concludes.2)
     )
-concludes_at files name (Ended image) at answer has ended concludes = subst (λ a. ReadsImage files name a) (sym concludes) has
-concludes_at files name (Failed (At place why)) at answer has ended concludes = subst (λ a. ReadsImage files name a) (sym concludes) has
-concludes_at files name (Failed NoMemory) at answer has ended concludes =
-    subst (λ a. ReadsImage files name a) (sym concludes) (wanting files)
-  where
-    wanting : (files : Option Files) → ReadsImage files name (Err device.NoMemory)
-    wanting None = tt
-    wanting (Some files) = tt
+text_at mask files name (Ended image) at answer has ended concludes = text_of mask files name image answer has concludes
+text_at mask files name (Failed (At place why)) at answer has ended concludes = subst (λ a. ReadsImage files name a) (sym concludes) has
+text_at mask files name (Failed NoMemory) at answer has ended concludes =
+    subst (λ a. ReadsImage files name a) (sym concludes) (wanting files name)
+
+pub reads_text : (mask : Option ℕ) (files : Option Files) (name : List ℕ) (reader : Reading) (there : Bool)
+    (answer : Result ReadImage DeviceRefusal) → there ≡ true → HasReadAll files name reader there
+    → Concludes (TellsText mask) reader answer → ReadsImage files name answer
+reads_text mask files name reader true answer is has concludes = text_at mask files name reader has.0 answer has.1 has.2 concludes
+reads_text mask files name reader false answer is has concludes = absurd cc
 
 -- a read that gave nothing was at the end
 ends_nothing : (files : Option Files) (name buffer : List ℕ) (at want : ℕ) → GivesPiece files name at want buffer (Ok (got.Count 0))
@@ -180,16 +214,13 @@ ends_limit (Some files) name at limit = ended_of (get files name)
     ended_of None = λ none. absurd (omega (arith, limit, none))
     ended_of (Some file) = ap (λ n. take n file) limit
 
-pub reads_ended : (files : Option Files) (name buffer : List ℕ) (reader : Reading) (at want : ℕ) (answer : Result ReadImage DeviceRefusal)
-    → HasRead files name reader at → GivesPiece files name at want buffer (Ok (got.Count 0)) → at ≤ read_limit
-    → Concludes reader answer → ReadsImage files name answer
-reads_ended files name buffer reader at want answer has piece near concludes =
-    concludes_at files name reader at answer has (ends_nothing files name buffer at want piece near) concludes
+pub reads_ended : (files : Option Files) (name buffer : List ℕ) (reader : Reading) (at want : ℕ) → HasRead files name reader at
+    → GivesPiece files name at want buffer (Ok (got.Count 0)) → at ≤ read_limit → HasReadAll files name reader true
+reads_ended files name buffer reader at want has piece near = (at, has, ends_nothing files name buffer at want piece near)
 
-pub reads_limit : (files : Option Files) (name : List ℕ) (reader : Reading) (at : ℕ) (answer : Result ReadImage DeviceRefusal)
-    → HasRead files name reader at → at ≡ read_limit
-    → Concludes reader answer → ReadsImage files name answer
-reads_limit files name reader at answer has limit concludes = concludes_at files name reader at answer has (ends_limit files name at limit) concludes
+pub reads_limit : (files : Option Files) (name : List ℕ) (reader : Reading) (at : ℕ) → HasRead files name reader at → at ≡ read_limit
+    → HasReadAll files name reader true
+reads_limit files name reader at has limit = (at, has, ends_limit files name at limit)
 
 absent_of : (o : Option (List ℕ)) (buffer : List ℕ) (at want : ℕ) → PieceOf o at want buffer got.Absent → ReadsBytes o read.Absent
 absent_of None buffer at want piece = tt
@@ -199,14 +230,6 @@ pub reads_absent : (files : Option Files) (name buffer : List ℕ) (at want : �
     → ReadsImage files name (Ok read.Absent)
 reads_absent None name buffer at want piece = tt
 reads_absent (Some files) name buffer at want piece = absent_of (get files name) buffer at want piece
-
--- a reader that is done with answers no fault
-pub concluded_cause : (reader : Reading) (before after : ℕ) (answer : Result ReadImage DeviceRefusal) → after ≡ before
-    → Concludes reader answer → MovesFaults before after answer
-concluded_cause (Taking stream) before after answer same is = subst (λ a. MovesFaults before after a) (sym is.1) same
-concluded_cause (Ended image) before after answer same is = subst (λ a. MovesFaults before after a) (sym is) same
-concluded_cause (Failed (At place why)) before after answer same is = subst (λ a. MovesFaults before after a) (sym is) same
-concluded_cause (Failed NoMemory) before after answer same is = subst (λ a. MovesFaults before after a) (sym is) same
 
 -- ---- what one read gave, as the steps of the loop have it
 
@@ -218,27 +241,11 @@ piece_is a b name buffer at want gave found same is piece =
 pub count_within : (want count : ℕ) (gave : Got) → gave ≡ got.Count count → IsAtMost want gave → count ≤ want
 count_within want count gave is within = subst (λ x. IsAtMost want x) is within
 
-pub refused_device : (files : Option Files) (name : List ℕ) (refusal : DeviceRefusal) (answer : Result ReadImage DeviceRefusal)
-    → answer ≡ Err refusal → ReadsImage files name answer
-refused_device None name refusal answer is = tt
-refused_device (Some files) name refusal answer is = subst (λ a. ReadsImage (Some files) name a) (sym is) tt
-
 -- ---- a file whose bytes are kept
 
 -- so much of it was taken
 pub record HasTaken (files : Option Files) (name text : List ℕ) (at : ℕ) : Type 0 where
   pub so_far : TakesSoFar files name text at
-
-pub takes_none : (files : Option Files) (name text : List ℕ) → text ≡ [] → HasTaken files name text 0
-takes_none files name text is = record { so_far = subst (λ t. TakesSoFar files name t 0) (sym is) (nothing files) }
-  where
-    prefix_none : (o : Option (List ℕ)) → TakesPrefix o [] 0
-    prefix_none None = refl
-    prefix_none (Some file) = refl
-
-    nothing : (files : Option Files) → TakesSoFar files name [] 0
-    nothing None = tt
-    nothing (Some files) = prefix_none (get files name)
 
 pub takes_more : (files : Option Files) (name text more buffer : List ℕ) (at want count : ℕ) → HasTaken files name text at
     → GivesPiece files name at want buffer (Ok (got.Count count)) → more ≡ text ++ take count buffer → HasTaken files name more (at + count)
@@ -263,42 +270,4 @@ pub file_limit : (files : Option Files) (name : List ℕ) (text : Vec ℕ) (at :
     → ReadsFile files name (Ok (Some text))
 file_limit files name text at has limit = file_text files name text at has.so_far (ends_limit files name at limit)
 
-pub file_absent : (files : Option Files) (name buffer : List ℕ) (at want : ℕ) → GivesPiece files name at want buffer (Ok got.Absent)
-    → ReadsFile files name (Ok None)
-file_absent None name buffer at want piece = tt
-file_absent (Some files) name buffer at want piece = none (get files name) piece
-  where
-    none : (o : Option (List ℕ)) → PieceOf o at want buffer got.Absent → None ≡ option_map read_bytes o
-    none None piece = refl
-    none (Some file) piece = absurd piece
-
-pub file_refused : (files : Option Files) (name : List ℕ) (refusal : DeviceRefusal) (answer : Result (Option (Vec ℕ)) DeviceRefusal)
-    → answer ≡ Err refusal → ReadsFile files name answer
-file_refused None name refusal answer is = tt
-file_refused (Some files) name refusal answer is = subst (λ a. ReadsFile (Some files) name a) (sym is) tt
-
 -- ---- a source's file
-
--- what its bytes say
-pub source_says : (files : Option Files) (name : List ℕ) (text : Vec ℕ) (answer : Result ReadImage DeviceRefusal)
-    → ReadsFile files name (Ok (Some text)) → IsAssembled text.items answer → ReadsSource files name answer
-source_says None name text answer reads says = tt
-source_says (Some files) name text (Err refusal) reads says = tt
-source_says (Some files) name text (Ok found) reads says = of_file (get files name) reads
-  where
-    of_file : (o : Option (List ℕ)) → Some text.items ≡ option_map read_bytes o → ReadsText o found
-    of_file None is = absurd cc
-    of_file (Some file) is = let same : text.items ≡ read_bytes file = cc in subst (λ t. Assembles t found) same says
-
-pub source_absent : (files : Option Files) (name : List ℕ) → ReadsFile files name (Ok None) → ReadsSource files name (Ok read.Absent)
-source_absent None name reads = tt
-source_absent (Some files) name reads = none (get files name) reads
-  where
-    none : (o : Option (List ℕ)) → None ≡ option_map read_bytes o → ReadsText o read.Absent
-    none None is = tt
-    none (Some file) is = absurd cc
-
-pub source_refused : (files : Option Files) (name : List ℕ) (refusal : DeviceRefusal) (answer : Result ReadImage DeviceRefusal)
-    → answer ≡ Err refusal → ReadsSource files name answer
-source_refused None name refusal answer is = tt
-source_refused (Some files) name refusal answer is = subst (λ a. ReadsSource (Some files) name a) (sym is) tt

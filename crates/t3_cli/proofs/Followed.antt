@@ -10,7 +10,9 @@ use Rattle.t3_cli.specs.declared.status.Status.{Status}
 use Rattle.t3_cli.specs.declared.status.Status.TheVariants.{Done, LoadRefused, NoMemory}
 use Rattle.t3_cli.specs.Act.{Act, Shows, Puts}
 use Rattle.t3_cli.specs.declared.images.read.ReadImage.{ReadImage}
-use Rattle.t3_cli.specs.Command.{CommandValue, RunOptions}
+use Rattle.t3_image_read.specs.declared.reader.Totals.{Totals}
+use Rattle.t3_cli.specs.BlockLines.{totals_text}
+use Rattle.t3_cli.specs.Command.{CommandValue, Check, Rewrite, RunOptions}
 use Rattle.t3_cli.specs.Lines.{closing_text, is_nonempty, put_line, load_line}
 use Rattle.t3_image_read.specs.ImageText.{ImageValue}
 use Rattle.t3_load.specs.declared.refusal.LoadRefusal.{LoadRefusal as LoadWhy}
@@ -21,7 +23,9 @@ use Rattle.t3_cli.specs.Outcome.{showing, putting, shown_of, status_of, IsRunOut
 use Rattle.t3_interp.specs.Run.{Ran}
 use Rattle.t3_cli.specs.Top.{CutsShort, ShowsMore, IsShown}
 use Rattle.t3_cli.specs.Inner.Showing.{AnswersLine, ShowsOrWants}
-use Rattle.t3_cli.specs.Inner.Following.{Follows, FollowsSome, IsReadOutcome, LeavesActs, StopsBehind}
+use Rattle.t3_cli.specs.Inner.Following.{Follows, FollowsSome, IsReadOutcome, IsCountedOutcome, IsWrittenOutcome, LeavesActs, StopsBehind}
+use Rattle.t3_cli.specs.Inner.Parsing.{out_of}
+use Rattle.t3_cli.specs.Inner.Wanted.{wanted_of, WantsCount, WantsText}
 use Rattle.t3_cli.specs.Inner.Playing.{IsProgramOutcome, HasPlayed, HasBegun}
 use Rattle.t3_cli.proofs.Results.{some_run_outcome}
 use Rattle.t3_cli.proofs.Shown.{shows_after, shows_nothing}
@@ -270,3 +274,15 @@ pub line_matched : {Line Error : Type 0}
 line_matched command is found seen text_of files before after line text status answer same matched gives told answers =
     matched_follows command is found seen files files before after answer same matched
     (showing status text, gives, line_follows text_of files before after line text status answer told answers)
+
+-- where that is wanted, what was counted is shown
+pub counts : (command : CommandValue) (totals : Totals) → WantsCount (wanted_of command)
+    → IsCountedOutcome command totals (showing Done (totals_text totals))
+counts (Check name) totals wants = refl
+counts _ totals wants = absurd wants
+
+-- and what was written is put
+pub writes : (command : CommandValue) (mask : Option ℕ) (written : List ℕ) → WantsText mask (wanted_of command)
+    → IsWrittenOutcome command mask written (putting (out_of command) written)
+writes (Rewrite name out under) mask written wants = refl
+writes _ mask written wants = absurd wants

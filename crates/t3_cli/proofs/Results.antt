@@ -15,9 +15,11 @@ use Rattle.t3_cli.specs.declared.images.read.ReadImage.{ReadImage}
 use Rattle.t3_cli.specs.declared.images.read.ReadImage.TheVariants as read
 use Rattle.t3_cli.specs.declared.status.Status.{Status}
 use Rattle.t3_cli.specs.declared.status.Status.TheVariants.{Done, Usage, Absent, ImageRefused, LoadRefused, SourceRefused}
+use Rattle.t3_image_read.specs.declared.reader.Totals.{Totals}
+use Rattle.t3_image_read.specs.Reader.{totals_of}
 use Rattle.t3_cli.specs.Command.{CommandValue, Check, Show, Run, Rewrite, Listing, Asm, RunOptions}
 use Rattle.t3_cli.specs.Lines.{usage_line, absent_line, refused_line, bad_line, load_line}
-use Rattle.t3_cli.specs.BlockLines.{check_text, show_text}
+use Rattle.t3_cli.specs.BlockLines.{totals_text, check_text, show_text}
 use Rattle.t3_load.specs.declared.refusal.LoadRefusal.{LoadRefusal}
 use Rattle.t3_load.specs.declared.refusal.LoadRefusal.TheVariants.{NoMemory as NoRoom}
 use Rattle.t3_load.specs.Loading.{ProgramValue, Loads}
@@ -28,7 +30,8 @@ use Rattle.t3_interp.specs.Run.{Ran, Runs}
 use Rattle.t3_cli.specs.Outcome.{Outcome, showing, putting, IsResult, IsInputOutcome, IsFileOutcome, IsImageOutcome, IsRunOutcome, IsLoaded, fingerprint_of, run_limits, IsSourceOutcome, IsTextOutcome, assembled, BeginsWith, InputFile, ImageFile, SourceFile, input_of, written_text, HoldBytes, read_bytes, read_limit, shown_of, status_of}
 use Rattle.t3_cli.specs.Inner.Parsing.{file_of}
 use Rattle.t3_cli.specs.Inner.Reading.{ReadsBytes, ReadsText, Assembles, ReadsInput}
-use Rattle.t3_cli.specs.Inner.Following.{IsReadOutcome}
+use Rattle.t3_cli.specs.Inner.Following.{IsReadOutcome, IsCountedOutcome, IsWrittenOutcome}
+use Rattle.t3_cli.specs.Inner.Wanted.{wanted_of, WantsText}
 use Rattle.t3_interp.proofs.Runs.{one_run, some_run}
 
 -- ---- one outcome
@@ -163,17 +166,37 @@ some_outcome (Some command) files input bytes = some_input_outcome command (inpu
 
 -- ---- what was read gives the outcome of the file
 
+-- of an image that was only counted
+counted_outcome : (command : CommandValue) (totals : Totals) (image : ImageValue) (outcome : Outcome) → totals ≡ totals_of image
+    → IsCountedOutcome command totals outcome → IsImageOutcome command image outcome
+counted_outcome (Check name) totals image outcome same is = is ∙ ap (λ t. showing Done (totals_text t)) same
+counted_outcome _ totals image outcome same is = absurd is
+
+-- of one of which only what is written of it was made
+written_outcome : (command : CommandValue) (mask : Option ℕ) (written : List ℕ) (image : ImageValue) (outcome : Outcome)
+    → written ≡ written_text mask image → WantsText mask (wanted_of command) → IsWrittenOutcome command mask written outcome
+    → IsImageOutcome command image outcome
+written_outcome (Rewrite name out under) mask written image outcome same wants is =
+    is ∙ ap (putting out) (same ∙ ap (λ m. written_text m image) wants)
+written_outcome _ mask written image outcome same wants is = absurd is
+
 file_outcome : (command : CommandValue) (name : List ℕ) (file : Option (List ℕ)) (found : ReadImage) (outcome : Outcome)
     → file_of (input_of command) ≡ name → ReadsBytes file found
     → IsReadOutcome command found outcome → IsFileOutcome command name file outcome
 file_outcome command name None read.Absent outcome named reads is = is ∙ ap (λ n. showing Absent (absent_line n)) named
 file_outcome command name None (read.Refused place why) outcome named reads is = absurd reads
 file_outcome command name None (read.BadLine line why) outcome named reads is = absurd reads
+file_outcome command name None (read.Counted totals) outcome named reads is = absurd reads
+file_outcome command name None (read.Rewritten mask written) outcome named reads is = absurd reads
 file_outcome command name None (read.Image image) outcome named reads is = absurd reads
 file_outcome command name (Some file) read.Absent outcome named reads is = absurd reads
 file_outcome command name (Some file) (read.BadLine line why) outcome named reads is = absurd reads
 file_outcome command name (Some file) (read.Refused place why) outcome named reads is =
     inl (record { place = place; why = why; refused = reads; is = is })
+file_outcome command name (Some file) (read.Counted totals) outcome named reads is =
+    inr (reads.0, reads.1, counted_outcome command totals reads.0 outcome reads.2 is)
+file_outcome command name (Some file) (read.Rewritten mask written) outcome named reads is =
+    inr (reads.0, reads.1, written_outcome command mask written.items reads.0 outcome reads.2 is.0 is.1)
 file_outcome command name (Some file) (read.Image image) outcome named reads is = inr (image, reads, is)
 
 -- what was read of a source's file
@@ -181,6 +204,8 @@ assembled_outcome : (command : CommandValue) (bytes : List ℕ) (found : ReadIma
     → IsReadOutcome command found outcome → IsSourceOutcome command (assembled bytes) outcome
 assembled_outcome command bytes read.Absent outcome says is = absurd says
 assembled_outcome command bytes (read.Refused place why) outcome says is = absurd says
+assembled_outcome command bytes (read.Counted totals) outcome says is = absurd says
+assembled_outcome command bytes (read.Rewritten mask written) outcome says is = absurd says
 assembled_outcome command bytes (read.BadLine line why) outcome says is =
     subst (λ (r : Result ImageValue AsmRefusal). IsSourceOutcome command r outcome) (sym says) is
 assembled_outcome command bytes (read.Image image) outcome says is =
@@ -192,6 +217,8 @@ text_outcome : (command : CommandValue) (name : List ℕ) (file : Option (List �
 text_outcome command name None read.Absent outcome named reads is = is ∙ ap (λ n. showing Absent (absent_line n)) named
 text_outcome command name None (read.Refused place why) outcome named reads is = absurd reads
 text_outcome command name None (read.BadLine line why) outcome named reads is = absurd reads
+text_outcome command name None (read.Counted totals) outcome named reads is = absurd reads
+text_outcome command name None (read.Rewritten mask written) outcome named reads is = absurd reads
 text_outcome command name None (read.Image image) outcome named reads is = absurd reads
 text_outcome command name (Some file) found outcome named reads is = assembled_outcome command (read_bytes file) found outcome reads is
 

@@ -1,5 +1,5 @@
 -- What is shown of an image by `check` and by `show`.
-use Rattle.std.specs.Prelude.{ℕ, ◌+◌, ◌&&◌, nat_le, if◌then◌else◌, List, [], ◌∷◌, ◌++◌, codes, length, map}
+use Rattle.std.specs.Prelude.{ℕ, ◌&&◌, nat_le, if◌then◌else◌, List, [], ◌∷◌, ◌++◌, codes, length, map}
 use Rattle.std.specs.Fmt.{decimal}
 use Rattle.t3_blocks.specs.BlockName.{end_name}
 use Rattle.t3_blocks.specs.Spelling.{name_of, payload_of}
@@ -7,7 +7,9 @@ use Rattle.t3_blocks.specs.declared.block.Block.{Block}
 use Rattle.t3_blocks.specs.declared.block.Block.TheVariants.{Entry, PoolDef, Page, Functions, Metas, Objects, Symbols, Opaque}
 use Rattle.t3_image_read.specs.declared.image.Head.{Head}
 use Rattle.t3_image_read.specs.declared.image.PlacedBlock.{PlacedBlock}
-use Rattle.t3_image_read.specs.ImageText.{ImageValue, prefix_text, text}
+use Rattle.t3_image_read.specs.ImageText.{ImageValue, prefix_text}
+use Rattle.t3_image_read.specs.Reader.{totals_of}
+use Rattle.t3_image_read.specs.declared.reader.Totals.{Totals}
 use Rattle.t3_cli.specs.Lines.{newline, ok_line}
 
 -- a byte of a name that isn't from 20 to 7E is shown as a question mark
@@ -54,8 +56,11 @@ abbrev pub image_lines : ImageValue → List ℕ
 image_lines image = block_lines image.head [] image.blocks ++ end_line_at (length (prefix_text image.head image.blocks)) image.eof_flags
 
 -- what `check` shows: how many blocks and bytes an image has
+abbrev pub totals_text : Totals → List ℕ
+totals_text totals = ok_line totals.blocks totals.bytes
+
 abbrev pub check_text : ImageValue → List ℕ
-check_text image = ok_line (length image.blocks + 1) (length (text image))
+check_text image = totals_text (totals_of image)
 
 -- what `show` shows: a line for each block, and then what `check` does
 abbrev pub show_text : ImageValue → List ℕ

@@ -4,3 +4,4 @@ pub mod Reading
 pub mod Showing
 pub mod Following
 pub mod Playing
+pub mod Wanted

@@ -7,7 +7,7 @@ use Rattle.t3_image_read.specs.declared.refusal.ReadWhy.{ReadWhy}
 use Rattle.t3_image_read.specs.ImageText.{ImageValue, text}
 use Rattle.t3_image_read.specs.Validity.{IsValid}
 use Rattle.t3_image_read.specs.Refusal.{Refused}
-use Rattle.t3_image_write.specs.Masks.{remask_of}
+use Rattle.t3_image_write.specs.Masks.{masked_image}
 use Rattle.t3_asm.specs.declared.refusal.AsmRefusal.{AsmRefusal}
 use Rattle.t3_asm.specs.declared.refusal.AsmWhy.TheVariants as rules
 use Rattle.t3_asm.specs.Refusals.{refusal}
@@ -53,11 +53,6 @@ pub record BeginsWith (bytes : List ℕ) (image : ImageValue) : Type 0 where
   pub trailing : List ℕ
   pub valid : IsValid image
   pub begins : bytes ≡ text image ++ trailing
-
--- the image with every page under the mask, where one is given
-abbrev pub masked_image : Option ℕ → ImageValue → ImageValue
-masked_image None image = image
-masked_image (Some mask) image = remask_of mask image
 
 -- what is written of an image
 abbrev pub written_text : Option ℕ → ImageValue → List ℕ

@@ -1,6 +1,6 @@
 -- What a reader answers, from what its fields took.
-use Rattle.std.proofs.Common.{◌≡◌, ◌≢◌, ℕ, ◌+◌, ◌-◌, List, [], ◌++◌, length, take, drop, Option, None, Result, Ok, Err, refl, sym, ap, subst, ◌∙◌, ◌⊎◌, inl, inr, append_assoc, arith}
-use Rattle.std.proofs.lemmas.List.{append-nil, take-append-drop, length-append, length-take-le, take_rest}
+use Rattle.std.proofs.Common.{◌≡◌, ◌≢◌, ℕ, ◌+◌, ◌-◌, ◌≤◌, List, [], ◌++◌, length, take, drop, None, Result, Ok, Err, refl, sym, ap, subst, ◌∙◌, ◌⊎◌, inl, inr, append_assoc, arith}
+use Rattle.std.proofs.lemmas.List.{append-nil, take-append-drop, length-append, length-take, length-drop, length-take-le, take_rest}
 use Rattle.t3_image_read.specs.declared.reader.Fed.{Fed}
 use Rattle.t3_image_read.specs.declared.reader.Fed.TheVariants.{More, Done}
 use Rattle.t3_image_read.specs.declared.refusal.ReadRefusal.{ReadRefusal}
@@ -8,10 +8,11 @@ use Rattle.t3_image_read.specs.declared.refusal.ReadRefusal.TheVariants.{At, NoM
 use Rattle.t3_image_read.specs.declared.refusal.ReadWhy.{ReadWhy}
 use Rattle.t3_image_read.specs.declared.refusal.ReadWhy.TheVariants.{Truncated}
 use Rattle.t3_image_read.specs.declared.taker.Taker.{Taker}
+use Rattle.t3_image_read.specs.declared.taker.Parsed.{Parsed}
 use Rattle.t3_image_read.specs.ImageText.{ImageValue, text}
 use Rattle.t3_image_read.specs.Refusal.{Refused}
-use Rattle.t3_image_read.specs.Reader.{Reading, Taking, RefusesBy, EndsIn, TakesPiece, Feeds}
-use Rattle.t3_image_read.specs.Inner.Steps.{stream_of, RunsTo, TakesRun, TakesAll}
+use Rattle.t3_image_read.specs.Reader.{Reading, Taking, RefusesBy, EndsIn, TakesPiece, Feeds, EndsTooEarly}
+use Rattle.t3_image_read.specs.Inner.Steps.{stream_of, IsSound, RunsTo, TakesRun, TakesAll}
 use Rattle.t3_image_read.proofs.Lists.{take_add}
 use Rattle.t3_image_read.proofs.Steps.{is_cut}
 use Rattle.t3_image_read.proofs.Uniqueness.{one_image, one_refusal, not_both}
@@ -31,21 +32,35 @@ pub refused_run : (before now piece : List ℕ) (at : ℕ) (refusal : ReadRefusa
 refused_run before now piece at refusal so_far refuses =
     subst (λ s. RefusesBy s refusal) ((λ i. so_far i ++ rest_is piece at i) ∙ trailing before piece at) refuses
 
--- after one run more of the piece is taken
-pub next_run : (old now new : Taker) (piece : List ℕ) (at count : ℕ) (end : Option ℕ) → stream_of now ≡ stream_of old ++ take at piece
-    → TakesRun now new (take (length piece - at) (drop at piece)) (count, end)
-    → RunsTo (stream_of old ++ take (at + count) piece) new end
-next_run old now new piece at count end so_far run =
+next_run : (old now new : Taker) (piece : List ℕ) (at count : ℕ) (parsed : Parsed) → stream_of now ≡ stream_of old ++ take at piece
+    → TakesRun now new (take (length piece - at) (drop at piece)) (count, parsed)
+    → RunsTo (stream_of old ++ take (at + count) piece) new parsed
+next_run old now new piece at count parsed so_far run =
     let same : stream_of now ++ take count (take (length piece - at) (drop at piece)) ≡ stream_of old ++ take (at + count) piece =
     (λ i. so_far i ++ take count (rest_is piece at i)) ∙ append_assoc (stream_of old) (take at piece) (take count (drop at piece))
     ∙ ap (λ p. stream_of old ++ p) (sym (take_add at count piece)) in
-    subst (λ s. RunsTo s new end) same run.runs
+    subst (λ s. RunsTo s new parsed) same run.runs
+
+-- after one run more of the piece is taken, of which this came
+pub goes_on : (old now new : Taker) (piece : List ℕ) (at count : ℕ) (given parsed : Parsed) → at ≤ length piece
+    → stream_of now ≡ stream_of old ++ take at piece
+    → TakesRun now new (take (length piece - at) (drop at piece)) (count, given) → given ≡ parsed
+    → (at + count ≤ length piece) × RunsTo (stream_of old ++ take (at + count) piece) new parsed
+goes_on old now new piece at count given parsed within so_far run is = (
+  omega (arith, run.there, length-take (length piece - at) (drop at piece), length-drop at piece),
+  subst (RunsTo (stream_of old ++ take (at + count) piece) new) is (next_run old now new piece at count given so_far run),
+)
 
 -- ---- what is answered
 
 pub takes_more : (old new : Taker) (piece : List ℕ) → TakesAll old new piece None
     → TakesPiece (stream_of old) piece (Ok More) (Taking (stream_of new))
 takes_more old new piece took = (ap Taking took.1, (new.place, subst (λ s. Refused s new.place Truncated) took.1 (is_cut new took.0)))
+
+-- a stream that ends before its image does
+pub cut_finishes : {V : Type 0} (t : Taker) (refusal : ReadRefusal) → IsSound t → refusal ≡ At t.place Truncated
+    → EndsTooEarly {V = V} (stream_of t) (Err refusal)
+cut_finishes t refusal sound is = (t.place, ap Err is, is_cut t sound)
 
 -- ---- the other direction of each answer
 

@@ -1,5 +1,5 @@
 -- A payload that is taken, from what is held or from a piece: its block is added, or it is refused.
-use Rattle.std.proofs.Common.{◌≡◌, ℕ, ◌+◌, ◌<◌, List, [], ◌++◌, length, take, drop, None, Result, Ok, Err, refl, sym, ap, subst, ◌∙◌, append_assoc, arith}
+use Rattle.std.proofs.Common.{◌≡◌, ℕ, ◌+◌, ◌<◌, List, [], ◌++◌, length, take, drop, Result, Ok, Err, refl, sym, ap, subst, ◌∙◌, append_assoc, arith}
 use Rattle.std.proofs.lemmas.List.{append-nil, length-take-le, take-append-drop}
 use Rattle.std.specs.Global.{Vec}
 use Rattle.t3_blocks.specs.declared.block.Block.{Block}
@@ -11,22 +11,25 @@ use Rattle.t3_image_read.specs.declared.header.BlockHeader.{BlockHeader}
 use Rattle.t3_image_read.specs.declared.refusal.ReadRefusal.{ReadRefusal}
 use Rattle.t3_image_read.specs.declared.taker.Part.TheVariants.{InHeader, InPayload}
 use Rattle.t3_image_read.specs.declared.taker.Taker.{Taker}
+use Rattle.t3_image_read.specs.declared.taker.Parsed.TheVariants.{Block as ABlock}
+use Rattle.t3_image_read.specs.declared.image.PlacedBlock.{PlacedBlock}
 use Rattle.t3_image_read.specs.ImageText.{prefix_text}
 use Rattle.t3_image_read.specs.Validity.{IsGoodPrefix}
 use Rattle.t3_image_read.specs.Inner.Faults.{payload_refusal}
 use Rattle.t3_image_read.specs.Reader.{RefusesBy}
-use Rattle.t3_image_read.specs.Inner.Steps.{size_of, text_before, stream_of, AtPart, IsSound, BeginsWhole, HasBlock, AddsBlock, RunsTo, TakesRun}
-use Rattle.t3_image_read.proofs.Steps.{at_part, stream_of-at, RefusesBy-append, payload_advances, payload_refuses}
+use Rattle.t3_image_read.specs.Inner.Steps.{size_of, text_before, stream_of, AtPart, IsSound, BeginsWhole, HasBlock, CountsBlock, RunsTo, TakesRun}
+use Rattle.t3_image_read.proofs.Steps.{at_part, stream_of-at, RefusesBy-append, PayloadAdvances, payload_advances, payload_refuses}
 
--- the block that a whole payload gave is added
-block_added : (m new : Taker) (header : BlockHeader) (kind : BlockKind) (block : Block) (payload : List ℕ)
+-- the block that a whole payload gave is counted
+block_counted : (m new : Taker) (header : BlockHeader) (kind : BlockKind) (block : Block) (placed : PlacedBlock) (payload : List ℕ)
     → AtPart (InPayload header kind) m → m.held.items ≡ [] → length payload ≡ header.size → Spells block header.name payload
-    → HasBlock m new header block → RunsTo (text_before (InPayload header kind) m ++ payload) new None
-block_added m new header kind block payload at none long spells added =
-    let whole = payload_advances m.head m.blocks.items block header kind m.place payload at.0.prefix at.0.place_is at.1 long spells in
+    → HasBlock m new header block placed → RunsTo (text_before (InPayload header kind) m ++ payload) new (ABlock placed)
+block_counted m new header kind block placed payload at none long spells added =
+    let whole = subst (λ p. PayloadAdvances m.head m.blocks p header m.place payload) (sym added.is)
+    (payload_advances m.head m.blocks block header kind m.place payload at.0.prefix at.0.place_is at.1 long spells) in
     let stream = text_before (InPayload header kind) m ++ payload in
     let on : Taker = record m { blocks = new.blocks; part = InHeader; place = m.place + (10 + header.size) } in
-    let runs : RunsTo stream on None = (
+    let runs : RunsTo stream on (ABlock placed) = (
       record {
         at = record {
           prefix = subst (λ bs. IsGoodPrefix m.head bs) (sym added.blocks) whole.prefix;
@@ -35,10 +38,11 @@ block_added m new header kind block payload at none long spells added =
         good = tt;
         short = omega (arith, ap length none);
       },
-      ap (λ h. prefix_text m.head new.blocks.items ++ h) none ∙ append-nil (prefix_text m.head new.blocks.items)
+      ap (λ h. prefix_text m.head new.blocks ++ h) none ∙ append-nil (prefix_text m.head new.blocks)
           ∙ ap (prefix_text m.head) added.blocks ∙ whole.is,
+      whole.good,
     ) in
-    subst (λ t. RunsTo stream t None) (sym added.others) runs
+    subst (λ t. RunsTo stream t (ABlock placed)) (sym added.others) runs
 
 -- what is held says nothing of where a payload stands
 AtPart-held : (t : Taker) (header : BlockHeader) (kind : BlockKind) (held : Vec ℕ) → AtPart (InPayload header kind) t
@@ -48,24 +52,24 @@ AtPart-held t header kind held at = (record { prefix = at.0.prefix; place_is = a
 -- between the first two of these only what is held changes
 module _ (t m new : Taker) (header : BlockHeader) (kind : BlockKind) (payload : List ℕ) (at : AtPart (InPayload header kind) t)
     (others : m ≡ record t { held = m.held }) (long : length payload ≡ header.size) where
-  given_added : (given : Result Block PayloadRefusal) (done : Unit {0}) → m.held.items ≡ [] → Gives header.name payload given
-      → AddsBlock m new header given (Ok done) → RunsTo (text_before (InPayload header kind) t ++ payload) new None
-  given_added (Ok block) done none spells added =
+  given_added : (given : Result Block PayloadRefusal) (placed : PlacedBlock) → m.held.items ≡ [] → Gives header.name payload given
+      → CountsBlock m new header given (Ok placed) → RunsTo (text_before (InPayload header kind) t ++ payload) new (ABlock placed)
+  given_added (Ok block) placed none spells added =
       let before_is : text_before (InPayload header kind) m ≡ text_before (InPayload header kind) t =
       ap (text_before (InPayload header kind)) others in
       let at_m : AtPart (InPayload header kind) m =
       subst (λ v. AtPart (InPayload header kind) v) (sym others) (AtPart-held t header kind m.held at) in
-      subst (λ s. RunsTo (s ++ payload) new None) before_is (block_added m new header kind block payload at_m none long spells added)
-  given_added (Err why) done none gives added = absurd added
+      subst (λ s. RunsTo (s ++ payload) new (ABlock placed)) before_is
+      (block_counted m new header kind block placed payload at_m none long spells added)
+  given_added (Err why) placed none gives added = absurd added
 
   given_refused : (given : Result Block PayloadRefusal) (refusal : ReadRefusal) → Gives header.name payload given
-      → AddsBlock m new header given (Err refusal) → RefusesBy (text_before (InPayload header kind) t ++ payload) refusal
-  given_refused (Ok block) refusal spells is =
-      subst (λ r. RefusesBy (text_before (InPayload header kind) t ++ payload) r) (sym is) tt
+      → CountsBlock m new header given (Err refusal) → RefusesBy (text_before (InPayload header kind) t ++ payload) refusal
+  given_refused (Ok block) refusal spells is = absurd is
   given_refused (Err why) refusal gives is =
       let place_is : m.place ≡ t.place = ap (λ (v : Taker). v.place) others in
       subst (λ r. RefusesBy (text_before (InPayload header kind) t ++ payload) r) (sym (is ∙ ap (λ p. payload_refusal p why) place_is))
-      (payload_refuses t.head t.blocks.items header kind t.place payload why at.0.prefix at.0.place_is at.1 long gives)
+      (payload_refuses t.head t.blocks header kind t.place payload why at.0.prefix at.0.place_is at.1 long gives)
 
 -- before a payload of which nothing is held
 stream_of-begins : (t : Taker) (rest : List ℕ) (header : BlockHeader) (kind : BlockKind) → BeginsWhole t rest (header, kind)
@@ -78,12 +82,13 @@ stream_of-begins t rest header kind begins =
 module _ (t m new : Taker) (header : BlockHeader) (kind : BlockKind) (part : t.part ≡ InPayload header kind) (at : AtPart t.part t)
     (others : m ≡ record t { held = m.held }) (long : length t.held.items ≡ header.size) (given : Result Block PayloadRefusal)
     (gives : Gives header.name t.held.items given) where
-  pub held_added : (done : Unit {0}) → m.held.items ≡ [] → AddsBlock m new header given (Ok done) → RunsTo (stream_of t) new None
-  held_added done none added =
-      subst (λ s. RunsTo s new None) (sym (stream_of-at t (InPayload header kind) part))
-      (given_added t m new header kind t.held.items (at_part t (InPayload header kind) part at) others long given done none gives added)
+  pub held_added : (placed : PlacedBlock) → m.held.items ≡ [] → CountsBlock m new header given (Ok placed)
+      → RunsTo (stream_of t) new (ABlock placed)
+  held_added placed none added =
+      subst (λ s. RunsTo s new (ABlock placed)) (sym (stream_of-at t (InPayload header kind) part))
+      (given_added t m new header kind t.held.items (at_part t (InPayload header kind) part at) others long given placed none gives added)
 
-  pub held_refused : (refusal : ReadRefusal) → AddsBlock m new header given (Err refusal) → RefusesBy (stream_of t) refusal
+  pub held_refused : (refusal : ReadRefusal) → CountsBlock m new header given (Err refusal) → RefusesBy (stream_of t) refusal
   held_refused refusal is =
       subst (λ s. RefusesBy s refusal) (sym (stream_of-at t (InPayload header kind) part))
       (given_refused t m new header kind t.held.items (at_part t (InPayload header kind) part at) others long given refusal gives is)
@@ -98,9 +103,9 @@ module _ (t new : Taker) (rest : List ℕ) (header : BlockHeader) (kind : BlockK
   long : length (take header.size rest) ≡ header.size
   long = length-take-le header.size rest begins.there
 
-  pub whole_added : (done : Unit {0}) → AddsBlock t new header given (Ok done)
-      → TakesRun t new rest (length (take header.size rest), None)
-  whole_added done added =
+  pub whole_added : (placed : PlacedBlock) → CountsBlock t new header given (Ok placed)
+      → TakesRun t new rest (length (take header.size rest), ABlock placed)
+  whole_added placed added =
       let short = subst (λ p. length t.held.items < size_of p) begins.part sound.short in
       let same : text_before (InPayload header kind) t ++ take header.size rest
       ≡ stream_of t ++ take (length (take header.size rest)) rest =
@@ -108,11 +113,11 @@ module _ (t new : Taker) (rest : List ℕ) (header : BlockHeader) (kind : BlockK
       record {
         some = omega (arith, long, short);
         there = omega (arith, long, begins.there);
-        runs = subst (λ s. RunsTo s new None) same
-            (given_added t t new header kind (take header.size rest) at refl long given done begins.none gives added);
+        runs = subst (λ s. RunsTo s new (ABlock placed)) same
+            (given_added t t new header kind (take header.size rest) at refl long given placed begins.none gives added);
       }
 
-  pub whole_refused : (refusal : ReadRefusal) → AddsBlock t new header given (Err refusal) → RefusesBy (stream_of t ++ rest) refusal
+  pub whole_refused : (refusal : ReadRefusal) → CountsBlock t new header given (Err refusal) → RefusesBy (stream_of t ++ rest) refusal
   whole_refused refusal is =
       let before = text_before (InPayload header kind) t in
       let whole : (before ++ take header.size rest) ++ drop header.size rest ≡ stream_of t ++ rest =

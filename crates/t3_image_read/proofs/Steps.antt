@@ -21,7 +21,7 @@ use Rattle.t3_image_read.specs.declared.taker.Part.{Part}
 use Rattle.t3_image_read.specs.declared.taker.Part.TheVariants.{InHead, InHeader, InPayload}
 use Rattle.t3_image_read.specs.declared.taker.Taker.{Taker}
 use Rattle.t3_image_read.specs.ImageText.{head_text, header_text, block_text, prefix_text, end_header, text}
-use Rattle.t3_image_read.specs.Validity.{IsHead, IsHeader, IsGood, IsGoodPrefix, IsValid}
+use Rattle.t3_image_read.specs.Validity.{IsHead, IsHeader, IsGood, IsGoodPrefix}
 use Rattle.t3_image_read.specs.Refusal.{IsFirstBroken, head_place, BlockBreaks, Refused}
 use Rattle.t3_image_read.specs.declared.header.HeadFault.{HeadFault}
 use Rattle.t3_image_read.specs.declared.header.HeadFault.TheVariants as heads
@@ -29,7 +29,7 @@ use Rattle.t3_image_read.specs.declared.header.HeaderFault.{HeaderFault}
 use Rattle.t3_image_read.specs.declared.header.HeaderFault.TheVariants as headers
 use Rattle.t3_image_read.specs.Inner.Faults.{head_why, header_why, payload_refusal, HasHeadFault, IsAllowed, HasHeaderFault}
 use Rattle.t3_image_read.specs.Reader.{RefusesBy}
-use Rattle.t3_image_read.specs.Inner.Steps.{size_of, text_before, stream_of, AtBlock, IsOpen, AtPart, HoldsGood, IsSound, image_of, Holds}
+use Rattle.t3_image_read.specs.Inner.Steps.{size_of, text_before, stream_of, AtBlock, IsOpen, AtPart, HoldsGood, IsSound, Holds, ComesToEnd}
 use Rattle.t3_image_read.proofs.Headers.{length-header_text}
 use Rattle.t3_image_read.proofs.Heads.{length-head_text}
 use Rattle.t3_image_read.proofs.HeadFaults.{differs-append, good-append, other-append}
@@ -142,12 +142,9 @@ head_advances head blocks held is text none =
     })
 
 -- the end after a good prefix ends a valid image
-pub record HeaderEnds (t : Taker) (flags : ℕ) (held : List ℕ) : Type 0 where
-  pub valid : IsValid (image_of t flags)
-  pub is : text (image_of t flags) ≡ prefix_text t.head t.blocks.items ++ held
-
 pub header_ends : (t : Taker) (header : BlockHeader) (held : List ℕ) → AtBlock t → IsHeader header → header_text header ≡ held
-    → IsAllowed (length t.blocks.items) t.place header → header.name ≡ end_name → HeaderEnds t header.flags held
+    → IsAllowed (length t.blocks) t.place header → header.name ≡ end_name
+    → ComesToEnd t (prefix_text t.head t.blocks ++ held) header.flags
 unfolding text
 header_ends t header held at fits is allowed is_end =
     let none = empty_end _ _ header allowed.within is_end in
@@ -155,13 +152,21 @@ header_ends t header held at fits is allowed is_end =
     let few = few_within _ _ header allowed.within in
     let same : end_header header.flags ≡ header = λ i. record { name = sym is_end i; size = sym none i; flags = header.flags } in
     record {
-      valid = valid_image t.head t.blocks.items header.flags at.prefix fits.flags few (omega (arith, at.place_is));
-      is = ap (λ h. prefix_text t.head t.blocks.items ++ header_text h) same ∙ ap (λ h. prefix_text t.head t.blocks.items ++ h) is;
+      valid = valid_image t.head t.blocks header.flags at.prefix fits.flags few (omega (arith, at.place_is));
+      is = ap (λ h. prefix_text t.head t.blocks ++ header_text h) same ∙ ap (λ h. prefix_text t.head t.blocks ++ h) is;
+      size = omega (
+        arith,
+        at.place_is,
+        length-append (prefix_text t.head t.blocks) held,
+        ap length is,
+        length-header_text header fits,
+      );
     }
 
 -- a payload that is whole makes a good block
 pub record PayloadAdvances (head : Head) (blocks : List PlacedBlock) (placed : PlacedBlock) (header : BlockHeader) (place : ℕ)
     (payload : List ℕ) : Type 0 where
+  pub good : IsGood placed
   pub prefix : IsGoodPrefix head (blocks ++ placed ∷ [])
   pub place_is : place + (10 + header.size) ≡ length (prefix_text head (blocks ++ placed ∷ []))
   pub is : prefix_text head (blocks ++ placed ∷ []) ≡ (prefix_text head blocks ++ header_text header) ++ payload
@@ -213,6 +218,7 @@ payload_advances head blocks block header kind place payload prefix place_is ope
     } in
     let pushed = prefix_text-push head blocks placed in
     record {
+      good = good;
       prefix = IsGoodPrefix-push head blocks placed prefix good few (omega arith);
       place_is = omega (arith, ap length pushed, length-append (prefix_text head blocks) (block_text placed));
       is = pushed ∙ ap (λ t. prefix_text head blocks ++ t) is ∙ sym (append_assoc (prefix_text head blocks) (header_text header) payload);
@@ -227,7 +233,7 @@ cut_there InHead t at good short =
 cut_there InHeader t at good short =
     inr (record {
       head = t.head;
-      blocks = t.blocks.items;
+      blocks = t.blocks;
       rest = t.held.items;
       prefix = at.prefix;
       stream_is = refl;
@@ -237,10 +243,10 @@ cut_there InHeader t at good short =
 cut_there (InPayload header kind) t at good short =
     inr (record {
       head = t.head;
-      blocks = t.blocks.items;
+      blocks = t.blocks;
       rest = header_text header ++ t.held.items;
       prefix = at.0.prefix;
-      stream_is = append_assoc (prefix_text t.head t.blocks.items) (header_text header) t.held.items;
+      stream_is = append_assoc (prefix_text t.head t.blocks) (header_text header) t.held.items;
       place_is = at.0.place_is;
       first = first_cut _ _ _ header t.held.items (record { fits = at.1.fits; is = refl }) at.1.allowed.within at.1.allowed.known short;
     })

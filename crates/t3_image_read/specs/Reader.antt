@@ -2,6 +2,9 @@
 use Rattle.std.specs.Prelude.{◌≡◌, ◌≢◌, ℕ, ◌+◌, ◌≤◌, List, ◌++◌, length, take, Result, Ok, Err}
 use Rattle.t3_image_read.specs.declared.reader.Fed.{Fed}
 use Rattle.t3_image_read.specs.declared.reader.Fed.TheVariants.{More, Done}
+use Rattle.t3_image_read.specs.declared.reader.ImageParts.{ImageParts}
+use Rattle.t3_image_read.specs.declared.reader.Totals.{Totals}
+use Rattle.t3_image_read.specs.declared.image.PlacedBlock.{PlacedBlock}
 use Rattle.t3_image_read.specs.declared.refusal.ReadRefusal.{ReadRefusal}
 use Rattle.t3_image_read.specs.declared.refusal.ReadRefusal.TheVariants.{At, NoMemory}
 use Rattle.t3_image_read.specs.declared.refusal.ReadWhy.TheVariants.{Truncated}
@@ -53,9 +56,37 @@ joined_answer long (Ok More) (Ok (Done used)) = Ok (Done (long + used))
 joined_answer long (Ok More) second = second
 joined_answer long first second = first
 
--- the image, or the refusal of the stream that ends here
-abbrev pub Finishes : Reading → Result ImageValue ReadRefusal → Type 0
-Finishes (Taking stream) answer =
+-- the stream that ends here is refused for being cut
+abbrev pub EndsTooEarly : {V : Type 0} → List ℕ → Result V ReadRefusal → Type 0
+EndsTooEarly stream answer =
     (place : ℕ) × (answer ≡ Err (At place Truncated)) × Refused stream place Truncated
-Finishes (Ended image) answer = answer ≡ Ok image
-Finishes (Failed refusal) answer = answer ≡ Err refusal
+
+-- what is told of the image, or the refusal of the stream that ends here
+abbrev pub FinishesAs : {V : Type 0} → (ImageValue → V) → Reading → Result V ReadRefusal → Type 0
+FinishesAs told (Taking stream) answer = EndsTooEarly stream answer
+FinishesAs told (Ended image) answer = answer ≡ Ok (told image)
+FinishesAs told (Failed refusal) answer = answer ≡ Err refusal
+
+-- the image, or that refusal
+abbrev pub Finishes : Reading → Result ImageValue ReadRefusal → Type 0
+Finishes reading answer = FinishesAs (λ image. image) reading answer
+
+-- the parts are those of the image, whose blocks the sink has
+pub record AreParts {S : Type 0} (HasTaken : S → List PlacedBlock → Type 0) (image : ImageValue)
+    (parts : ImageParts S) : Type 0 where
+  pub valid : IsValid image
+  pub head : parts.head ≡ image.head
+  pub taken : HasTaken parts.sink image.blocks
+  pub eof_flags : parts.eof_flags ≡ image.eof_flags
+
+-- the parts of the image, or the refusal of the stream that ends here
+abbrev pub FinishesParts : {S : Type 0} → (S → List PlacedBlock → Type 0) → Reading
+    → Result (ImageParts S) ReadRefusal → Type 0
+FinishesParts {S} HasTaken (Taking stream) answer = EndsTooEarly stream answer
+FinishesParts {S} HasTaken (Ended image) answer =
+    (parts : ImageParts S) × (answer ≡ Ok parts) × AreParts HasTaken image parts
+FinishesParts {S} HasTaken (Failed refusal) answer = answer ≡ Err refusal
+
+-- how many blocks an image has, the one that ends it among them, and how many bytes
+abbrev pub totals_of : ImageValue → Totals
+totals_of image = record { blocks = length image.blocks + 1; bytes = length (text image) }

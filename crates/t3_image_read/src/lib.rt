@@ -10,6 +10,9 @@
 //! let image = reader.finish()?;
 //! assert_eq!(image.blocks.0.len(), 1);
 //! ```
+//!
+//! An [`ImageChecker`] reads by the same rules and keeps no block, for whoever only asks whether the bytes
+//! are an image. What becomes of the blocks is said by a [`BlockSink`], and all else by the one [`Reader`].
 #![tactic(auto)]
 
 mod header;
@@ -17,12 +20,15 @@ mod image;
 mod laws;
 mod reader;
 mod refusal;
+mod sink;
 mod taker;
+mod tally;
 #[cfg(test)]
 mod tests;
 
 pub use header::{HEAD_SIZE, HEADER_SIZE, SIGNATURE, VERSION};
 pub use image::{Head, Image, Placed, PlacedBlock};
 pub use laws::{one_reading, pieces_joined};
-pub use reader::{Fed, ImageReader};
+pub use reader::{Fed, ImageChecker, ImageParts, ImageReader, Reader, Totals};
 pub use refusal::{ReadRefusal, ReadWhy};
+pub use sink::{BlockSink, Discard};

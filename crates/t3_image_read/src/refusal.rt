@@ -3,6 +3,7 @@ ghost use Rattle.t3_image_read.specs.Numbers.{number_of};
 ghost use Rattle.t3_image_read.specs.declared.refusal.ReadRefusal.TheVariants.{NoMemory as Wanting};
 
 use std::alloc::{AllocError, AllocFailed};
+use t3_holder::NoMemory;
 use thiserror::Error;
 
 /// The rule that a stream breaks.
@@ -63,6 +64,14 @@ pub enum ReadRefusal {
     /// An allocation was refused.
     #[error("out of memory")]
     NoMemory,
+}
+
+impl From<NoMemory> for ReadRefusal {
+    ghost from_gives = { λ _ e. e ≡ Wanting };
+
+    fn from(_error: NoMemory) -> ReadRefusal {
+        ReadRefusal::NoMemory
+    }
 }
 
 impl From<AllocError> for ReadRefusal {

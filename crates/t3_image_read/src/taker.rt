@@ -4,16 +4,17 @@ ghost use Rattle.t3_blocks.specs.BlockName.{HasKind, end_name};
 ghost use Rattle.t3_blocks.specs.Parsing.{Gives};
 ghost use Rattle.t3_blocks.specs.Spelling.{image_limit};
 ghost use Rattle.t3_image_read.specs.Refusal.{head_place};
-ghost use Rattle.t3_image_read.specs.Validity.{IsValid};
+ghost use Rattle.t3_image_read.specs.Validity.{header_limit};
 ghost use Rattle.t3_image_read.specs.Reader.{RefusesBy};
 ghost use Rattle.t3_image_read.specs.Inner.Faults.{head_why, payload_refusal};
-ghost use Rattle.t3_image_read.specs.Inner.Steps.{size_of, stream_of, image_of, AtPart, IsSound, Holds, BeginsWhole, AddsBlock, Advances, TakesRun, TakesAll};
+ghost use Rattle.t3_image_read.specs.Inner.Steps.{size_of, stream_of, AtPart, IsSound, Holds, BeginsWhole, CountsBlock, Advances, TakesRun, Tallies};
 
 use crate::header::{
     BlockHeader, HEAD_SIZE, HEADER_SIZE, HeadFault, VERSION_AT, head_fault, header_fault, read_head,
 };
-use crate::image::{Head, Image, Placed, PlacedBlock};
+use crate::image::{Head, PlacedBlock};
 use crate::refusal::{ReadRefusal, ReadWhy};
+use crate::tally::Tally;
 use std::alloc::{AllocError, Global};
 use std::mem;
 use t3_blocks::{Block, BlockKind, PayloadRefusal, spelled_block, take_block};
@@ -27,14 +28,24 @@ pub(crate) enum Part {
     InPayload(BlockHeader, BlockKind),
 }
 
-/// The image so far, and the bytes of the part that isn't whole yet.
+/// What came of a run of bytes.
+#[derive(Drop)]
+pub(crate) enum Parsed {
+    /// No block, or none yet.
+    Nothing,
+    Block(PlacedBlock),
+    /// The end, which has these flags.
+    End(u16),
+}
+
+/// What was taken so far, and the bytes of the part that isn't whole yet. Blocks are handed on.
 #[derive(Drop)]
 pub(crate) struct Taker {
     pub(crate) alloc: Global,
     pub(crate) part: Part,
     pub(crate) held: Vec<u8>,
     pub(crate) head: Head,
-    pub(crate) blocks: Vec<PlacedBlock>,
+    pub(crate) blocks: Tally,
     /// Where the block begins that is being taken.
     pub(crate) place: u32,
 }
@@ -57,6 +68,7 @@ impl Taker {
     pub(crate) fn new(alloc: Global) -> Taker
         ensures sound { IsSound result }
         ensures nothing { stream_of result ≡ [] }
+        ensures no_block { result.blocks ≡ [] }
     {
         Taker {
             alloc,
@@ -66,46 +78,18 @@ impl Taker {
                 reserved: [0; 32],
                 stamp: [0; 24],
             },
-            blocks: Vec::new(alloc),
+            blocks: Tally::new(),
             place: 0,
         }
     }
 
-    /// The image that ends with these flags.
-    pub(crate) fn into_image(self, eof_flags: u16) -> Image
-        requires { IsValid (image_of self eof_flags) }
-        ensures { result ≡ image_of self eof_flags }
-    {
-        Image {
-            head: self.head,
-            blocks: Placed(self.blocks),
-            eof_flags,
-        }
-    }
-
-    /// Takes a piece up to the end of the image, and answers how many bytes that was and the end's
-    /// flags, or `None` where all of it was taken and the image goes on.
-    pub(crate) fn feed(&mut self, piece: &[u8]) -> Result<Option<(usize, u16)>, ReadRefusal>
-        requires { IsSound self.old }
-        ensures taken { IfOk result (TakesAll self.old self.new piece.now) }
-        ensures refused { IfErr result (RefusesBy (stream_of self.old ++ piece.now)) }
-    {
-        let mut at = 0;
-        while at < piece.len() {
-            let (count, end) = self.take_run(&piece[at..])?;
-            at += count;
-            if let Some(flags) = end {
-                return Ok(Some((at, flags)));
-            }
-        }
-        Ok(None)
-    }
-
-    /// Takes the bytes that the part still wants, as far as they are there.
-    fn take_run(&mut self, rest: &[u8]) -> Result<(usize, Option<u16>), ReadRefusal>
+    /// Takes the bytes that the part still wants, as far as they are there, and gives their number and what
+    /// came of them.
+    pub(crate) fn take_run(&mut self, rest: &[u8]) -> Result<(usize, Parsed), ReadRefusal>
         requires sound { IsSound self.old }
         requires some { 0 < length rest.now }
         ensures taken { IfOk result (TakesRun self.old self.new rest.now) }
+        ensures blocks { IfOk result (λ run. Tallies self.old self.new run.1) }
         ensures refused { IfErr result (RefusesBy (stream_of self.old ++ rest.now)) }
     {
         match self.whole_payload(rest) {
@@ -133,28 +117,30 @@ impl Taker {
         header: BlockHeader,
         kind: BlockKind,
         rest: &[u8],
-    ) -> Result<(usize, Option<u16>), ReadRefusal>
+    ) -> Result<(usize, Parsed), ReadRefusal>
         requires sound { IsSound self.old }
         requires begins { BeginsWhole self.old rest.now (header, kind) }
         ensures taken { IfOk result (TakesRun self.old self.new rest.now) }
+        ensures blocks { IfOk result (λ run. Tallies self.old self.new run.1) }
         ensures refused { IfErr result (RefusesBy (stream_of self.old ++ rest.now)) }
     {
         let payload = &rest[..header.size as usize];
         let given = spelled_block(self.alloc, kind, header.name, payload);
-        self.add_block(header, given)?;
-        Ok((payload.len(), None))
+        let placed = self.count_block(header, given)?;
+        Ok((payload.len(), Parsed::Block(placed)))
     }
 
     /// Holds the bytes that the part still wants, as far as they are there, and goes on where it is whole.
-    fn take_part(&mut self, rest: &[u8]) -> Result<(usize, Option<u16>), ReadRefusal>
+    fn take_part(&mut self, rest: &[u8]) -> Result<(usize, Parsed), ReadRefusal>
         requires sound { IsSound self.old }
         requires some { 0 < length rest.now }
         ensures taken { IfOk result (TakesRun self.old self.new rest.now) }
+        ensures blocks { IfOk result (λ run. Tallies self.old self.new run.1) }
         ensures refused { IfErr result (RefusesBy (stream_of self.old ++ rest.now)) }
     {
         let count = self.hold(rest)?;
-        let end = self.advance()?;
-        Ok((count, end))
+        let parsed = self.advance()?;
+        Ok((count, parsed))
     }
 
     /// Copies those bytes. More room is made for what comes now, or as much again as is there, so that a
@@ -174,12 +160,12 @@ impl Taker {
         Ok(count)
     }
 
-    /// Goes on to the next part where this one is whole, and answers the flags of the end where it was
-    /// that.
-    fn advance(&mut self) -> Result<Option<u16>, ReadRefusal>
+    /// Goes on to the next part where this one is whole, and gives what came of it.
+    fn advance(&mut self) -> Result<Parsed, ReadRefusal>
         requires at { AtPart self.old.part self.old }
         requires within { length self.old.held.items ≤ size_of self.old.part }
         ensures advanced { IfOk result (Advances self.old self.new) }
+        ensures blocks { IfOk result (Tallies self.old self.new) }
         ensures refused { IfErr result (RefusesBy (stream_of self.old)) }
     {
         match self.part {
@@ -189,46 +175,49 @@ impl Taker {
         }
     }
 
-    fn advance_from_head(&mut self) -> Result<Option<u16>, ReadRefusal>
+    fn advance_from_head(&mut self) -> Result<Parsed, ReadRefusal>
         requires part { self.old.part ≡ Part.InHead }
         requires at { AtPart self.old.part self.old }
         requires within { length self.old.held.items ≤ size_of self.old.part }
         ensures advanced { IfOk result (Advances self.old self.new) }
+        ensures blocks { IfOk result (Tallies self.old self.new) }
         ensures refused { IfErr result (RefusesBy (stream_of self.old)) }
     {
         if let Some(fault) = head_fault(&self.held) {
             return Err(refused_head(fault));
         }
-        if self.held.len() == HEAD_SIZE {
-            self.head = read_head(&self.held);
-            self.held.clear();
-            self.part = Part::InHeader;
-            self.place = HEAD_SIZE as u32;
+        if self.held.len() < HEAD_SIZE {
+            return Ok(Parsed::Nothing);
         }
-        Ok(None)
+        self.head = read_head(&self.held);
+        self.held.clear();
+        self.part = Part::InHeader;
+        self.place = HEAD_SIZE as u32;
+        Ok(Parsed::Nothing)
     }
 
-    fn advance_from_header(&mut self) -> Result<Option<u16>, ReadRefusal>
+    fn advance_from_header(&mut self) -> Result<Parsed, ReadRefusal>
         requires part { self.old.part ≡ Part.InHeader }
         requires at { AtPart self.old.part self.old }
         requires within { length self.old.held.items ≤ size_of self.old.part }
         ensures advanced { IfOk result (Advances self.old self.new) }
+        ensures blocks { IfOk result (Tallies self.old self.new) }
         ensures refused { IfErr result (RefusesBy (stream_of self.old)) }
     {
         if self.held.len() < HEADER_SIZE {
-            return Ok(None);
+            return Ok(Parsed::Nothing);
         }
         let header = BlockHeader::read(&self.held);
         let kind = BlockKind::of(header.name);
         let place = self.place;
-        if let Some(fault) = header_fault(self.blocks.len(), place, header, kind) {
+        if let Some(fault) = header_fault(self.blocks.count(), place, header, kind) {
             return Err(ReadRefusal::At {
                 place,
                 why: fault.why(),
             });
         }
         match kind {
-            BlockKind::End => Ok(Some(header.flags)),
+            BlockKind::End => Ok(Parsed::End(header.flags)),
             _ => {
                 self.held.clear();
                 self.part = Part::InPayload(header, kind);
@@ -241,19 +230,20 @@ impl Taker {
         &mut self,
         header: BlockHeader,
         kind: BlockKind,
-    ) -> Result<Option<u16>, ReadRefusal>
+    ) -> Result<Parsed, ReadRefusal>
         requires part { self.old.part ≡ Part.InPayload header kind }
         requires at { AtPart self.old.part self.old }
         requires within { length self.old.held.items ≤ size_of self.old.part }
         ensures advanced { IfOk result (Advances self.old self.new) }
+        ensures blocks { IfOk result (Tallies self.old self.new) }
         ensures refused { IfErr result (RefusesBy (stream_of self.old)) }
     {
         if self.held.len() < header.size as usize {
-            return Ok(None);
+            return Ok(Parsed::Nothing);
         }
         let given = self.take_held(header.name, kind);
-        self.add_block(header, given)?;
-        Ok(None)
+        let placed = self.count_block(header, given)?;
+        Ok(Parsed::Block(placed))
     }
 
     /// The block that the held bytes spell, which are held no more. Where the block is those bytes, it has
@@ -280,24 +270,26 @@ impl Taker {
         }
     }
 
-    /// Adds the block that the payload after a header gave.
-    fn add_block(
+    /// Counts the block that the payload after a header gave.
+    fn count_block(
         &mut self,
         header: BlockHeader,
         given: Result<Block, PayloadRefusal>,
-    ) -> Result<(), ReadRefusal>
-        requires { self.old.place + 10 + header.size ≤ image_limit }
-        ensures { AddsBlock self.old self.new header given result }
+    ) -> Result<PlacedBlock, ReadRefusal>
+        requires near { self.old.place + 10 + header.size ≤ image_limit }
+        requires few { length self.old.blocks < header_limit }
+        ensures { CountsBlock self.old self.new header given result }
     {
         match given {
             Ok(block) => {
-                self.blocks.push(PlacedBlock {
+                let placed = PlacedBlock {
                     flags: header.flags,
                     block,
-                })?;
+                };
+                self.blocks.add(&placed);
                 self.part = Part::InHeader;
                 self.place += HEADER_SIZE as u32 + header.size;
-                Ok(())
+                Ok(placed)
             }
             Err(refusal) => Err(refused_payload(self.place, refusal)),
         }

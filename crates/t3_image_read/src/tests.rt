@@ -1,4 +1,6 @@
 //! One image in pieces of each length: the same answers, whatever the cut.
+ghost use Rattle.std.specs.Prelude.{◌<◌};
+
 use super::*;
 use std::alloc::{AllocError, Global};
 use std::test::Fail;
@@ -245,5 +247,60 @@ fn reads_an_image_in_two_pieces(rt: HostRuntime) -> Result<(), Fail> {
     assert_eq!(rt; reader.feed(first)?, Fed::More);
     assert_eq!(rt; reader.feed(second)?, Fed::Done { used: 22 });
     assert_eq!(rt; reader.finish()?.blocks.0.len(), 1);
+    Ok(())
+}
+
+/// What a checker answers, and what a reader does, of the same bytes in pieces of a length.
+fn told(
+    alloc: Global,
+    bytes: &[u8],
+    length: usize,
+) -> (Result<Totals, ReadRefusal>, Result<usize, ReadRefusal>)
+    requires { 0 < length }
+{
+    let mut checker = ImageChecker::new(alloc);
+    let mut reader = ImageReader::new(alloc);
+    for piece in bytes.chunks(length) {
+        let _ = checker.feed(piece);
+        let _ = reader.feed(piece);
+    }
+    let blocks = match reader.finish() {
+        Ok(image) => Ok(image.blocks.0.len()),
+        Err(refusal) => Err(refusal),
+    };
+    (checker.totals(), blocks)
+}
+
+#[test]
+fn a_checker_counts_what_a_reader_keeps(rt: HostRuntime) -> Result<(), Fail> {
+    let bytes = image(rt.alloc(), 0)?;
+    let refused = image(rt.alloc(), 1)?;
+    let mut cut = image(rt.alloc(), 0)?;
+    cut.truncate(91);
+    for length in 1..=bytes.len() {
+        let (totals, blocks) = told(rt.alloc(), &bytes, length);
+        assert_eq!(rt;
+            totals,
+            Ok(Totals {
+                blocks: 2,
+                bytes: 92
+            })
+        );
+        assert_eq!(rt; blocks, Ok(1));
+        let (totals, blocks) = told(rt.alloc(), &refused, length);
+        let unknown = ReadRefusal::At {
+            place: 69,
+            why: ReadWhy::UnknownMandatory,
+        };
+        assert_eq!(rt; totals, Err(unknown));
+        assert_eq!(rt; blocks, Err(unknown));
+        let (totals, blocks) = told(rt.alloc(), &cut, length);
+        let truncated = ReadRefusal::At {
+            place: 82,
+            why: ReadWhy::Truncated,
+        };
+        assert_eq!(rt; totals, Err(truncated));
+        assert_eq!(rt; blocks, Err(truncated));
+    }
     Ok(())
 }

@@ -27,7 +27,7 @@ IsSpellable-remask_of : (mask : ℕ) (block : Block) → mask < 256 → IsSpella
 IsSpellable-remask_of mask (Page pool index own bytes) fits is = (is.0, is.1, fits)
 IsSpellable-remask_of mask _ fits is = is
 
-IsGood-remask_of : (mask : ℕ) (placed : PlacedBlock) → mask < 256 → IsGood placed → IsGood (remask_placed_of mask placed)
+pub IsGood-remask_of : (mask : ℕ) (placed : PlacedBlock) → mask < 256 → IsGood placed → IsGood (remask_placed_of mask placed)
 IsGood-remask_of mask placed fits good = record {
   spellable = IsSpellable-remask_of mask placed.block fits good.spellable;
   size = let small = good.size in omega (arith, length-remask_of mask placed.block);

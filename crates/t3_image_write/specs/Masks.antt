@@ -1,5 +1,5 @@
 -- An image whose pages are all under one mask. Nothing else is changed: the mask is laid on a page's bytes as it is written.
-use Rattle.std.specs.Prelude.{ℕ, map}
+use Rattle.std.specs.Prelude.{ℕ, Option, Some, None, map}
 use Rattle.t3_blocks.specs.declared.block.Block.{Block}
 use Rattle.t3_blocks.specs.declared.block.Block.TheVariants.{Page}
 use Rattle.t3_image_read.specs.ImageText.{ImageValue}
@@ -15,3 +15,13 @@ remask_placed_of mask placed = record placed { block = remask_block_of mask plac
 
 abbrev pub remask_of : ℕ → ImageValue → ImageValue
 remask_of mask image = record image { blocks = map (remask_placed_of mask) image.blocks }
+
+-- with its page under the mask, where one is given
+abbrev pub masked_placed : Option ℕ → PlacedBlock → PlacedBlock
+masked_placed None placed = placed
+masked_placed (Some mask) placed = remask_placed_of mask placed
+
+-- the image with every page under the mask, where one is given
+abbrev pub masked_image : Option ℕ → ImageValue → ImageValue
+masked_image None image = image
+masked_image (Some mask) image = remask_of mask image

@@ -20,7 +20,7 @@ fn remask_blocks(blocks: &mut Placed, mask: u8)
     }
 }
 
-fn remask_block(block: &mut Block, mask: u8)
+pub(crate) fn remask_block(block: &mut Block, mask: u8)
     ensures { block.new ≡ remask_block_of mask block.old }
 {
     if let Block::Page { mask: own, .. } = block {

@@ -1,8 +1,9 @@
 //! Images that are read, and written again.
 use super::*;
 use std::alloc::{AllocError, Global};
+use std::marker::Brand;
 use std::test::Fail;
-use t3_image_read::{Image, ImageReader, ReadRefusal};
+use t3_image_read::{Image, ImageReader, ReadRefusal, Reader};
 
 /// A block of each kind, beside the page.
 const OTHERS: [&[u8]; 8] = [
@@ -71,5 +72,19 @@ fn puts_a_page_under_another_mask(rt: HostRuntime) -> Result<(), Fail> {
     remask(&mut image, 0);
     let plain = self::image(rt.alloc(), PLAIN)?;
     assert_eq!(rt; write_image(rt.alloc(), &image)?, plain);
+    Ok(())
+}
+
+#[test]
+fn rewrites_while_it_reads(rt: HostRuntime) -> Result<(), Fail> {
+    let bytes = image(rt.alloc(), MASKED)?;
+    for length in 1..=bytes.len() {
+        let mut reader = Reader::with_sink(rt.alloc(), Rewriter::<Brand>::new(rt.alloc(), None)?);
+        for piece in bytes.chunks(length) {
+            reader.feed(piece)?;
+        }
+        let written = rewritten_text(rt.alloc(), reader.into_parts()?)?;
+        assert_eq!(rt; written, bytes, "by {length}");
+    }
     Ok(())
 }

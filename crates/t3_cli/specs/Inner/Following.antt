@@ -4,16 +4,19 @@ use Rattle.t3_io.specs.Files.{Files}
 use Rattle.t3_io.specs.Session.{Session}
 use Rattle.t3_io.specs.Putting.{PutsFile}
 use Rattle.t3_io.specs.declared.refusal.DeviceRefusal.{DeviceRefusal}
+use Rattle.t3_image_read.specs.declared.reader.Totals.{Totals}
 use Rattle.t3_cli.specs.declared.images.read.ReadImage.{ReadImage}
 use Rattle.t3_cli.specs.declared.images.read.ReadImage.TheVariants as read
 use Rattle.t3_cli.specs.declared.status.Status.{Status}
-use Rattle.t3_cli.specs.declared.status.Status.TheVariants.{Absent, ImageRefused, SourceRefused}
+use Rattle.t3_cli.specs.declared.status.Status.TheVariants.{Done, Absent, ImageRefused, SourceRefused}
 use Rattle.t3_cli.specs.Act.{Act, shown_by, files_by, StopsIn}
-use Rattle.t3_cli.specs.Command.{CommandValue}
+use Rattle.t3_cli.specs.BlockLines.{totals_text}
+use Rattle.t3_cli.specs.Command.{CommandValue, Check, Rewrite}
 use Rattle.t3_cli.specs.Lines.{absent_line, refused_line, bad_line}
-use Rattle.t3_cli.specs.Outcome.{Outcome, showing, input_of, IsImageOutcome}
+use Rattle.t3_cli.specs.Outcome.{Outcome, showing, putting, input_of, IsImageOutcome}
 use Rattle.t3_cli.specs.Top.{CutsShort, ShowsMore, IsWhole, IsCut}
 use Rattle.t3_cli.specs.Inner.Parsing.{file_of}
+use Rattle.t3_cli.specs.Inner.Wanted.{wanted_of, WantsText}
 
 -- the files after acts, where they are told
 abbrev pub LeavesActs : Option Files → Option Files → List Act → Type 0
@@ -50,11 +53,24 @@ abbrev pub FollowsSome : (Outcome → Type 0) → Option Files → Option Files 
 FollowsSome IsOutcome files left before after answer =
     (outcome : Outcome) × IsOutcome outcome × Follows outcome files left before after answer
 
+-- what a command gives of an image that was only counted, which is done to check it
+abbrev pub IsCountedOutcome : CommandValue → Totals → Outcome → Type 0
+IsCountedOutcome (Check name) totals outcome = outcome ≡ showing Done (totals_text totals)
+IsCountedOutcome _ totals outcome = ⊥
+
+-- and of one of which only this was written
+abbrev pub IsWrittenOutcome : CommandValue → Option ℕ → List ℕ → Outcome → Type 0
+IsWrittenOutcome (Rewrite name out mask) under written outcome = outcome ≡ putting out written
+IsWrittenOutcome _ under written outcome = ⊥
+
 -- what a command gives of what was read
 abbrev pub IsReadOutcome : CommandValue → ReadImage → Outcome → Type 0
 IsReadOutcome command read.Absent outcome = outcome ≡ showing Absent (absent_line (file_of (input_of command)))
 IsReadOutcome command (read.Refused place why) outcome = outcome ≡ showing ImageRefused (refused_line why place)
 IsReadOutcome command (read.BadLine line why) outcome = outcome ≡ showing SourceRefused (bad_line line why)
+IsReadOutcome command (read.Counted totals) outcome = IsCountedOutcome command totals outcome
+IsReadOutcome command (read.Rewritten mask written) outcome =
+    WantsText mask (wanted_of command) × IsWrittenOutcome command mask written.items outcome
 IsReadOutcome command (read.Image image) outcome = IsImageOutcome command image outcome
 
 -- how many bytes were put, or why they weren't

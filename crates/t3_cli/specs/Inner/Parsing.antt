@@ -1,11 +1,19 @@
 -- What the words give, part by part.
 use Rattle.std.specs.Prelude.{ℕ, List, [], ◌∷◌, Option, Some, None}
-use Rattle.t3_cli.specs.Outcome.{InputFile, ImageFile, SourceFile}
+use Rattle.t3_cli.specs.Command.{CommandValue, Rewrite, Listing, Asm}
+use Rattle.t3_cli.specs.Outcome.{InputFile, ImageFile, SourceFile, input_of}
 
 -- the name of the file that is read
 abbrev pub file_of : InputFile → List ℕ
 file_of (ImageFile name) = name
 file_of (SourceFile name) = name
+
+-- the name of the file that is put, or of that which is read where none is
+abbrev pub out_of : CommandValue → List ℕ
+out_of (Rewrite name out mask) = out
+out_of (Listing name out) = out
+out_of (Asm source out) = out
+out_of command = file_of (input_of command)
 
 -- the one value, if there is one; none where there are more
 abbrev pub only_value : List (List ℕ) → Option (Option (List ℕ))

@@ -1,5 +1,5 @@
 -- What is read of an image's file, as the commands hand it on.
-use Rattle.std.specs.Prelude.{◌≡◌, ℕ, ◌≤◌, Bool, true, false, List, [], length, take, drop, Option, Some, None, Result, Ok, Err}
+use Rattle.std.specs.Prelude.{◌≡◌, ◌≢◌, ◌⊎◌, ℕ, ◌≤◌, Bool, true, false, List, [], length, take, drop, Option, Some, None, Result, Ok, Err}
 use Rattle.std.specs.FinMap.{get}
 use Rattle.std.specs.Option.{option_map}
 use Rattle.std.specs.Global.{Vec}
@@ -14,16 +14,16 @@ use Rattle.t3_image_read.specs.declared.reader.Fed.{Fed}
 use Rattle.sha2.specs.Hashers.{Holds256}
 use Rattle.sha2.specs.declared.Sha256.{Sha256}
 use Rattle.t3_image_read.specs.declared.reader.Fed.TheVariants as fed
-use Rattle.t3_image_read.specs.ImageText.{text}
+use Rattle.t3_image_read.specs.ImageText.{ImageValue, text}
 use Rattle.t3_cli.specs.Command.{CommandValue, Run}
 use Rattle.t3_image_read.specs.declared.refusal.ReadRefusal.{ReadRefusal}
 use Rattle.t3_image_read.specs.declared.refusal.ReadRefusal.TheVariants as refusal
 use Rattle.t3_image_read.specs.declared.refusal.ReadWhy.TheVariants.{Truncated}
 use Rattle.t3_image_read.specs.Refusal.{Refused}
-use Rattle.t3_image_read.specs.Reader.{Reading, Taking, Ended, Failed, Feeds}
+use Rattle.t3_image_read.specs.Reader.{Reading, Taking, Ended, Failed, Feeds, totals_of}
 use Rattle.t3_cli.specs.declared.images.read.ReadImage.{ReadImage}
 use Rattle.t3_cli.specs.declared.images.read.ReadImage.TheVariants as read
-use Rattle.t3_cli.specs.Outcome.{InputFile, ImageFile, SourceFile, read_bytes, assembled, BeginsWith}
+use Rattle.t3_cli.specs.Outcome.{InputFile, ImageFile, SourceFile, read_bytes, assembled, written_text, BeginsWith}
 
 abbrev pub ReadsBytes : Option (List ℕ) → ReadImage → Type 0
 ReadsBytes None read.Absent = Unit {0}
@@ -31,6 +31,10 @@ ReadsBytes None _ = ⊥
 ReadsBytes (Some file) read.Absent = ⊥
 ReadsBytes (Some file) (read.BadLine line why) = ⊥
 ReadsBytes (Some file) (read.Refused place why) = Refused (read_bytes file) place why
+ReadsBytes (Some file) (read.Counted totals) =
+    (image : ImageValue) × BeginsWith (read_bytes file) image × (totals ≡ totals_of image)
+ReadsBytes (Some file) (read.Rewritten mask written) =
+    (image : ImageValue) × BeginsWith (read_bytes file) image × (written.items ≡ written_text mask image)
 ReadsBytes (Some file) (read.Image image) = BeginsWith (read_bytes file) image
 
 -- what is read of a file, where the device tells its files
@@ -90,12 +94,32 @@ GivesPiece None name at want buffer answer = Unit {0}
 GivesPiece (Some files) name at want buffer (Err _) = Unit {0}
 GivesPiece (Some files) name at want buffer (Ok found) = PieceOf (get files name) at want buffer found
 
--- what a reader that is done with is handed on as
-abbrev pub Concludes : Reading → Result ReadImage DeviceRefusal → Type 0
-Concludes (Taking stream) answer = (place : ℕ) × (answer ≡ Ok (read.Refused place Truncated)) × Refused stream place Truncated
-Concludes (Ended image) answer = answer ≡ Ok (read.Image image)
-Concludes (Failed (refusal.At place why)) answer = answer ≡ Ok (read.Refused place why)
-Concludes (Failed refusal.NoMemory) answer = answer ≡ Err device.NoMemory
+-- what the refusal of a reader is handed on as
+abbrev pub read_refusal : ReadRefusal → Result ReadImage DeviceRefusal
+read_refusal (refusal.At place why) = Ok (read.Refused place why)
+read_refusal refusal.NoMemory = Err device.NoMemory
+
+-- what a reader that is done with is handed on as, and its image by this rule
+abbrev pub Concludes : (ImageValue → Result ReadImage DeviceRefusal → Type 0) → Reading
+    → Result ReadImage DeviceRefusal → Type 0
+Concludes Tells (Taking stream) answer =
+    (place : ℕ) × (answer ≡ Ok (read.Refused place Truncated)) × Refused stream place Truncated
+Concludes Tells (Ended image) answer = Tells image answer
+Concludes Tells (Failed refusal) answer = answer ≡ read_refusal refusal
+
+-- the image is told as it is
+abbrev pub TellsImage : ImageValue → Result ReadImage DeviceRefusal → Type 0
+TellsImage image answer = answer ≡ Ok (read.Image image)
+
+-- its totals alone are told
+abbrev pub TellsTotals : ImageValue → Result ReadImage DeviceRefusal → Type 0
+TellsTotals image answer = answer ≡ Ok (read.Counted (totals_of image))
+
+-- what is written of it is told, for which memory may be wanting
+abbrev pub TellsText : Option ℕ → ImageValue → Result ReadImage DeviceRefusal → Type 0
+TellsText mask image answer = (answer ≡ Err device.NoMemory)
+    ⊎ ((written : Vec ℕ) × (answer ≡ Ok (read.Rewritten mask written))
+    × (written.items ≡ written_text mask image))
 
 -- the reader has taken the prefix of the file up to the place
 abbrev pub TakesPrefix : Option (List ℕ) → List ℕ → ℕ → Type 0
@@ -112,6 +136,20 @@ HasRead files name (Taking taken) at = (length taken ≡ at) × TakesSoFar files
 HasRead files name (Ended image) at = ReadsImage files name (Ok (read.Image image))
 HasRead files name (Failed (refusal.At place why)) at = ReadsImage files name (Ok (read.Refused place why))
 HasRead files name (Failed refusal.NoMemory) at = Unit {0}
+
+-- the file ended at the place, or the limit stands there
+abbrev pub IsEndOf : Option (List ℕ) → ℕ → Type 0
+IsEndOf None at = at ≢ 0
+IsEndOf (Some file) at = take at file ≡ read_bytes file
+
+abbrev pub IsEnd : Option Files → List ℕ → ℕ → Type 0
+IsEnd None name at = Unit {0}
+IsEnd (Some files) name at = IsEndOf (get files name) at
+
+-- a file that isn't there, or that was read up to where it ends
+abbrev pub HasReadAll : Option Files → List ℕ → Reading → Bool → Type 0
+HasReadAll files name reading false = ReadsImage files name (Ok read.Absent)
+HasReadAll files name reading true = (at : ℕ) × HasRead files name reading at × IsEnd files name at
 
 -- a piece was fed
 abbrev pub IsFed : Reading → List ℕ → Reading → Type 0

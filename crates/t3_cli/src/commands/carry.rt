@@ -1,11 +1,11 @@
 //! Carries commands out: reads their image or source, and shows what it is or what it says, or writes it
 //! anew.
-ghost use Rattle.std.specs.Prelude.{◌≡◌, ◌≢◌, ◌<◌, ◌-◌, ◌^◌, ◌⊎◌, [], Some, IfSome, IfOk};
+ghost use Rattle.std.specs.Prelude.{◌≡◌, ◌≢◌, ◌<◌, ◌-◌, ◌^◌, ◌⊎◌, ℕ, List, [], Some, IfSome, IfOk};
 ghost use Rattle.t3_holder.specs.FileName.{IsFileName};
 ghost use Rattle.t3_io.specs.Cause.{MovesFaults};
-ghost use Rattle.t3_asm.specs.Listing.{listing};
-ghost use Rattle.t3_cli.specs.Outcome.{putting, written_text, input_of};
+ghost use Rattle.t3_cli.specs.Outcome.{putting, input_of};
 ghost use Rattle.t3_cli.specs.Inner.Reading.{ReadsInput, IsDigested};
+ghost use Rattle.t3_cli.specs.Inner.Wanted.{wanted_of, IsAsWanted};
 ghost use Rattle.sha2.specs.Hashers.{Holds256};
 ghost use Rattle.t3_cli.specs.Top.{CutsShort, ShowsSome};
 ghost use Rattle.t3_cli.specs.Command.{command_value, HasFileNames};
@@ -13,16 +13,19 @@ ghost use Rattle.t3_cli.specs.Inner.Following.{Answers, FollowsSome, Follows, Is
 
 use crate::commands::command::Command;
 use crate::console::answer;
-use crate::images::image_lines::{check_line, image_lines};
-use crate::images::read::{ReadImage, read_image};
-use crate::images::rewrite::{put_image, put_listing};
+use crate::images::image_lines::{check_line, image_lines, totals};
+use crate::images::put::put_text;
+use crate::images::read::{ReadImage, count_image, read_image};
+use crate::images::rewrite::{masked, rewrite_image};
 use crate::images::source::read_source;
 use crate::lines;
 use crate::status::Status;
 use crate::story::launch;
 use sha2::{Digest, Sha256};
 use std::alloc::Global;
-use t3_image_read::Image;
+use t3_asm::list;
+use t3_holder::NoMemory;
+use t3_image_write::write_image;
 use t3_io::{Console, Depot, DeviceRefusal};
 
 /// Reads the command's image, and does with it what the command does.
@@ -65,16 +68,18 @@ fn read_input<D: Depot>(
     requires fresh { Holds256 hasher.old [] }
     ensures read { ReadsInput (D.files depot.old) (input_of (command_value command.entry)) result }
     ensures digest { IfOk result (λ read. IsDigested (command_value command.entry) read hasher.new) }
+    ensures wanted { IfOk result (IsAsWanted (wanted_of (command_value command.entry))) }
     ensures files { D.files depot.new ≡ D.files depot.old }
     ensures cause { MovesFaults (D.faults depot.old) (D.faults depot.new) result }
 {
     match command {
         Command::Asm { source, .. } => read_source(alloc, source.as_bytes(), depot),
         Command::Run { image, .. } => read_image(alloc, image.as_bytes(), depot, hasher, true),
-        Command::Check { image }
-        | Command::Show { image }
-        | Command::Rewrite { image, .. }
-        | Command::List { image, .. } => {
+        Command::Check { image } => count_image(alloc, image.as_bytes(), depot),
+        Command::Rewrite { image, mask, .. } => {
+            rewrite_image(alloc, image.as_bytes(), depot, mask)
+        }
+        Command::Show { image } | Command::List { image, .. } => {
             read_image(alloc, image.as_bytes(), depot, hasher, false)
         }
     }
@@ -104,6 +109,7 @@ fn act<D: Depot, C: Console>(
 ) -> Status
     requires names { HasFileNames (command_value command) }
     requires digest { IsDigested (command_value command) read hasher }
+    requires wanted { IsAsWanted (wanted_of (command_value command)) read }
     requires depot { D.faults depot.old < 2 ^ 64 - 1 }
     requires console { C.faults console.old < 2 ^ 64 - 1 }
     ensures follows { FollowsSome (IsReadOutcome (command_value command.entry) read)
@@ -129,33 +135,49 @@ fn act<D: Depot, C: Console>(
             let line = lines::bad_line(alloc, line, why);
             answer(console, line, Status::SourceRefused)
         }
+        ReadImage::Counted(totals) => answer(console, check_line(alloc, totals), Status::Done),
+        ReadImage::Rewritten { text, .. } => {
+            let out = command.out();
+            put_and_show(alloc, out, Ok(text), depot, console)
+        }
         ReadImage::Image(image) => match command {
-            Command::Check { .. } => answer(console, check_line(alloc, &image), Status::Done),
+            Command::Check { .. } => {
+                answer(console, check_line(alloc, totals(&image)), Status::Done)
+            }
             Command::Show { .. } => answer(console, image_lines(alloc, &image), Status::Done),
             Command::Run { options, .. } => {
                 launch(alloc, image, hasher.finalize(), options, console)
             }
-            Command::Rewrite { out, mask, .. } => rewrite(alloc, image, out, mask, depot, console),
-            Command::Asm { out, .. } => rewrite(alloc, image, out, None, depot, console),
-            Command::List { out, .. } => write_listing(alloc, &image, out, depot, console),
+            Command::Rewrite { out, mask, .. } => {
+                let text = write_image(alloc, &masked(image, mask));
+                put_and_show(alloc, out, text, depot, console)
+            }
+            Command::Asm { out, .. } => {
+                let text = write_image(alloc, &image);
+                put_and_show(alloc, out, text, depot, console)
+            }
+            Command::List { out, .. } => {
+                let text = list(alloc, &image);
+                put_and_show(alloc, out, text, depot, console)
+            }
         },
     }
 }
 
-/// Puts what is written of an image, and shows how many bytes that were.
-fn rewrite<D: Depot, C: Console>(
+/// Puts a text, if there was memory for it, and shows how many bytes that were.
+fn put_and_show<D: Depot, C: Console>(
     alloc: Global,
-    image: Image,
     out: &str,
-    mask: Option<u8>,
+    text: Result<Vec<u8>, NoMemory>,
     depot: &mut D,
     console: &mut C,
 ) -> Status
     requires out { IsFileName out.now }
     requires depot { D.faults depot.old < 2 ^ 64 - 1 }
     requires console { C.faults console.old < 2 ^ 64 - 1 }
-    ensures follows { Follows (putting out.now (written_text mask image)) (D.files depot.old)
-        (D.files depot.new) (C.session console.old) (C.session console.new) result }
+    ensures follows { (bytes : List ℕ) → IfOk text (λ t. t.items ≡ bytes)
+        → Follows (putting out.now bytes) (D.files depot.old) (D.files depot.new)
+        (C.session console.old) (C.session console.new) result }
     ensures depot_fault { result ≡ Status.DepotFault → D.faults depot.old < D.faults depot.new }
     ensures depot_rise { (result ≡ Status.DepotFault) ⊎ (D.faults depot.new ≡ D.faults depot.old) }
     ensures console_fault { result ≡ Status.ConsoleFault → C.faults console.old < C.faults
@@ -163,33 +185,7 @@ fn rewrite<D: Depot, C: Console>(
     ensures console_rise { (result ≡ Status.ConsoleFault) ⊎
         (C.faults console.new ≡ C.faults console.old) }
 {
-    match put_image(alloc, image, out, mask, depot) {
-        Ok(size) => answer(console, lines::put(alloc, size), Status::Done),
-        Err(refusal) => depot_status(refusal),
-    }
-}
-
-/// Puts the listing of an image, and shows how many bytes that were.
-fn write_listing<D: Depot, C: Console>(
-    alloc: Global,
-    image: &Image,
-    out: &str,
-    depot: &mut D,
-    console: &mut C,
-) -> Status
-    requires out { IsFileName out.now }
-    requires depot { D.faults depot.old < 2 ^ 64 - 1 }
-    requires console { C.faults console.old < 2 ^ 64 - 1 }
-    ensures follows { Follows (putting out.now (listing image.now)) (D.files depot.old)
-        (D.files depot.new) (C.session console.old) (C.session console.new) result }
-    ensures depot_fault { result ≡ Status.DepotFault → D.faults depot.old < D.faults depot.new }
-    ensures depot_rise { (result ≡ Status.DepotFault) ⊎ (D.faults depot.new ≡ D.faults depot.old) }
-    ensures console_fault { result ≡ Status.ConsoleFault → C.faults console.old < C.faults
-        console.new }
-    ensures console_rise { (result ≡ Status.ConsoleFault) ⊎
-        (C.faults console.new ≡ C.faults console.old) }
-{
-    match put_listing(alloc, image, out, depot) {
+    match put_text(out, text, depot) {
         Ok(size) => answer(console, lines::put(alloc, size), Status::Done),
         Err(refusal) => depot_status(refusal),
     }

@@ -54,7 +54,7 @@ impl<'w> Command<'w> {
     ghost use Rattle.t3_cli.specs.Command.{command_of};
     ghost use Rattle.t3_cli.specs.Outcome.{input_of};
     ghost use Rattle.t3_cli.specs.Command.{command_value};
-    ghost use Rattle.t3_cli.specs.Inner.Parsing.{file_of};
+    ghost use Rattle.t3_cli.specs.Inner.Parsing.{out_of, file_of};
 
     /// The command that the words are, if they are one.
     pub(crate) fn parse(words: &'w [String]) -> Option<Command<'w>>
@@ -85,6 +85,17 @@ impl<'w> Command<'w> {
             | Command::Rewrite { image, .. }
             | Command::List { image, .. } => image,
             Command::Asm { source, .. } => source,
+        }
+    }
+
+    /// The file that the command puts, or the one that it reads where it puts none.
+    pub(crate) fn out(self) -> &'w str
+        ensures { result.now ≡ out_of (command_value self.entry) }
+    {
+        match self {
+            Command::Rewrite { out, .. } | Command::List { out, .. } | Command::Asm { out, .. } =>
+                out,
+            _ => self.file(),
         }
     }
 }

@@ -3,14 +3,15 @@ ghost use Rattle.std.specs.Prelude.{◌≡◌, ◌+◌, ◌<◌, ◌≤◌, ◌+
 ghost use Rattle.std.specs.List.{flat_map, AllByRecursion};
 ghost use Rattle.t3_blocks.specs.Spelling.{image_limit};
 ghost use Rattle.t3_image_read.specs.ImageText.{head_text, block_text};
+ghost use Rattle.t3_image_read.specs.Reader.{totals_of};
 ghost use Rattle.t3_image_read.specs.declared.image.Head.{Head};
 ghost use Rattle.t3_image_read.specs.Validity.{IsGood};
-ghost use Rattle.t3_cli.specs.BlockLines.{show_text, check_text, block_lines, block_line, end_line_at, header_fields, kind_fields, field, shown_byte as shown_as};
+ghost use Rattle.t3_cli.specs.BlockLines.{show_text, totals_text, block_lines, block_line, end_line_at, header_fields, kind_fields, field, shown_byte as shown_as};
 
 use crate::lines;
 use std::alloc::{AllocError, Global};
 use t3_blocks::{Block, END_NAME};
-use t3_image_read::{HEAD_SIZE, Image, Placed, PlacedBlock};
+use t3_image_read::{HEAD_SIZE, Image, Placed, PlacedBlock, Totals};
 use t3_image_write::text_size;
 
 /// What `show` shows: a line for each block of an image and for its end, and the line of the whole.
@@ -20,16 +21,26 @@ pub(crate) fn image_lines(alloc: Global, image: &Image) -> Result<String, AllocE
     let mut out = String::new(alloc);
     let end = append_blocks(&image.blocks, HEAD_SIZE, &mut out)?;
     append_end(end, image.eof_flags, &mut out)?;
-    let whole = check_line(alloc, image)?;
+    let whole = check_line(alloc, totals(image))?;
     out.push_str(whole.as_str())?;
     Ok(out)
 }
 
-/// What `check` shows: how many blocks an image has, its end among them, and how many bytes.
-pub(crate) fn check_line(alloc: Global, image: &Image) -> Result<String, AllocError>
-    ensures { IfOk result (λ line. string_bytes line ≡ check_text image.now) }
+/// How many blocks an image has, its end among them, and how many bytes.
+pub(crate) fn totals(image: &Image) -> Totals
+    ensures { result ≡ totals_of image.now }
 {
-    lines::ok(alloc, image.blocks.0.len() + 1, text_size(image))
+    Totals {
+        blocks: image.blocks.0.len() + 1,
+        bytes: text_size(image),
+    }
+}
+
+/// What `check` shows.
+pub(crate) fn check_line(alloc: Global, totals: Totals) -> Result<String, AllocError>
+    ensures { IfOk result (λ line. string_bytes line ≡ totals_text totals) }
+{
+    lines::ok(alloc, totals.blocks, totals.bytes)
 }
 
 /// Appends the lines of blocks of which the first stands at a place, and gives the place after them.

@@ -4,13 +4,16 @@ ghost use Rattle.t3_holder.specs.FileName.{IsFileName};
 ghost use Rattle.t3_io.specs.Cause.{MovesFaults};
 ghost use Rattle.t3_io.specs.Reading.{IsAtMost};
 ghost use Rattle.t3_image_read.specs.Reader.{Taking};
-ghost use Rattle.t3_cli.specs.Inner.Reading.{ReadsImage, GivesPiece, IsFed, Concludes, taken_of, Digests, DigestsRead};
+ghost use Rattle.t3_cli.specs.Inner.Reading.{ReadsImage, HasReadAll, GivesPiece, IsFed, Concludes, TellsImage, TellsTotals, TellsText, read_refusal, taken_of, Digests, DigestsRead};
+ghost use Rattle.t3_cli.specs.Inner.Wanted.{IsAsWanted, Count, Text, Whole};
 ghost use Rattle.sha2.specs.Hashers.{Holds256};
 
 use sha2::{Digest, Sha256};
 use std::alloc::{AllocError, Global};
 use t3_asm::AsmWhy;
-use t3_image_read::{Fed, Image, ImageReader, ReadRefusal, ReadWhy};
+use t3_image_read::{
+    BlockSink, Fed, Image, ImageChecker, ImageReader, ReadRefusal, ReadWhy, Reader, Totals,
+};
 use t3_io::{Depot, DeviceRefusal, Got};
 
 /// A file is read up to so many bytes: one more than an image has.
@@ -19,7 +22,8 @@ pub(super) const READ_LIMIT: u64 = 268_435_457;
 /// How many bytes are asked for at once.
 pub(super) const PIECE: usize = 1 << 18;
 
-/// What the file of a command has: an image, as it stands or as a source says it, or why none.
+/// What the file of a command has: an image, as it stands or as a source says it, or of it what the command
+/// wants; or why none.
 #[derive(Debug, Drop)]
 pub(crate) enum ReadImage {
     /// There is no such file.
@@ -28,6 +32,10 @@ pub(crate) enum ReadImage {
     Refused { place: u32, why: ReadWhy },
     /// The source breaks this rule at this line, or at 0 where it is too long.
     BadLine { line: u32, why: AsmWhy },
+    /// The file begins with an image of so many blocks and bytes, of which no more is wanted.
+    Counted(Totals),
+    /// The file begins with an image of which this is written, its pages under the mask where one is given.
+    Rewritten { mask: Option<u8>, text: Vec<u8> },
     /// The file begins with this image, or says it.
     Image(Image),
 }
@@ -46,18 +54,46 @@ pub(crate) fn read_image<D: Depot>(
     requires fresh { Holds256 hasher.old [] }
     ensures read { ReadsImage (D.files depot.old) name.now result }
     ensures digest { DigestsRead is_digested result hasher.new }
+    ensures wanted { IfOk result (IsAsWanted Whole) }
     ensures files { D.files depot.new ≡ D.files depot.old }
     ensures cause { MovesFaults (D.faults depot.old) (D.faults depot.new) result }
 {
+    let mut reader = ImageReader::new(alloc);
     let mut buf = zeroed(alloc, PIECE)?;
-    read_pieces(
+    if read_pieces(name, depot, &mut reader, hasher, is_digested, &mut buf)? {
+        concluded(reader)
+    } else {
+        Ok(ReadImage::Absent)
+    }
+}
+
+/// Reads a file as [`read_image`] does, but counts what the image has that it begins with, and keeps none of it.
+pub(crate) fn count_image<D: Depot>(
+    alloc: Global,
+    name: &[u8],
+    depot: &mut D,
+) -> Result<ReadImage, DeviceRefusal>
+    requires name { IsFileName name.now }
+    requires faults { D.faults depot.old < 2 ^ 64 - 1 }
+    ensures read { ReadsImage (D.files depot.old) name.now result }
+    ensures wanted { IfOk result (IsAsWanted Count) }
+    ensures files { D.files depot.new ≡ D.files depot.old }
+    ensures cause { MovesFaults (D.faults depot.old) (D.faults depot.new) result }
+{
+    let mut reader = ImageChecker::new(alloc);
+    let mut buf = zeroed(alloc, PIECE)?;
+    if read_pieces(
         name,
         depot,
-        ImageReader::new(alloc),
-        hasher,
-        is_digested,
+        &mut reader,
+        &mut Sha256::new(),
+        false,
         &mut buf,
-    )
+    )? {
+        concluded_totals(reader)
+    } else {
+        Ok(ReadImage::Absent)
+    }
 }
 
 pub(super) fn zeroed(alloc: Global, size: usize) -> Result<Vec<u8>, AllocError>
@@ -66,23 +102,23 @@ pub(super) fn zeroed(alloc: Global, size: usize) -> Result<Vec<u8>, AllocError>
     vec![in alloc; 0; size]
 }
 
-/// Feeds the pieces of a file, each at most as long as the buffer. A reader that has its image, or has
-/// refused, takes nothing of those that follow.
-fn read_pieces<D: Depot>(
+/// Feeds the pieces of a file, each at most as long as the buffer, and answers whether the file is there. A
+/// reader that has its image, or has refused, takes nothing of those that follow.
+pub(super) fn read_pieces<D: Depot, S: BlockSink>(
     name: &[u8],
     depot: &mut D,
-    mut reader: ImageReader,
+    reader: &mut Reader<S>,
     hasher: &mut Sha256,
     is_digested: bool,
     buf: &mut [u8],
-) -> Result<ReadImage, DeviceRefusal>
+) -> Result<bool, DeviceRefusal>
     requires name { IsFileName name.now }
     requires faults { D.faults depot.old < 2 ^ 64 - 1 }
-    requires fresh { reader ≡ Taking [] }
+    requires fresh { reader.old ≡ Taking [] }
     requires digest { Holds256 hasher.old [] }
     requires room { 0 < length buf.old }
-    ensures read { ReadsImage (D.files depot.old) name.now result }
-    ensures digest { DigestsRead is_digested result hasher.new }
+    ensures read { IfOk result (HasReadAll (D.files depot.old) name.now reader.new) }
+    ensures digest { Digests is_digested reader.new hasher.new }
     ensures files { D.files depot.new ≡ D.files depot.old }
     ensures cause { MovesFaults (D.faults depot.old) (D.faults depot.new) result }
 {
@@ -90,19 +126,19 @@ fn read_pieces<D: Depot>(
     while at < READ_LIMIT {
         let want = buf.len().min((READ_LIMIT - at) as usize);
         match read_piece(depot, name, at, buf, want)? {
-            Got::Absent => return Ok(ReadImage::Absent),
-            Got::Count(0) => return concluded(reader),
+            Got::Absent => return Ok(false),
+            Got::Count(0) => return Ok(true),
             Got::Count(count) => {
-                feed(&mut reader, hasher, is_digested, &buf[..count]);
+                feed(reader, hasher, is_digested, &buf[..count]);
                 at += count as u64;
             }
         }
     }
-    concluded(reader)
+    Ok(true)
 }
 
 /// Feeds a piece. What the reader answers is told again when it is done with.
-fn feed(reader: &mut ImageReader, hasher: &mut Sha256, is_digested: bool, piece: &[u8])
+fn feed<S: BlockSink>(reader: &mut Reader<S>, hasher: &mut Sha256, is_digested: bool, piece: &[u8])
     ensures fed { IsFed reader.old piece.now reader.new }
     ensures digest { Digests is_digested reader.old hasher.old → Digests is_digested reader.new hasher.new }
 {
@@ -145,11 +181,30 @@ pub(super) fn read_piece<D: Depot>(
 
 /// What a reader gives that takes no more.
 fn concluded(reader: ImageReader) -> Result<ReadImage, DeviceRefusal>
-    ensures { Concludes reader result }
+    ensures { Concludes TellsImage reader result }
 {
     match reader.finish() {
         Ok(image) => Ok(ReadImage::Image(image)),
-        Err(ReadRefusal::At { place, why }) => Ok(ReadImage::Refused { place, why }),
-        Err(ReadRefusal::NoMemory) => Err(DeviceRefusal::NoMemory),
+        Err(refusal) => refused(refusal),
+    }
+}
+
+/// What a reader gives that only counted and takes no more.
+fn concluded_totals(reader: ImageChecker) -> Result<ReadImage, DeviceRefusal>
+    ensures { Concludes TellsTotals reader result }
+{
+    match reader.totals() {
+        Ok(totals) => Ok(ReadImage::Counted(totals)),
+        Err(refusal) => refused(refusal),
+    }
+}
+
+/// What a refusal is told as.
+pub(super) fn refused(refusal: ReadRefusal) -> Result<ReadImage, DeviceRefusal>
+    ensures { result ≡ read_refusal refusal }
+{
+    match refusal {
+        ReadRefusal::At { place, why } => Ok(ReadImage::Refused { place, why }),
+        ReadRefusal::NoMemory => Err(DeviceRefusal::NoMemory),
     }
 }

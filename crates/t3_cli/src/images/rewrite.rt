@@ -1,56 +1,87 @@
-//! Puts an image as it is written anew, or as it is listed.
-ghost use Rattle.std.specs.Prelude.{◌≡◌, ◌<◌, ◌-◌, ◌^◌, ◌⊎◌};
+//! Writes an image anew, while it is read or as it is.
+ghost use Rattle.std.specs.Prelude.{◌≡◌, ◌<◌, ◌-◌, ◌^◌, IfOk};
 ghost use Rattle.t3_holder.specs.FileName.{IsFileName};
 ghost use Rattle.t3_io.specs.Cause.{MovesFaults};
-ghost use Rattle.t3_asm.specs.Listing.{listing};
-ghost use Rattle.t3_cli.specs.Outcome.{masked_image, written_text};
-ghost use Rattle.t3_cli.specs.Inner.Following.{PutsSized};
+ghost use Rattle.t3_image_write.specs.Masks.{masked_image};
+ghost use Rattle.t3_cli.specs.Inner.Reading.{ReadsImage, Concludes, TellsText};
+ghost use Rattle.t3_cli.specs.Inner.Wanted.{IsAsWanted, Text};
 
+use crate::images::read::{PIECE, ReadImage, read_pieces, refused, zeroed};
+use sha2::{Digest, Sha256};
 use std::alloc::Global;
-use t3_asm::list;
-use t3_image_read::Image;
-use t3_image_write::{remask, write_image};
+use std::marker::Brand;
+use t3_image_read::{Image, Reader};
+use t3_image_write::{Masking, Rewriter, remask, rewritten_text};
 use t3_io::{Depot, DeviceRefusal};
 
-/// Puts what is written of an image, and gives how many bytes that were.
-pub(crate) fn put_image<D: Depot>(
+/// Reads a file as [`count_image`] does, but gives what is written of the image that it begins with, its pages
+/// under the mask where one is given.
+pub(crate) fn rewrite_image<D: Depot>(
     alloc: Global,
-    image: Image,
-    out: &str,
-    mask: Option<u8>,
+    name: &[u8],
     depot: &mut D,
-) -> Result<usize, DeviceRefusal>
-    requires out { IsFileName out.now }
-    requires depot { D.faults depot.old < 2 ^ 64 - 1 }
-    ensures puts { PutsSized (D.files depot.old) (D.files depot.new) out.now
-        (written_text mask image) result }
+    mask: Option<u8>,
+) -> Result<ReadImage, DeviceRefusal>
+    requires name { IsFileName name.now }
+    requires faults { D.faults depot.old < 2 ^ 64 - 1 }
+    ensures read { ReadsImage (D.files depot.old) name.now result }
+    ensures wanted { IfOk result (IsAsWanted (Text mask)) }
+    ensures files { D.files depot.new ≡ D.files depot.old }
     ensures cause { MovesFaults (D.faults depot.old) (D.faults depot.new) result }
 {
-    let image = masked(image, mask);
-    let bytes = write_image(alloc, &image)?;
-    depot.put(out.as_bytes(), &bytes)?;
-    Ok(bytes.len())
+    rewrite_under::<D, Brand>(alloc, name, depot, mask)
 }
 
-/// Puts the listing of an image, and gives how many bytes that were.
-pub(crate) fn put_listing<D: Depot>(
+fn rewrite_under<D: Depot, M: Masking>(
     alloc: Global,
-    image: &Image,
-    out: &str,
+    name: &[u8],
     depot: &mut D,
-) -> Result<usize, DeviceRefusal>
-    requires out { IsFileName out.now }
-    requires depot { D.faults depot.old < 2 ^ 64 - 1 }
-    ensures puts { PutsSized (D.files depot.old) (D.files depot.new) out.now (listing image.now) result }
+    mask: Option<u8>,
+) -> Result<ReadImage, DeviceRefusal>
+    requires mask { mask ≡ M.mask }
+    requires name { IsFileName name.now }
+    requires faults { D.faults depot.old < 2 ^ 64 - 1 }
+    ensures read { ReadsImage (D.files depot.old) name.now result }
+    ensures wanted { IfOk result (IsAsWanted (Text mask)) }
+    ensures files { D.files depot.new ≡ D.files depot.old }
     ensures cause { MovesFaults (D.faults depot.old) (D.faults depot.new) result }
 {
-    let bytes = list(alloc, image)?;
-    depot.put(out.as_bytes(), &bytes)?;
-    Ok(bytes.len())
+    let mut reader = Reader::with_sink(alloc, Rewriter::<M>::new(alloc, mask)?);
+    let mut buf = zeroed(alloc, PIECE)?;
+    if read_pieces(
+        name,
+        depot,
+        &mut reader,
+        &mut Sha256::new(),
+        false,
+        &mut buf,
+    )? {
+        concluded_text(alloc, mask, reader)
+    } else {
+        Ok(ReadImage::Absent)
+    }
+}
+
+/// What a reader gives that wrote anew and takes no more.
+fn concluded_text<M: Masking>(
+    alloc: Global,
+    mask: Option<u8>,
+    reader: Reader<Rewriter<M>>,
+) -> Result<ReadImage, DeviceRefusal>
+    requires { mask ≡ M.mask }
+    ensures { Concludes (TellsText mask) reader result }
+{
+    match reader.into_parts() {
+        Ok(parts) => Ok(ReadImage::Rewritten {
+            mask,
+            text: rewritten_text(alloc, parts)?,
+        }),
+        Err(refusal) => refused(refusal),
+    }
 }
 
 /// The image with its pages under the mask, where one is given.
-fn masked(mut image: Image, mask: Option<u8>) -> Image
+pub(crate) fn masked(mut image: Image, mask: Option<u8>) -> Image
     ensures { result ≡ masked_image mask image }
 {
     if let Some(mask) = mask {

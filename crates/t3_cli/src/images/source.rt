@@ -1,8 +1,9 @@
 //! Reads a source's file, and assembles what it says.
-ghost use Rattle.std.specs.Prelude.{◌≡◌, ◌<◌, ◌-◌, ◌^◌, [], length};
+ghost use Rattle.std.specs.Prelude.{◌≡◌, ◌<◌, ◌-◌, ◌^◌, [], length, IfOk};
 ghost use Rattle.t3_holder.specs.FileName.{IsFileName};
 ghost use Rattle.t3_io.specs.Cause.{MovesFaults};
 ghost use Rattle.t3_cli.specs.Inner.Reading.{ReadsSource, ReadsFile, IsAssembled};
+ghost use Rattle.t3_cli.specs.Inner.Wanted.{IsAsWanted, Whole};
 
 use crate::images::read::{PIECE, READ_LIMIT, ReadImage, read_piece, zeroed};
 use std::alloc::Global;
@@ -22,6 +23,7 @@ pub(crate) fn read_source<D: Depot>(
     requires name { IsFileName name.now }
     requires faults { D.faults depot.old < 2 ^ 64 - 1 }
     ensures read { ReadsSource (D.files depot.old) name.now result }
+    ensures wanted { IfOk result (IsAsWanted Whole) }
     ensures files { D.files depot.new ≡ D.files depot.old }
     ensures cause { MovesFaults (D.faults depot.old) (D.faults depot.new) result }
 {
@@ -64,7 +66,8 @@ fn read_file<D: Depot>(
 
 /// The image that bytes say as a source, or their bad line.
 fn assembled(alloc: Global, text: &[u8]) -> Result<ReadImage, DeviceRefusal>
-    ensures { IsAssembled text.now result }
+    ensures assembled { IsAssembled text.now result }
+    ensures wanted { IfOk result (IsAsWanted Whole) }
 {
     if text.len() > SOURCE_LIMIT {
         return Ok(ReadImage::BadLine {

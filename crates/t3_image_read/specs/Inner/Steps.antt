@@ -8,14 +8,13 @@ use Rattle.t3_image_read.specs.declared.header.BlockHeader.{BlockHeader}
 use Rattle.t3_image_read.specs.declared.taker.Part.{Part}
 use Rattle.t3_image_read.specs.declared.taker.Part.TheVariants.{InHead, InHeader, InPayload}
 use Rattle.t3_image_read.specs.declared.taker.Taker.{Taker}
-use Rattle.t3_image_read.specs.declared.reader.State.{State}
-use Rattle.t3_image_read.specs.declared.reader.State.TheVariants as states
+use Rattle.t3_image_read.specs.declared.taker.Parsed.{Parsed}
+use Rattle.t3_image_read.specs.declared.taker.Parsed.TheVariants.{Nothing, Block as ABlock, End}
+use Rattle.t3_image_read.specs.declared.image.PlacedBlock.{PlacedBlock}
 use Rattle.t3_image_read.specs.ImageText.{ImageValue, header_text, prefix_text, text}
-use Rattle.t3_image_read.specs.Validity.{IsHeader, IsGoodPrefix, IsValid}
+use Rattle.t3_image_read.specs.Validity.{IsHeader, IsGood, IsGoodPrefix, IsValid}
 use Rattle.t3_image_read.specs.declared.refusal.ReadRefusal.{ReadRefusal}
-use Rattle.t3_image_read.specs.declared.refusal.ReadRefusal.TheVariants.{NoMemory}
 use Rattle.t3_image_read.specs.Inner.Faults.{IsGoodSoFar, IsAllowed, payload_refusal}
-use Rattle.t3_image_read.specs.Reader.{Reading, Taking, Ended, Failed}
 
 -- how many bytes the part has
 abbrev pub size_of : Part → ℕ
@@ -26,8 +25,8 @@ size_of (InPayload header kind) = header.size
 -- the stream before the part
 abbrev pub text_before : Part → Taker → List ℕ
 text_before InHead t = []
-text_before InHeader t = prefix_text t.head t.blocks.items
-text_before (InPayload header kind) t = prefix_text t.head t.blocks.items ++ header_text header
+text_before InHeader t = prefix_text t.head t.blocks
+text_before (InPayload header kind) t = prefix_text t.head t.blocks ++ header_text header
 
 -- the stream that was taken
 abbrev pub stream_of : Taker → List ℕ
@@ -35,8 +34,8 @@ stream_of t = text_before t.part t ++ t.held.items
 
 -- a good prefix of the stream ends at the place
 pub record AtBlock (t : Taker) : Type 0 where
-  pub prefix : IsGoodPrefix t.head t.blocks.items
-  pub place_is : t.place ≡ length (prefix_text t.head t.blocks.items)
+  pub prefix : IsGoodPrefix t.head t.blocks
+  pub place_is : t.place ≡ length (prefix_text t.head t.blocks)
 
 -- a header that breaks no rule and isn't that of the end
 pub record IsOpen (count place : ℕ) (header : BlockHeader) (kind : BlockKind) : Type 0 where
@@ -46,9 +45,9 @@ pub record IsOpen (count place : ℕ) (header : BlockHeader) (kind : BlockKind) 
   pub not_end : header.name ≢ end_name
 
 abbrev pub AtPart : Part → Taker → Type 0
-AtPart InHead t = (t.blocks.items ≡ []) × (t.place ≡ 0)
+AtPart InHead t = (t.blocks ≡ []) × (t.place ≡ 0)
 AtPart InHeader t = AtBlock t
-AtPart (InPayload header kind) t = AtBlock t × IsOpen (length t.blocks.items) t.place header kind
+AtPart (InPayload header kind) t = AtBlock t × IsOpen (length t.blocks) t.place header kind
 
 abbrev pub HoldsGood : Part → List ℕ → Type 0
 HoldsGood InHead held = IsGoodSoFar held
@@ -62,18 +61,7 @@ pub record IsSound (t : Taker) : Type 0 where
   pub short : length t.held.items < size_of t.part
 
 abbrev pub image_of : Taker → ℕ → ImageValue
-image_of t flags = record { head = t.head; blocks = t.blocks.items; eof_flags = flags }
-
--- the reader as its callers see it
-abbrev pub reading_of : State → Reading
-reading_of (states.Taking t) = Taking (stream_of t)
-reading_of (states.Ended image) = Ended image
-reading_of (states.Failed refusal) = Failed refusal
-
-abbrev pub IsSoundState : State → Type 0
-IsSoundState (states.Taking t) = IsSound t
-IsSoundState (states.Ended image) = IsValid image
-IsSoundState (states.Failed refusal) = Unit {0}
+image_of t flags = record { head = t.head; blocks = t.blocks; eof_flags = flags }
 
 -- the next bytes of the part are held, at least one of them
 pub record Holds (old new : Taker) (rest : List ℕ) (count : ℕ) : Type 0 where
@@ -90,39 +78,57 @@ pub record BeginsWhole (t : Taker) (rest : List ℕ) (of : BlockHeader × BlockK
   pub there : of.0.size ≤ length rest
 
 -- the block of this header is the last one, and the next header comes after it
-pub record HasBlock (old new : Taker) (header : BlockHeader) (block : Block) : Type 0 where
-  pub blocks : new.blocks.items
-      ≡ old.blocks.items ++ record { flags = header.flags; block = block } ∷ []
+pub record HasBlock (old new : Taker) (header : BlockHeader) (block : Block) (placed : PlacedBlock)
+    : Type 0 where
+  pub is : placed ≡ record { flags = header.flags; block = block }
+  pub blocks : new.blocks ≡ old.blocks ++ placed ∷ []
   pub others : new ≡ record old {
     blocks = new.blocks;
     part = InHeader;
     place = old.place + (10 + header.size);
   }
 
--- the block that the payload gave is added, or its refusal is answered
-abbrev pub AddsBlock : Taker → Taker → BlockHeader → Result Block PayloadRefusal
-    → Result (Unit {0}) ReadRefusal → Type 0
-AddsBlock old new header (Ok block) (Ok done) = HasBlock old new header block
-AddsBlock old new header (Ok block) (Err refusal) = refusal ≡ NoMemory
-AddsBlock old new header (Err why) (Ok done) = ⊥
-AddsBlock old new header (Err why) (Err refusal) = refusal ≡ payload_refusal old.place why
+-- the block that the payload gave is counted, or its refusal is answered
+abbrev pub CountsBlock : Taker → Taker → BlockHeader → Result Block PayloadRefusal
+    → Result PlacedBlock ReadRefusal → Type 0
+CountsBlock old new header (Ok block) (Ok placed) = HasBlock old new header block placed
+CountsBlock old new header (Ok block) (Err refusal) = ⊥
+CountsBlock old new header (Err why) (Ok placed) = ⊥
+CountsBlock old new header (Err why) (Err refusal) = refusal ≡ payload_refusal old.place why
 
--- these bytes are taken, and the image goes on or has ended
-abbrev pub RunsTo : List ℕ → Taker → Option ℕ → Type 0
-RunsTo stream new None = IsSound new × (stream_of new ≡ stream)
-RunsTo stream new (Some flags) = IsValid (image_of new flags) × (text (image_of new flags) ≡ stream)
+-- the blocks after a run of which this came
+abbrev pub blocks_after : List PlacedBlock → Parsed → List PlacedBlock
+blocks_after blocks Nothing = blocks
+blocks_after blocks (ABlock placed) = blocks ++ placed ∷ []
+blocks_after blocks (End flags) = blocks
 
-abbrev pub Advances : Taker → Taker → Option ℕ → Type 0
-Advances old new end = RunsTo (stream_of old) new end
+-- the blocks that were counted are those before, and what came of the run
+abbrev pub Tallies : Taker → Taker → Parsed → Type 0
+Tallies old new parsed = new.blocks ≡ blocks_after old.blocks parsed
+
+-- the image ends where the stream does
+pub record ComesToEnd (t : Taker) (stream : List ℕ) (flags : ℕ) : Type 0 where
+  pub valid : IsValid (image_of t flags)
+  pub is : text (image_of t flags) ≡ stream
+  pub size : t.place + 10 ≡ length stream
+
+-- these bytes are taken, and the image goes on or has ended; a block that came of them is good
+abbrev pub RunsTo : List ℕ → Taker → Parsed → Type 0
+RunsTo stream new Nothing = IsSound new × (stream_of new ≡ stream)
+RunsTo stream new (ABlock placed) = IsSound new × (stream_of new ≡ stream) × IsGood placed
+RunsTo stream new (End flags) = ComesToEnd new stream flags
+
+abbrev pub Advances : Taker → Taker → Parsed → Type 0
+Advances old new parsed = RunsTo (stream_of old) new parsed
 
 -- so many bytes of a run are taken, at least one
-pub record TakesRun (old new : Taker) (rest : List ℕ) (run : ℕ × Option ℕ) : Type 0 where
+pub record TakesRun (old new : Taker) (rest : List ℕ) (run : ℕ × Parsed) : Type 0 where
   pub some : 0 < run.0
   pub there : run.0 ≤ length rest
   pub runs : RunsTo (stream_of old ++ take run.0 rest) new run.1
 
 -- all of a piece is taken, or what the image used of it
 abbrev pub TakesAll : Taker → Taker → List ℕ → Option (ℕ × ℕ) → Type 0
-TakesAll old new piece None = RunsTo (stream_of old ++ piece) new None
+TakesAll old new piece None = IsSound new × (stream_of new ≡ stream_of old ++ piece)
 TakesAll old new piece (Some end) =
-    (end.0 ≤ length piece) × RunsTo (stream_of old ++ take end.0 piece) new (Some end.1)
+    (end.0 ≤ length piece) × ComesToEnd new (stream_of old ++ take end.0 piece) end.1

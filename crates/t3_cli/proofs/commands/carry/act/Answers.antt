@@ -1,22 +1,20 @@
 use Rattle.std.proofs.Common.{◌≡◌, ℕ, List, IfOk, ap, subst, refl}
+use Rattle.std.specs.Global.{Vec}
 use Rattle.std.specs.Prelude.{string_bytes}
 use Rattle.t3_cli.specs.declared.images.read.ReadImage.TheVariants as read
 use Rattle.t3_cli.specs.declared.status.Status.TheVariants.{Done, Absent, ImageRefused, SourceRefused}
 use Rattle.t3_cli.specs.Lines.{absent_line, refused_line, bad_line}
-use Rattle.t3_cli.specs.BlockLines.{check_text, show_text}
+use Rattle.t3_cli.specs.BlockLines.{totals_text, check_text, show_text}
 use Rattle.t3_cli.specs.Command.{Check, Show, Run, Rewrite, Listing, Asm}
 use Rattle.t3_asm.specs.Listing.{listing}
 use Rattle.t3_image_read.specs.ImageText.{text}
 use Rattle.t3_cli.specs.Outcome.{putting, written_text, input_of}
-use Rattle.t3_cli.specs.Command.{command_value, options_value, HasFileNames}
-use Rattle.t3_cli.specs.Inner.Parsing.{file_of}
-use Rattle.t3_cli.proofs.Followed.{line_matched, matched_follows}
+use Rattle.t3_cli.specs.Command.{command_value, options_value}
+use Rattle.t3_cli.specs.Inner.Parsing.{file_of, out_of}
+use Rattle.t3_cli.specs.Inner.Following.{Follows}
+use Rattle.t3_cli.specs.Inner.Wanted.{wanted_of, IsAsWanted}
+use Rattle.t3_cli.proofs.Followed.{line_matched, matched_follows, counts, writes}
 use Rattle.t3_cli.proofs.commands.carry.act.Goals as goal
-
-pub rewrite-requires-clause-out : goal.rewrite-requires-clause-out
-rewrite-requires-clause-out g c =
-    let names : HasFileNames (Rewrite c.in-Rewrite.image.now c.in-Rewrite.out.now c.in-Rewrite.mask) = subst HasFileNames (ap command_value c.in-Rewrite.is) c.requires.names in
-    names.1
 
 pub returns-in-Absent-clause-follows : goal.returns-in-Absent-clause-follows
 returns-in-Absent-clause-follows g c =
@@ -31,10 +29,18 @@ returns-in-Refused-clause-follows g c =
     line_matched command command c.args.read (read.Refused c.in-Refused.place c.in-Refused.why) string_bytes (g.D.Depot.files c.args.depot.now) _ _ c.refused-line.result
     (refused_line c.in-Refused.why c.in-Refused.place) ImageRefused _ refl c.in-Refused.is refl c.refused-line.ensures c.answer-in-Refused.ensures.shown
 
+pub returns-in-Counted-clause-follows : goal.returns-in-Counted-clause-follows
+returns-in-Counted-clause-follows g c =
+    let command = command_value c.args.command in
+    let suits = subst (IsAsWanted (wanted_of command)) c.in-Counted.is c.requires.wanted in
+    line_matched command command c.args.read (read.Counted c.in-Counted.totals) string_bytes (g.D.Depot.files c.args.depot.now) _ _ c.check_line.result
+    (totals_text c.in-Counted.totals) Done _ refl c.in-Counted.is (counts command c.in-Counted.totals suits) c.check_line.ensures c.answer-in-Counted.ensures.shown
+
 pub returns-in-Check-clause-follows : goal.returns-in-Check-clause-follows
 returns-in-Check-clause-follows g c =
-    line_matched (command_value c.args.command) (Check c.in-Check.image.now) c.args.read (read.Image c.in-Image.image) string_bytes (g.D.Depot.files c.args.depot.now) _ _ c.check_line.result
-    (check_text c.in-Image.image) Done _ (ap command_value c.in-Check.is) c.in-Image.is refl c.check_line.ensures c.answer-in-Check.ensures.shown
+    let line = subst (λ totals. IfOk c.check_line-in-Check.result (λ l. string_bytes l ≡ totals_text totals)) c.totals.ensures c.check_line-in-Check.ensures in
+    line_matched (command_value c.args.command) (Check c.in-Check.image.now) c.args.read (read.Image c.in-Image.image) string_bytes (g.D.Depot.files c.args.depot.now) _ _ c.check_line-in-Check.result
+    (check_text c.in-Image.image) Done _ (ap command_value c.in-Check.is) c.in-Image.is refl line c.answer-in-Check.ensures.shown
 
 pub returns-in-Show-clause-follows : goal.returns-in-Show-clause-follows
 returns-in-Show-clause-follows g c =
@@ -49,15 +55,17 @@ returns-in-BadLine-clause-follows g c =
 
 pub returns-in-List-clause-follows : goal.returns-in-List-clause-follows
 returns-in-List-clause-follows g c =
+    let listed = listing c.in-Image.image in
     matched_follows (command_value c.args.command) (Listing c.in-List.image.now c.in-List.out.now) c.args.read (read.Image c.in-Image.image)
-    (g.D.Depot.files c.args.depot.now) _ _ _ c.write_listing.result (ap command_value c.in-List.is) c.in-Image.is
-    (putting c.in-List.out.now (listing c.in-Image.image), refl, c.write_listing.ensures.follows)
+    (g.D.Depot.files c.args.depot.now) _ _ _ c.put_and_show-in-List.result (ap command_value c.in-List.is) c.in-Image.is
+    (putting c.in-List.out.now listed, refl, c.put_and_show-in-List.ensures.follows listed c.list-text.ensures.listing)
 
 pub returns-in-Asm-clause-follows : goal.returns-in-Asm-clause-follows
 returns-in-Asm-clause-follows g c =
+    let written = text c.in-Image.image in
     matched_follows (command_value c.args.command) (Asm c.in-Asm.source.now c.in-Asm.out.now) c.args.read (read.Image c.in-Image.image)
-    (g.D.Depot.files c.args.depot.now) _ _ _ c.rewrite-in-Asm.result (ap command_value c.in-Asm.is) c.in-Image.is
-    (putting c.in-Asm.out.now (text c.in-Image.image), refl, c.rewrite-in-Asm.ensures.follows)
+    (g.D.Depot.files c.args.depot.now) _ _ _ c.put_and_show-in-Asm.result (ap command_value c.in-Asm.is) c.in-Image.is
+    (putting c.in-Asm.out.now written, refl, c.put_and_show-in-Asm.ensures.follows written c.write_image-text-in-Asm.ensures)
 
 pub returns-in-Run-clause-follows : goal.returns-in-Run-clause-follows
 returns-in-Run-clause-follows g c =
@@ -66,6 +74,21 @@ returns-in-Run-clause-follows g c =
 
 pub returns-in-Rewrite-clause-follows : goal.returns-in-Rewrite-clause-follows
 returns-in-Rewrite-clause-follows g c =
-    matched_follows (command_value c.args.command) (Rewrite c.in-Rewrite.image.now c.in-Rewrite.out.now c.in-Rewrite.mask) c.args.read (read.Image c.in-Image.image)
-    (g.D.Depot.files c.args.depot.now) _ _ _ c.rewrite.result (ap command_value c.in-Rewrite.is) c.in-Image.is
-    (putting c.in-Rewrite.out.now (written_text c.in-Rewrite.mask c.in-Image.image), refl, c.rewrite.ensures.follows)
+    let written = written_text c.in-Rewrite.mask c.in-Image.image in
+    let is = subst (λ i. IfOk c.write_image-text.result (λ (b : Vec ℕ). b.items ≡ text i)) c.masked.ensures c.write_image-text.ensures in
+    matched_follows (command_value c.args.command) (Rewrite c.in-Rewrite.image.now c.in-Rewrite.out.now c.in-Rewrite.mask)
+    c.args.read (read.Image c.in-Image.image)
+    (g.D.Depot.files c.args.depot.now) _ _ _ c.put_and_show-in-Rewrite.result (ap command_value c.in-Rewrite.is) c.in-Image.is
+    (putting c.in-Rewrite.out.now written, refl, c.put_and_show-in-Rewrite.ensures.follows written is)
+
+pub returns-in-Rewritten-clause-follows : goal.returns-in-Rewritten-clause-follows
+returns-in-Rewritten-clause-follows g c =
+    let command = command_value c.args.command in
+    let written = c.in-Rewritten.text.items in
+    let wants = subst (IsAsWanted (wanted_of command)) c.in-Rewritten.is c.requires.wanted in
+    let P : List ℕ → Type 0 = λ out. Follows (putting out written) (g.D.Depot.files c.args.depot.now) (g.D.Depot.files c.put_and_show.new.depot)
+    (g.C.Console.session c.args.console.now) (g.C.Console.session c.put_and_show.new.console) c.put_and_show.result in
+    let follows = subst P c.out-out.ensures (c.put_and_show.ensures.follows written refl) in
+    matched_follows command command c.args.read (read.Rewritten c.in-Rewritten.mask c.in-Rewritten.text) (g.D.Depot.files c.args.depot.now) _ _ _
+    c.put_and_show.result refl c.in-Rewritten.is
+    (putting (out_of command) written, (wants, writes command c.in-Rewritten.mask written wants), follows)

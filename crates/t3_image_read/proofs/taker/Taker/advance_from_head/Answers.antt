@@ -10,17 +10,17 @@ use Rattle.t3_image_read.specs.Inner.Steps.{stream_of}
 use Rattle.t3_image_read.proofs.Steps.{at_part, stream_of-at, head_advances, head_refused}
 use Rattle.t3_image_read.proofs.taker.Taker.advance_from_head.Goals as goal
 
-pub returns-then-len-eq-HEAD_SIZE-clause-advanced :
-    goal.returns-then-len-eq-HEAD_SIZE-clause-advanced
-returns-then-len-eq-HEAD_SIZE-clause-advanced c =
+pub returns-clause-advanced :
+    goal.returns-clause-advanced
+returns-clause-advanced c =
     let t = c.args.self.now in
     let head = c.read_head-self.result in
-    let text = c.read_head-self.ensures.text ∙ c.deref-then-len-eq-HEAD_SIZE.ensures.value in
+    let text = c.read_head-self.ensures.text ∙ c.deref-2.ensures.value in
     let at = at_part t InHead c.requires.part c.requires.at in
-    let whole = head_advances head t.blocks.items t.held.items c.read_head-self.ensures.head text at.0 in
+    let whole = head_advances head t.blocks t.held.items c.read_head-self.ensures.head text at.0 in
     let none = c.clear.ensures.items in (
       record { at = record { prefix = whole.prefix; place_is = whole.place }; good = tt; short = omega (arith, ap length none) },
-      ap (λ h. prefix_text head t.blocks.items ++ h) none ∙ append-nil (prefix_text head t.blocks.items) ∙ whole.is
+      ap (λ h. prefix_text head t.blocks ++ h) none ∙ append-nil (prefix_text head t.blocks) ∙ whole.is
           ∙ sym (stream_of-at t InHead c.requires.part),
     )
 
