@@ -26,9 +26,10 @@ build/t3_store_bench: $(SOURCES)
 	cd crates/t3_store_bench && rm -f out/t3_store_bench && { rt run -- objects 1 || true; } && test -x out/t3_store_bench
 	cp crates/t3_store_bench/out/t3_store_bench $@
 
-# A first look, within a minute: built once, without its proofs, to assemble two sources and to run the images of them.
+# A first look: built once, without its proofs, to assemble two sources and to run the images of them. No program
+# is kept.
 demo: examples/answer.t3
-	@echo 'This build is not proved: make proves the program and builds it.'
+	@echo 'This takes about a minute. The build is not proved, and is not kept: make proves the program and builds it.'
 	@rm -rf build/demo && mkdir -p build/demo
 	@for story in answer counter; do \
 		cp examples/$$story.t3s build/demo/$$story-asm && printf 'asm\n{}\n%s.t3\n' $$story > build/demo/$$story-asm.args; \
@@ -39,7 +40,7 @@ demo: examples/answer.t3
 		-e '/^ok bytes=/p' -e '/^[0-9]*$$/p' build/demo.out
 
 examples/answer.t3: examples/make.sh
-	sh examples/make.sh
+	@sh examples/make.sh
 
 test:
 	.ci/run
@@ -55,10 +56,15 @@ bench: build/t3 build/t3_page build/t3_store_bench
 	bench/store
 	bench/undo
 
+# The program, its manual page, and its completions for bash and zsh.
+SHARE = $(DESTDIR)$(PREFIX)/share
 install: build/t3
-	install -d "$(DESTDIR)$(PREFIX)/bin" "$(DESTDIR)$(PREFIX)/share/man/man1"
+	install -d "$(DESTDIR)$(PREFIX)/bin" "$(SHARE)/man/man1"
+	install -d "$(SHARE)/bash-completion/completions" "$(SHARE)/zsh/site-functions"
 	install -m 755 build/t3 "$(DESTDIR)$(PREFIX)/bin/t3"
-	install -m 644 docs/t3.1 "$(DESTDIR)$(PREFIX)/share/man/man1/t3.1"
+	install -m 644 docs/t3.1 "$(SHARE)/man/man1/t3.1"
+	install -m 644 completions/t3.bash "$(SHARE)/bash-completion/completions/t3"
+	install -m 644 completions/_t3 "$(SHARE)/zsh/site-functions/_t3"
 
 clean:
 	rm -rf build

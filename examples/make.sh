@@ -1,6 +1,7 @@
 #!/bin/sh
-# Makes the sample images: one with a block that is kept as bytes, one that is refused, a story that
-# says 42, and one with a block of every kind. The stories in sources, *.t3s, are for `t3 asm`, which made counter.t3.
+# Makes the sample images. Each is named for what it shows: an image that has no code and so can't be run,
+# one with a malformed block, which is refused, a story that says 42, and an image with a block of every kind.
+# The sources, *.t3s, are for `t3 asm`, which made counter.t3.
 set -eu
 cd "$(dirname "$0")"
 
@@ -17,16 +18,17 @@ end_bytes() {
 
 {
     head_bytes
+    # A block of an unknown name, which is kept as bytes.
     printf 'ZZZZ\003\000\000\000\000\000\001\002\003'
     end_bytes
-} > sample.t3
+} > no_code.t3
 
 {
     head_bytes
     # A list that says that it has two names, and has one.
     printf 'FNSD\021\000\000\000\001\000\002\000\016tads-io/030007'
     end_bytes
-} > list.t3
+} > malformed.t3
 
 {
     head_bytes

@@ -1,11 +1,9 @@
-//! `t3`: checks, shows, rewrites and runs images of the T3 virtual machine.
+//! `t3`: checks, shows, lists, runs, rewrites and assembles images of the T3 virtual machine.
 //!
 //! All that the program does is [`t3_main`], over the files of the present folder and the standard
-//! streams. The tests of this crate run it over devices in memory.
+//! streams. The crates of tests over [`t3_main`] (`t3_command_tests`, `t3_run_tests` and their like)
+//! call it over devices in memory.
 #![tactic(auto)]
-
-#[cfg(test)]
-mod tests;
 
 use std::env;
 use std::io::{self, ErrorKind};

@@ -135,14 +135,8 @@ no_kind : (a b c d e f g : Bool) → (a || (b || (c || (d || (e || (f || (g || f
     (cond c stages.PoolHead (cond d stages.PageHead
     (cond e stages.Metaclasses (cond f stages.FunctionSets (cond g stages.Symbols stages.Kept))))))
     ≡ stages.Kept
-no_kind true b c d e f g is = absurd cc
-no_kind false true c d e f g is = absurd cc
-no_kind false false true d e f g is = absurd cc
-no_kind false false false true e f g is = absurd cc
-no_kind false false false false true f g is = absurd cc
-no_kind false false false false false true g is = absurd cc
-no_kind false false false false false false true is = absurd cc
 no_kind false false false false false false false is = refl
+no_kind a b c d e f g is = absurd cc
 
 pub kept_stage : (name : List ℕ) → is_among name layout_names ≡ false → stage_of_name name ≡ stages.Kept
 unfolding stage_of_name

@@ -49,14 +49,8 @@ no_kind : (a b c d e f g : Bool)
     (cond c stages.PoolHead (cond d stages.PageHead
     (cond e stages.Metaclasses (cond f stages.FunctionSets (cond g stages.Symbols stages.Kept))))))) ≡ false
     → (a || (b || (c || (d || (e || (f || (g || false))))))) ≡ false
-no_kind true b c d e f g is = absurd cc
-no_kind false true c d e f g is = absurd cc
-no_kind false false true d e f g is = absurd cc
-no_kind false false false true e f g is = absurd cc
-no_kind false false false false true f g is = absurd cc
-no_kind false false false false false true g is = absurd cc
-no_kind false false false false false false true is = absurd cc
 no_kind false false false false false false false is = refl
+no_kind a b c d e f g is = absurd cc
 
 no_layout : (name : List ℕ) → is_head (stage_of_name name) ≡ false → is_among name layout_names ≡ false
 unfolding stage_of_name

@@ -22,8 +22,6 @@ mod item;
 mod labels;
 mod laws;
 mod level;
-#[cfg(test)]
-mod limit_tests;
 mod lines;
 mod listing;
 mod lists;
@@ -33,8 +31,6 @@ mod refusal;
 mod sizes;
 mod source;
 mod stage;
-#[cfg(test)]
-mod tests;
 mod values;
 
 pub use laws::{list_assembles, listed_lines_read, listing_formed, listing_satisfies, one_source};

@@ -30,21 +30,13 @@ use Rattle.t3_asm_line.proofs.WordLaws.{is_one_line, IsWord, IsWord-bare, closed
 -- ---- fields
 
 sound : (field : Field) → IsSound (layout_of field)
-sound fields.Ubyte = record { few = lit≤ tt; low = lit≤ tt; high = lit< tt }
-sound fields.Uint2 = record { few = lit≤ tt; low = lit≤ tt; high = lit< tt }
-sound fields.Uint4 = record { few = lit≤ tt; low = lit≤ tt; high = lit< tt }
-sound fields.Sbyte = record { few = lit≤ tt; low = lit≤ tt; high = lit< tt }
-sound fields.Int4 = record { few = lit≤ tt; low = lit≤ tt; high = lit< tt }
-sound fields.Address = record { few = lit≤ tt; low = lit≤ tt; high = lit< tt }
-sound fields.Offset = record { few = lit≤ tt; low = lit≤ tt; high = lit< tt }
-sound fields.Value = record { few = lit≤ tt; low = lit≤ tt; high = lit< tt }
-sound fields.Jump = record { few = lit≤ tt; low = lit≤ tt; high = lit< tt }
 sound fields.BlockName = tt
 sound fields.Name = tt
 sound fields.Text = tt
 sound fields.Reserved = tt
 sound fields.Timestamp = tt
 sound fields.Bytes = tt
+sound field = record { few = lit≤ tt; low = lit≤ tt; high = lit< tt }
 
 -- what a layout spells reads back as it, and is a word
 record ReadsBack (layout : Layout) (argument : Argument) : Type 0 where
@@ -57,19 +49,11 @@ reads_back (Number width below most reference) (arguments.Number n) holds fits =
     let small : n < 2 ^ 64 = omega (arith, limit, holds.high) in
     let most_is : nat_le n most ≡ true = le-leb n most fits in
     record { value = rw (number_of-decimal n small, most_is) refl; word = IsWord-decimal n small }
-reads_back (Number width below most reference) (arguments.Address label) holds fits = absurd fits
-reads_back (Number width below most reference) (arguments.Offset label) holds fits = absurd fits
-reads_back (Number width below most reference) (arguments.Text bytes) holds fits = absurd fits
-reads_back (Quoted least most) (arguments.Number n) holds fits = absurd fits
-reads_back (Quoted least most) (arguments.Address label) holds fits = absurd fits
-reads_back (Quoted least most) (arguments.Offset label) holds fits = absurd fits
 reads_back (Quoted least most) (arguments.Text bytes) holds fits =
     record { value = rw (quoted_of-quoted_text bytes fits.0, fits.1) refl; word = IsWord-quoted bytes fits.0 }
-reads_back (Hex least most) (arguments.Number n) holds fits = absurd fits
-reads_back (Hex least most) (arguments.Address label) holds fits = absurd fits
-reads_back (Hex least most) (arguments.Offset label) holds fits = absurd fits
 reads_back (Hex least most) (arguments.Text bytes) holds fits =
     record { value = rw (hex_of-hex_text bytes fits.0, fits.1) refl; word = IsWord-hex bytes fits.0 }
+reads_back layout argument holds fits = absurd fits
 
 pub value_of-spelled : (field : Field) (argument : Argument) → FitsIn (layout_of field) argument
     → value_of field (spelled field argument) ≡ Ok argument
@@ -124,33 +108,9 @@ record IsFound (keyword : Keyword) : Type 0 where
 
 found : (keyword : Keyword) → IsNamed keyword → IsFound keyword
 unfolding label_put keyword_of
-found of.Image named = record { word = IsWord-bare (name_of of.Image) (lit< tt) refl; no_label = refl; found = refl }
-found of.ImageHead named = record { word = IsWord-bare (name_of of.ImageHead) (lit< tt) refl; no_label = refl; found = refl }
-found of.Block named = record { word = IsWord-bare (name_of of.Block) (lit< tt) refl; no_label = refl; found = refl }
-found of.End named = record { word = IsWord-bare (name_of of.End) (lit< tt) refl; no_label = refl; found = refl }
-found of.Entry named = record { word = IsWord-bare (name_of of.Entry) (lit< tt) refl; no_label = refl; found = refl }
-found of.Pool named = record { word = IsWord-bare (name_of of.Pool) (lit< tt) refl; no_label = refl; found = refl }
-found of.Page named = record { word = IsWord-bare (name_of of.Page) (lit< tt) refl; no_label = refl; found = refl }
-found of.Objects named = record { word = IsWord-bare (name_of of.Objects) (lit< tt) refl; no_label = refl; found = refl }
-found of.Object named = record { word = IsWord-bare (name_of of.Object) (lit< tt) refl; no_label = refl; found = refl }
-found of.Metaclass named = record { word = IsWord-bare (name_of of.Metaclass) (lit< tt) refl; no_label = refl; found = refl }
-found of.Prop named = record { word = IsWord-bare (name_of of.Prop) (lit< tt) refl; no_label = refl; found = refl }
-found of.PropBytes named = record { word = IsWord-bare (name_of of.PropBytes) (lit< tt) refl; no_label = refl; found = refl }
-found of.FunctionSet named = record { word = IsWord-bare (name_of of.FunctionSet) (lit< tt) refl; no_label = refl; found = refl }
-found of.Symbol named = record { word = IsWord-bare (name_of of.Symbol) (lit< tt) refl; no_label = refl; found = refl }
-found of.Bytes named = record { word = IsWord-bare (name_of of.Bytes) (lit< tt) refl; no_label = refl; found = refl }
-found of.U1 named = record { word = IsWord-bare (name_of of.U1) (lit< tt) refl; no_label = refl; found = refl }
-found of.U2 named = record { word = IsWord-bare (name_of of.U2) (lit< tt) refl; no_label = refl; found = refl }
-found of.U4 named = record { word = IsWord-bare (name_of of.U4) (lit< tt) refl; no_label = refl; found = refl }
-found of.Text named = record { word = IsWord-bare (name_of of.Text) (lit< tt) refl; no_label = refl; found = refl }
-found of.Hold named = record { word = IsWord-bare (name_of of.Hold) (lit< tt) refl; no_label = refl; found = refl }
-found of.Method named = record { word = IsWord-bare (name_of of.Method) (lit< tt) refl; no_label = refl; found = refl }
-found of.Table named = record { word = IsWord-bare (name_of of.Table) (lit< tt) refl; no_label = refl; found = refl }
-found of.Handler named = record { word = IsWord-bare (name_of of.Handler) (lit< tt) refl; no_label = refl; found = refl }
-found of.Case named = record { word = IsWord-bare (name_of of.Case) (lit< tt) refl; no_label = refl; found = refl }
-found of.Default named = record { word = IsWord-bare (name_of of.Default) (lit< tt) refl; no_label = refl; found = refl }
 found of.Label named = absurd named
 found (of.Instruction opcode) named = absurd named
+found keyword named = record { word = IsWord-bare (name_of keyword) (lit< tt) refl; no_label = refl; found = refl }
 
 -- ---- lines
 

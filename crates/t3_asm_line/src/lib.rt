@@ -29,13 +29,9 @@ mod laws;
 mod line;
 mod lines;
 mod listing;
-#[cfg(test)]
-mod listing_tests;
 mod numbers;
 mod quoted;
 mod refusal;
-#[cfg(test)]
-mod tests;
 mod value;
 mod words;
 

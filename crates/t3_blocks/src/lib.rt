@@ -31,8 +31,6 @@ mod refusal;
 mod size;
 mod split;
 mod symbols;
-#[cfg(test)]
-mod tests;
 
 pub use append::append_block;
 pub use block::{Block, block_spelling};

@@ -89,11 +89,8 @@ cut_not_usage : (answer : Status) → CutsShort answer → answer ≢ Usage
 cut_not_usage answer cut is = let P : Status → Type 0 = CutsShort in subst P is cut
 
 end_not_usage : (end : Option End) → status_of end ≢ Usage
-end_not_usage None = λ e. absurd cc
 end_not_usage (Some ends.Returned) = λ e. absurd cc
-end_not_usage (Some (ends.Unhandled object fault)) = λ e. absurd cc
-end_not_usage (Some (ends.BadCode at cause)) = λ e. absurd cc
-end_not_usage (Some ends.StoreFull) = λ e. absurd cc
+end_not_usage end = λ e. absurd cc
 
 -- an outcome with another status
 other_status : (outcome : Outcome) (status : Status) (text : List ℕ) → outcome ≡ showing status text → status ≢ Usage

@@ -9,7 +9,7 @@ use Rattle.t3_cli.specs.declared.status.Status.{Status}
 use Rattle.t3_cli.specs.declared.status.Status.TheVariants.{Done, Usage, Absent, ImageRefused, LoadRefused, Unhandled, BadCode, StoreFull, StepLimit, SourceRefused, DepotFault, ConsoleFault, NoMemory}
 use Rattle.t3_interp.specs.declared.event.End.{End}
 use Rattle.t3_interp.specs.declared.event.End.TheVariants as ends
-use Rattle.t3_cli.specs.Command.{CommandValue, Check, Show, Run, Rewrite, Listing, Asm, RunOptions}
+use Rattle.t3_cli.specs.Command.{CommandValue, Run, Asm, RunOptions}
 use Rattle.t3_cli.specs.Lines.{absent_line, refused_line, bad_line, load_line}
 use Rattle.t3_cli.specs.Outcome.{Outcome, showing, IsResult, IsInputOutcome, IsFileOutcome, IsImageOutcome, IsRunOutcome, IsTextOutcome, IsSourceOutcome, assembled, InputFile, ImageFile, SourceFile, input_of, BeginsWith, read_bytes, shown_of, status_of}
 use Rattle.t3_cli.specs.Cause.{Cause, WordsCause, CommandCause, IsAbsent, IsRefusedImage, IsRefusedSource, IsUnloadable, EndsBy, RunsFile}
@@ -49,14 +49,10 @@ image_cause : (command : CommandValue) (name file : List ℕ) (image : ImageValu
     → input_of command ≡ ImageFile name
     → get files name ≡ Some file → BeginsWith (read_bytes file) image → IsImageOutcome command image outcome
     → HasCause outcome.status command files input
-image_cause (Check own) name file image files input outcome reads there begins is = inl (ap (λ (o : Outcome). o.status) is)
-image_cause (Show own) name file image files input outcome reads there begins is = inl (ap (λ (o : Outcome). o.status) is)
-image_cause (Rewrite own out mask) name file image files input outcome reads there begins is = inl (ap (λ (o : Outcome). o.status) is)
-image_cause (Listing own out) name file image files input outcome reads there begins is = inl (ap (λ (o : Outcome). o.status) is)
-image_cause (Asm own out) name file image files input outcome reads there begins is = inl (ap (λ (o : Outcome). o.status) is)
 image_cause (Run own options) name file image files input outcome reads there begins is =
     let same : own ≡ name = cc in
     run_cause own file image options files input outcome (ap (get files) same ∙ there) begins is
+image_cause command name file image files input outcome reads there begins is = inl (ap (λ (o : Outcome). o.status) is)
 
 file_cause : (command : CommandValue) (name : List ℕ) (file : Option (List ℕ)) (files : Files) (input : List ℕ) (outcome : Outcome)
     → input_of command ≡ ImageFile name
@@ -76,11 +72,7 @@ file_cause command name (Some file) files input outcome reads there (inr (image,
 written_cause : (command : CommandValue) (name : List ℕ) (image : ImageValue) (files : Files) (input : List ℕ) (outcome : Outcome)
     → input_of command ≡ SourceFile name → IsImageOutcome command image outcome → HasCause outcome.status command files input
 written_cause (Asm own out) name image files input outcome reads is = inl (ap (λ (o : Outcome). o.status) is)
-written_cause (Check own) name image files input outcome reads is = absurd cc
-written_cause (Show own) name image files input outcome reads is = absurd cc
-written_cause (Rewrite own out mask) name image files input outcome reads is = absurd cc
-written_cause (Listing own out) name image files input outcome reads is = absurd cc
-written_cause (Run own options) name image files input outcome reads is = absurd cc
+written_cause command name image files input outcome reads is = absurd cc
 
 source_cause : (command : CommandValue) (name file : List ℕ) (found : Result ImageValue AsmRefusal) (files : Files) (input : List ℕ) (outcome : Outcome)
     → input_of command ≡ SourceFile name → get files name ≡ Some file → assembled (read_bytes file) ≡ found
@@ -120,16 +112,7 @@ cause_not_cut : (status : Status) (command : CommandValue) (files : Files) (inpu
 cause_not_cut DepotFault command files input cause = absurd cause
 cause_not_cut ConsoleFault command files input cause = absurd cause
 cause_not_cut NoMemory command files input cause = absurd cause
-cause_not_cut Done command files input cause = λ cut. cut
-cause_not_cut Usage command files input cause = λ cut. cut
-cause_not_cut Absent command files input cause = λ cut. cut
-cause_not_cut ImageRefused command files input cause = λ cut. cut
-cause_not_cut LoadRefused command files input cause = λ cut. cut
-cause_not_cut Unhandled command files input cause = λ cut. cut
-cause_not_cut BadCode command files input cause = λ cut. cut
-cause_not_cut StoreFull command files input cause = λ cut. cut
-cause_not_cut StepLimit command files input cause = λ cut. cut
-cause_not_cut SourceRefused command files input cause = λ cut. cut
+cause_not_cut status command files input cause = λ cut. cut
 
 words_not_cut : (status : Status) (command : Option CommandValue) (files : Files) (input : List ℕ) → WordsCause status command files input
     → ¬ CutsShort status

@@ -62,12 +62,8 @@ one_run_outcome image options a b (inr x) (inr y) =
 
 one_image_outcome : (command : CommandValue) (image : ImageValue) (a b : Outcome) → IsImageOutcome command image a
     → IsImageOutcome command image b → a ≡ b
-one_image_outcome (Check name) image a b x y = x ∙ sym y
-one_image_outcome (Show name) image a b x y = x ∙ sym y
-one_image_outcome (Rewrite name out mask) image a b x y = x ∙ sym y
-one_image_outcome (Listing name out) image a b x y = x ∙ sym y
-one_image_outcome (Asm name out) image a b x y = x ∙ sym y
 one_image_outcome (Run name options) image a b x y = one_run_outcome image options a b x y
+one_image_outcome command image a b x y = x ∙ sym y
 
 -- bytes that begin with an image aren't refused
 begins_or_refused : (bytes : List ℕ) (place : ℕ) (why : ReadWhy) (image : ImageValue) → Refused bytes place why → BeginsWith bytes image → ⊥
@@ -184,13 +180,6 @@ file_outcome : (command : CommandValue) (name : List ℕ) (file : Option (List �
     → file_of (input_of command) ≡ name → ReadsBytes file found
     → IsReadOutcome command found outcome → IsFileOutcome command name file outcome
 file_outcome command name None read.Absent outcome named reads is = is ∙ ap (λ n. showing Absent (absent_line n)) named
-file_outcome command name None (read.Refused place why) outcome named reads is = absurd reads
-file_outcome command name None (read.BadLine line why) outcome named reads is = absurd reads
-file_outcome command name None (read.Counted totals) outcome named reads is = absurd reads
-file_outcome command name None (read.Rewritten mask written) outcome named reads is = absurd reads
-file_outcome command name None (read.Image image) outcome named reads is = absurd reads
-file_outcome command name (Some file) read.Absent outcome named reads is = absurd reads
-file_outcome command name (Some file) (read.BadLine line why) outcome named reads is = absurd reads
 file_outcome command name (Some file) (read.Refused place why) outcome named reads is =
     inl (record { place = place; why = why; refused = reads; is = is })
 file_outcome command name (Some file) (read.Counted totals) outcome named reads is =
@@ -198,29 +187,23 @@ file_outcome command name (Some file) (read.Counted totals) outcome named reads 
 file_outcome command name (Some file) (read.Rewritten mask written) outcome named reads is =
     inr (reads.0, reads.1, written_outcome command mask written.items reads.0 outcome reads.2 is.0 is.1)
 file_outcome command name (Some file) (read.Image image) outcome named reads is = inr (image, reads, is)
+file_outcome command name file found outcome named reads is = absurd reads
 
 -- what was read of a source's file
 assembled_outcome : (command : CommandValue) (bytes : List ℕ) (found : ReadImage) (outcome : Outcome) → Assembles bytes found
     → IsReadOutcome command found outcome → IsSourceOutcome command (assembled bytes) outcome
-assembled_outcome command bytes read.Absent outcome says is = absurd says
-assembled_outcome command bytes (read.Refused place why) outcome says is = absurd says
-assembled_outcome command bytes (read.Counted totals) outcome says is = absurd says
-assembled_outcome command bytes (read.Rewritten mask written) outcome says is = absurd says
 assembled_outcome command bytes (read.BadLine line why) outcome says is =
     subst (λ (r : Result ImageValue AsmRefusal). IsSourceOutcome command r outcome) (sym says) is
 assembled_outcome command bytes (read.Image image) outcome says is =
     subst (λ (r : Result ImageValue AsmRefusal). IsSourceOutcome command r outcome) (sym says) is
+assembled_outcome command bytes found outcome says is = absurd says
 
 text_outcome : (command : CommandValue) (name : List ℕ) (file : Option (List ℕ)) (found : ReadImage) (outcome : Outcome)
     → file_of (input_of command) ≡ name → ReadsText file found
     → IsReadOutcome command found outcome → IsTextOutcome command name file outcome
 text_outcome command name None read.Absent outcome named reads is = is ∙ ap (λ n. showing Absent (absent_line n)) named
-text_outcome command name None (read.Refused place why) outcome named reads is = absurd reads
-text_outcome command name None (read.BadLine line why) outcome named reads is = absurd reads
-text_outcome command name None (read.Counted totals) outcome named reads is = absurd reads
-text_outcome command name None (read.Rewritten mask written) outcome named reads is = absurd reads
-text_outcome command name None (read.Image image) outcome named reads is = absurd reads
 text_outcome command name (Some file) found outcome named reads is = assembled_outcome command (read_bytes file) found outcome reads is
+text_outcome command name None found outcome named reads is = absurd reads
 
 input_outcome : (command : CommandValue) (input : InputFile) (files : Files) (found : ReadImage) (outcome : Outcome)
     → input_of command ≡ input → ReadsInput (Some files) input (Ok found)

@@ -1,4 +1,4 @@
-//! Images that are read, shown and written anew.
+//! Images that are read or assembled, shown, and written.
 
 pub(crate) mod image_lines;
 pub(crate) mod put;

@@ -1,4 +1,5 @@
-//! What the program `t3` does: checks, shows, rewrites and runs images of the T3 virtual machine.
+//! What the program `t3` does: checks, shows, lists, runs, rewrites and assembles images of the T3 virtual
+//! machine.
 //!
 //! All of it is [`t3_main`], which the program calls over the files of the present folder and the standard
 //! streams. Over devices in memory it does the same:

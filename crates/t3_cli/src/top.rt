@@ -21,10 +21,12 @@ use t3_io::{Console, Depot};
 ///
 /// `check IMAGE` shows `ok blocks=B bytes=U`, and `show IMAGE` a line for each block before it. `rewrite
 /// IN OUT [--mask=N]` puts the image as written anew, its pages under the mask where one is given, and
-/// shows `ok bytes=N`. `run IMAGE [--steps=N]` runs the image by at most so many steps, and shows what it
-/// says and, if it didn't return, how it ended; of an image of which no program is made it shows `load
-/// refused RULE`, by the first rule that it breaks. Each shows that the file isn't there, or why it is no
-/// image. Words that are no command show how the program is used.
+/// shows `ok bytes=N`; `list IMAGE OUT` does so with a source that assembles to the image, and `asm SOURCE
+/// OUT` with the image that a source says, or shows the source's first bad line. `run IMAGE [--steps=N]`
+/// runs the image by at most so many steps, and shows what it says and, if it didn't return, how it ended;
+/// of an image of which no program is made it shows `load refused RULE`, by the first rule that it breaks.
+/// Each shows that the file isn't there, and each but `asm` why it is no image. Words that are no command
+/// show how the program is used.
 ///
 /// `DepotFault` and `ConsoleFault` come exactly where that device counted a fault. `NoMemory` is meant
 /// for refused allocations, though no clause ties it to them. Each other answer comes with its whole

@@ -9,8 +9,6 @@
 #![tactic(auto)]
 
 mod page;
-#[cfg(test)]
-mod tests;
 mod words;
 
 pub use page::Page;

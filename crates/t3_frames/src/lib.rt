@@ -15,7 +15,5 @@
 mod frames;
 mod mark;
 mod stack;
-#[cfg(test)]
-mod tests;
 
 pub use frames::{Frames, VALUE_LIMIT};

@@ -14,8 +14,6 @@ mod bytes;
 mod holder;
 mod no_memory;
 mod number;
-#[cfg(test)]
-mod tests;
 
 pub use bytes::Bytes;
 pub use holder::{Holder, Raw, holder_of, holder_text, raw_bytes, raw_of, read_raw};

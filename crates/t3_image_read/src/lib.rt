@@ -23,8 +23,6 @@ mod refusal;
 mod sink;
 mod taker;
 mod tally;
-#[cfg(test)]
-mod tests;
 
 pub use header::{HEAD_SIZE, HEADER_SIZE, SIGNATURE, VERSION};
 pub use image::{Head, Image, Placed, PlacedBlock};

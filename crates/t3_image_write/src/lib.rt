@@ -21,8 +21,6 @@ mod laws;
 mod masking;
 mod rewriter;
 mod size;
-#[cfg(test)]
-mod tests;
 mod write;
 
 pub use laws::written_reads;

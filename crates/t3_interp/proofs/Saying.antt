@@ -7,7 +7,7 @@ use Rattle.std.specs.List.{list_any}
 use Rattle.std.proofs.lemmas.List.Folds.{list_any-append}
 use Rattle.t3_ops.specs.declared.fault.Fault.TheVariants.{Stale, Kind}
 use Rattle.t3_store.specs.Store.{StoreValue}
-use Rattle.t3_interp.specs.Search.{is_stale, kind_fault}
+use Rattle.t3_ops.specs.Values.{is_stale, kind_fault}
 use Rattle.t3_holder.specs.declared.holder.Holder.{Holder}
 use Rattle.t3_interp.specs.Values.{said_text, said_texts}
 use Rattle.t3_interp.specs.Inner.Acting.{Appends}

@@ -2,7 +2,7 @@
 -- tads-objects and on metaclasses).
 use Rattle.std.specs.Prelude.{ℕ, ◌==◌, Bool, true, false, ◌||◌, nat_le, List, [], ◌∷◌, Option, Some, None, Result, Ok, Err, is_some, is_none, ◌&&◌, option_map, if◌then◌else◌}
 use Rattle.std.specs.FinMap.{get}
-use Rattle.std.specs.List.{list_any, position_from}
+use Rattle.std.specs.List.{position_from}
 use Rattle.t3_holder.specs.declared.holder.Holder.{Holder}
 use Rattle.t3_holder.specs.declared.holder.Holder.TheVariants.{Obj}
 use Rattle.t3_undo.specs.declared.cell.Cell.TheVariants.{Prop}
@@ -16,18 +16,9 @@ use Rattle.t3_load.specs.declared.kinds.MetaKind.{MetaKind}
 use Rattle.t3_load.specs.declared.kinds.MetaKind.TheVariants as metas
 use Rattle.t3_load.specs.declared.kinds.KindEntry.{KindEntry}
 use Rattle.t3_ops.specs.declared.fault.Fault.{Fault}
-use Rattle.t3_ops.specs.declared.fault.Fault.TheVariants.{NotObject, Kind as KindFault, Stale}
+use Rattle.t3_ops.specs.declared.fault.Fault.TheVariants.{NotObject, Stale}
 
 -- ---- which object a value is
-
--- a reference to an object that isn't there
-abbrev pub is_stale : StoreValue → Holder → Bool
-is_stale store (Obj number) = is_none (value_at store number)
-is_stale store _ = false
-
--- values of other kinds than are wanted, of which stale references are told first
-abbrev pub kind_fault : StoreValue → List Holder → Fault
-kind_fault store values = if list_any (is_stale store) values then Stale else KindFault
 
 abbrev pub is_tads : Value → Bool
 is_tads value = is_some (supers_of value)

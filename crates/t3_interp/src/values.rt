@@ -2,7 +2,7 @@
 ghost use Rattle.std.specs.Prelude.{◌≡◌, IfOk};
 ghost use Rattle.t3_tadsobj.specs.Order.{IsAcyclicFrom};
 ghost use Rattle.t3_store.specs.Whole.{supers_of_live};
-ghost use Rattle.t3_interp.specs.Search.{tads_object as tads_object_of, is_stale as is_stale_in, kind_fault as kind_fault_of};
+ghost use Rattle.t3_interp.specs.Search.{tads_object as tads_object_of};
 
 use t3_holder::Holder;
 use t3_ops::Fault;
@@ -21,28 +21,5 @@ pub(crate) fn tads_object(store: &Store, value: Holder) -> Result<u32, Fault>
             None => Err(Fault::Stale),
         },
         _ => Err(Fault::NotObject),
-    }
-}
-
-/// The fault of values that are of other kinds than are wanted: `Stale` where one is a reference to an object
-/// that isn't there, and else `Kind`.
-#[cold]
-pub(crate) fn kind_fault(store: &Store, values: &[Holder]) -> Fault
-    ensures { result ≡ kind_fault_of store.now.store values.now }
-{
-    for value in values {
-        if is_stale(store, *value) {
-            return Fault::Stale;
-        }
-    }
-    Fault::Kind
-}
-
-fn is_stale(store: &Store, value: Holder) -> bool
-    ensures { result ≡ is_stale_in store.now.store value }
-{
-    match value {
-        Holder::Obj(number) => !store.live(number),
-        _ => false,
     }
 }

@@ -26,8 +26,6 @@ mod refusal;
 mod schedule;
 mod streams;
 mod sure;
-#[cfg(test)]
-mod tests;
 
 pub use console::Console;
 pub use depot::{Depot, Got};

@@ -16,8 +16,6 @@
 mod line;
 mod reader;
 mod taking;
-#[cfg(test)]
-mod tests;
 
 pub use line::WantedLine;
 pub use reader::{LineReader, one_input};

@@ -1,5 +1,5 @@
 -- Elements in their cells: what is found there, and what a change of one does. Other crates may use these.
-use Rattle.std.proofs.Common.{◌≡◌, ◌≢◌, ◌∙◌, ap, sym, refl, ℕ, zero, suc, ◌+◌, ◌<◌, ◌≤◌, ◌==◌, if◌then◌else◌, Bool, true, false, cond, ◌||◌, List, [], ◌∷◌, ◌++◌, length, slice_get, Option, None, Some, IsTrue, is_some, true≢false, count_by, get_or, nat_lt, ltb-true, ltb-false, eqb-true, ne_eqb, ◌-◌, ◌^◌, length-set, arith}
+use Rattle.std.proofs.Common.{◌≡◌, ◌≢◌, ◌∙◌, ap, sym, refl, ℕ, zero, suc, ◌+◌, ◌<◌, ◌≤◌, ◌==◌, if◌then◌else◌, Bool, true, false, cond, List, [], ◌∷◌, ◌++◌, length, slice_get, Option, None, Some, IsTrue, is_some, true≢false, count_by, get_or, nat_lt, ltb-true, ltb-false, eqb-true, ne_eqb, ◌-◌, ◌^◌, length-set, arith}
 use Rattle.std.specs.Option.{option_map}
 use Rattle.std.specs.Ordering.{nat_cmp, ordering_then, is_eq}
 use Rattle.std.specs.declared.cmp.Ordering.{Ordering}
@@ -12,10 +12,10 @@ use Rattle.std.proofs.lemmas.Map.Made.{is_some-lookup}
 use Rattle.std.proofs.lemmas.List.Sums.{sum_by-set, sum_by-append, count_by-le-length}
 use Rattle.std.specs.Map.{keys_of, lookup, set_value}
 use Rattle.std.specs.FinMap.{get}
-use Rattle.std.specs.FinSet.{contains, insert, len, contains-insert}
+use Rattle.std.specs.FinSet.{contains, insert, len}
 use Rattle.t3_holder.specs.declared.holder.Holder.{Holder}
 use Rattle.t3_undo.specs.Cell.{cell_cmp_total}
-use Rattle.t3_undo.specs.Content.{Present, Places, shown, is_form}
+use Rattle.t3_undo.specs.Content.{Present, shown, is_form}
 use Rattle.t3_undo.specs.Objects.{set_at}
 use Rattle.t3_undo.specs.Slots as slots
 use Rattle.t3_undo.specs.declared.cell.Cell.{Cell}
@@ -24,7 +24,7 @@ use Rattle.t3_undo.specs.declared.content.Content.{Content}
 use Rattle.t3_undo.specs.declared.content.Content.TheVariants.{Absent, Held, Slot}
 use Rattle.t3_undo.proofs.SlotLists.{same, seen, get-parts_of, contains-places_of, parts_of-set_value, places_of-set_value, parts_of-add-absent, places_of-add, insert-places_of, len-places_of}
 use Rattle.t3_lists.specs.Vector.{content_of, numbered, parts_of, places_of, is_element, HasPlaceBelow}
-use Rattle.t3_lists.specs.Inner.Elements.{index_of, content_found, content_in, element_of, exchanged, with_next, AreCounted, HasPlacesTo}
+use Rattle.t3_lists.specs.Inner.Elements.{index_of, content_found, content_in, element_of, exchanged, with_next, AreCounted}
 
 abbrev Elements : Type 0
 Elements = List (Option Holder)
@@ -341,18 +341,3 @@ counted-next elements present (Some index) counted few = record {
     by : (b : Bool) → count_by is_some (cond b (elements ++ None ∷ []) elements) ≡ count_by is_some elements
     by true = let more = sum_by-append (λ (element : Option Holder). cond (is_some element) 1 0) elements (None ∷ []) in omega (arith, more)
     by false = refl
-
--- a place more
-pub more-places : (old new : Places) (count : ℕ) → HasPlacesTo old count → new ≡ insert old (cells.Elem (count + 1))
-    → HasPlacesTo new (count + 1)
-more-places old new count all is number least most =
-    ap (λ places. contains places (cells.Elem number)) is
-    ∙ contains-insert cell_cmp_total old (cells.Elem (count + 1)) (cells.Elem number)
-    ∙ by (number == count + 1) refl
-  where
-    by : (b : Bool) → (number == count + 1) ≡ b
-        → (same (cells.Elem number) (cells.Elem (count + 1)) || contains old (cells.Elem number)) ≡ true
-    by true e = ap (λ b. b || contains old (cells.Elem number)) (same-Elem number (count + 1) ∙ e)
-    by false e =
-        let apart = eqb-false _ _ e in
-        ap (λ b. b || contains old (cells.Elem number)) (same-Elem number (count + 1) ∙ e) ∙ all number least (omega arith)

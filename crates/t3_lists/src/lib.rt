@@ -18,8 +18,6 @@ mod elements;
 mod holders;
 mod law;
 mod list;
-#[cfg(test)]
-mod tests;
 mod text;
 mod vector;
 

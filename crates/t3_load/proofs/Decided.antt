@@ -1,4 +1,4 @@
--- What is decided, and how: both of two, one of two, and the first of a list that breaks a rule.
+-- What is decided, and how: both of two, one of two, and whether a number stands twice.
 use Rattle.std.proofs.Common.{◌≡◌, ℕ, zero, suc, ◌+◌, ◌≤◌, ◌⊎◌, inl, inr, Bool, true, false, cond, List, [], ◌∷◌, ◌++◌, Option, None, Some, nat_eq, map, append_assoc, refl, sym, ap, subst, arith}
 use Rattle.std.specs.Cmp.{nat_eq_equiv}
 use Rattle.std.specs.Prelude.{Contains, is_none}
@@ -8,7 +8,7 @@ use Rattle.std.proofs.lemmas.List.{append-nil}
 use Rattle.std.proofs.lemmas.List.Elements.{Contains-append_right}
 use Rattle.std.proofs.lemmas.Map.Keys.{IsDistinct-push}
 use Rattle.t3_load.specs.Names.{unknown_from}
-use Rattle.t3_load.specs.Rules.{IsFirst, IsFirstTwice}
+use Rattle.t3_load.specs.Rules.{IsFirstTwice}
 use Rattle.t3_load.proofs.Firsts.{among, not_twice}
 
 pub both : {A B : Type 0} → A ⊎ ¬ A → B ⊎ ¬ B → (A × B) ⊎ ¬ (A × B)
@@ -53,28 +53,6 @@ contains_or_not (m ∷ ns) n =
       | inr apart ↦ elim (contains_or_not ns n) [
         | inl there ↦ inl (Contains-append_right (m ∷ []) ns n there)
         | inr none ↦ inr (not_there m ns n apart none)
-      ]
-    ]
-
--- the first that breaks a rule, or all keep it
-pub first_or_all : {X : Type 0} (Broken : X → Type 0) → ((x : X) → Broken x ⊎ ¬ Broken x) → (items : List X)
-    → ((first : X) × IsFirst Broken items first) ⊎ AllByRecursion (λ item. ¬ Broken item) items
-first_or_all Broken decide [] = inr tt
-first_or_all Broken decide (x ∷ items) =
-    elim (decide x) [
-      | inl broken ↦ inl (x, record { before = []; after = items; is = refl; kept = tt; broken = broken })
-      | inr keeps ↦ elim (first_or_all Broken decide items) [
-        | inl found ↦ inl (
-          found.0,
-          record {
-            before = x ∷ found.1.before;
-            after = found.1.after;
-            is = ap (λ xs. x ∷ xs) found.1.is;
-            kept = (keeps, found.1.kept);
-            broken = found.1.broken;
-          },
-        )
-        | inr all ↦ inr (keeps, all)
       ]
     ]
 

@@ -15,7 +15,7 @@ use Rattle.t3_load.specs.declared.kinds.MetaKind.TheVariants as kinds
 use Rattle.t3_load.specs.declared.objects.ImageObject.{ImageObject}
 use Rattle.t3_load.specs.Layout.{SpellsNumber, SpellsHolder, SpellsProp, BeginsTads, BeginsText, BeginsList, BeginsVector, BeginsObject, tads_head}
 use Rattle.t3_load.specs.Inner.Rows.{HasHead}
-use Rattle.t3_load.specs.Rules.{IsFirst}
+use Rattle.t3_pools.specs.First.{IsFirst}
 use Rattle.t3_load.specs.Statics.{StaticValue, IsObjectOf, AreObjectsOf}
 use Rattle.t3_load.proofs.Decided.{bool_or_not, distinct_or_not}
 use Rattle.t3_load.proofs.DecidedItems.{number_or_not, spelled_number, spelled_holder, spelled_prop, row_or_not}

@@ -5,7 +5,9 @@ use Rattle.t3_image_read.specs.declared.image.PlacedBlock.{PlacedBlock}
 use Rattle.t3_pools.specs.Pool.{Paged, said_of}
 use Rattle.t3_pools.specs.declared.refusal.PoolRefusal.{PoolRefusal}
 use Rattle.t3_pools.specs.declared.refusal.PoolRefusal.TheVariants.{NoCode, TwoDefs, TooWide, PageIndex, PageTwice, PageMissing, PageLong, NoMemory}
-use Rattle.t3_pools.specs.Building.{Breaks, KeepsRules, Refuses, count_by, pages_at}
+use Rattle.t3_pools.specs.Building.{Breaks, KeepsRules, Refuses, rules, count_by, pages_at}
+use Rattle.t3_pools.specs.First.{IsFirst}
+use Rattle.t3_pools.proofs.Firsts.{none_first, first_or_all}
 use Rattle.t3_store.specs.declared.limits.StoreLimits.{StoreLimits}
 use Rattle.t3_load.specs.declared.refusal.LoadRefusal.TheVariants.{Pool}
 use Rattle.t3_load.specs.Rules.{Breaks as LoadBreaks, KeepsRules as KeepsAll}
@@ -79,44 +81,29 @@ broken_or_not blocks NoMemory = inr (λ never. never)
 abbrev pub AreDecided : List PlacedBlock → Type 0
 AreDecided blocks = ((why : PoolRefusal) × (why ≢ NoMemory) × Refuses why blocks) ⊎ KeepsRules blocks
 
+-- a refusal for another cause than memory is of the first broken rule, and the other way round
+pub refusal-first : (blocks : List PlacedBlock) (why : PoolRefusal) → why ≢ NoMemory → Refuses why blocks
+    → IsFirst (λ rule. Breaks rule blocks) rules why
+refusal-first blocks NoMemory known refuses = absurd (known refl)
+refusal-first blocks _ known refuses = refuses
+
+first-refusal : (blocks : List PlacedBlock) (why : PoolRefusal) → why ≢ NoMemory → IsFirst (λ rule. Breaks rule blocks) rules why
+    → Refuses why blocks
+first-refusal blocks NoMemory known first = absurd (known refl)
+first-refusal blocks _ known first = first
+
 pub pools_or_first : (blocks : List PlacedBlock) → AreDecided blocks
 pools_or_first blocks =
-    elim (broken_or_not blocks NoCode) [
-      | inl broken ↦ inl (NoCode, (λ e. absurd cc), (broken, tt))
-      | inr a ↦ elim (broken_or_not blocks TwoDefs) [
-        | inl broken ↦ inl (TwoDefs, (λ e. absurd cc), (broken, (a, tt)))
-        | inr b ↦ elim (broken_or_not blocks TooWide) [
-          | inl broken ↦ inl (TooWide, (λ e. absurd cc), (broken, (a, (b, tt))))
-          | inr c ↦ elim (broken_or_not blocks PageIndex) [
-            | inl broken ↦ inl (PageIndex, (λ e. absurd cc), (broken, (a, (b, (c, tt)))))
-            | inr d ↦ elim (broken_or_not blocks PageTwice) [
-              | inl broken ↦ inl (PageTwice, (λ e. absurd cc), (broken, (a, (b, (c, (d, tt))))))
-              | inr e ↦ elim (broken_or_not blocks PageMissing) [
-                | inl broken ↦ inl (PageMissing, (λ e. absurd cc), (broken, (a, (b, (c, (d, (e, tt)))))))
-                | inr f ↦ elim (broken_or_not blocks PageLong) [
-                  | inl broken ↦ inl (PageLong, (λ e. absurd cc), (broken, (a, (b, (c, (d, (e, (f, tt))))))))
-                  | inr g ↦ inr (a, (b, (c, (d, (e, (f, (g, tt)))))))
-                ]
-              ]
-            ]
-          ]
-        ]
-      ]
+    elim (first_or_all (λ rule. Breaks rule blocks) (broken_or_not blocks) rules) [
+      | inl first ↦
+          let known : first.0 ≢ NoMemory = λ none. subst (λ rule. Breaks rule blocks) none first.1.broken in
+          inl (first.0, known, first-refusal blocks first.0 known first.1)
+      | inr keeps ↦ inr keeps
     ]
-
-none_refuses : (blocks : List PlacedBlock) (why : PoolRefusal) → KeepsRules blocks → why ≢ NoMemory → ¬ Refuses why blocks
-none_refuses blocks NoCode keeps known refuses = keeps.0 refuses.0
-none_refuses blocks TwoDefs keeps known refuses = keeps.1.0 refuses.0
-none_refuses blocks TooWide keeps known refuses = keeps.1.1.0 refuses.0
-none_refuses blocks PageIndex keeps known refuses = keeps.1.1.1.0 refuses.0
-none_refuses blocks PageTwice keeps known refuses = keeps.1.1.1.1.0 refuses.0
-none_refuses blocks PageMissing keeps known refuses = keeps.1.1.1.1.1.0 refuses.0
-none_refuses blocks PageLong keeps known refuses = keeps.1.1.1.1.1.1.0 refuses.0
-none_refuses blocks NoMemory keeps known refuses = absurd (known refl)
 
 -- rule 4 is kept
 pub pools_kept : (blocks : List PlacedBlock) → KeepsRules blocks → (limits : StoreLimits) → KeepsAll blocks limits 4 5
 pools_kept blocks keeps limits =
     kept_one blocks limits 4 (λ why of broken.
     let cause : LoadBreaks blocks limits (Pool of.0) = subst (λ w. LoadBreaks blocks limits w) of.1 broken in
-    none_refuses blocks of.0 keeps cause.0 cause.1)
+    none_first (λ rule. Breaks rule blocks) rules keeps of.0 (refusal-first blocks of.0 cause.0 cause.1))

@@ -1,29 +1,17 @@
--- The first of a list that breaks a rule, and the first number that stands twice.
+-- The first number that stands twice.
 use Rattle.std.proofs.Common.{◌≡◌, ℕ, zero, suc, ◌<◌, Bool, true, false, ◌||◌, List, [], ◌∷◌, ◌++◌, not, length, map, take, drop, get_or, nat_eq, refl, sym, ap, ◌∙◌, subst, arith}
 use Rattle.std.specs.Prelude.{Contains}
 use Rattle.std.specs.List.{IsDistinct, AllByRecursion, list_any}
 use Rattle.std.proofs.lemmas.Bool.{eqb-true, eq-eqb}
 use Rattle.std.proofs.lemmas.List.{take-map, get_or-map, length-map}
 use Rattle.std.proofs.lemmas.List.Elements.{Contains-append_right}
-use Rattle.t3_load.specs.Rules.{IsFirst, IsFirstTwice}
+use Rattle.t3_load.specs.Rules.{IsFirstTwice}
 
 -- a list is what stands before an item, the item, and what stands behind it
 pub parts_at : {X : Type 0} (xs : List X) (i : ℕ) (d x : X) → i < length xs → get_or xs i d ≡ x → xs ≡ take i xs ++ x ∷ drop (suc i) xs
 parts_at [] i d x less is = absurd (omega arith)
 parts_at (y ∷ xs) zero d x less is = ap (λ z. z ∷ xs) is
 parts_at (y ∷ xs) (suc i) d x less is = ap (λ rest. y ∷ rest) (parts_at xs i d x (omega arith) is)
-
--- of items that all keep a rule none is the first that breaks it
-pub none_first : {X : Type 0} (Broken : X → Type 0) (items : List X) → AllByRecursion (λ item. ¬ Broken item) items → (first : X)
-    → ¬ IsFirst Broken items first
-none_first {X = X} Broken items all first is =
-    at_place is.before items all is.is
-  where
-    at_place : (before xs : List X) → AllByRecursion (λ item. ¬ Broken item) xs → xs ≡ before ++ first ∷ is.after → ⊥
-    at_place [] [] all e = absurd cc
-    at_place [] (x ∷ xs) all e = all.0 (subst Broken (cc e) is.broken)
-    at_place (b ∷ before) [] all e = absurd cc
-    at_place (b ∷ before) (x ∷ xs) all e = at_place before xs all.1 (cc e)
 
 -- a number for which a test by equality holds is among them
 pub among : (n : ℕ) (ns : List ℕ) → list_any (λ y. nat_eq n y) ns ≡ true → Contains ns n

@@ -4,7 +4,7 @@ use Rattle.std.proofs.lemmas.List.{take_all}
 use Rattle.std.specs.Prelude.{nat_lt}
 use Rattle.std.specs.List.{position, position_or_len, before_first}
 use Rattle.t3_blocks.specs.declared.block.Block.{Block}
-use Rattle.t3_blocks.specs.declared.block.Block.TheVariants.{Entry, Objects, PoolDef, Page, Metas, Functions, Symbols, Opaque}
+use Rattle.t3_blocks.specs.declared.block.Block.TheVariants.{Metas, Functions}
 use Rattle.t3_blocks.specs.Spelling.{IsSpellable}
 use Rattle.t3_image_read.specs.declared.image.PlacedBlock.{PlacedBlock}
 use Rattle.t3_image_read.specs.Validity.{IsGood}
@@ -26,24 +26,12 @@ before_none p xs e = sym (take_all (position_or_len p xs) xs (far (nat_lt (posit
     far false is e = omega (arith, ltb-false (position_or_len p xs) (length xs) is)
 
 few_metas : (block : Block) → IsSpellable block → length (metas_of block) ≤ 65535
-few_metas (Entry code method_size exception_size debug tail) s = omega arith
-few_metas (Objects metaclass flags objects) s = omega arith
-few_metas (PoolDef pool count size) s = omega arith
-few_metas (Page pool index mask bytes) s = omega arith
 few_metas (Metas metas) s = omega (arith, s.0)
-few_metas (Functions names) s = omega arith
-few_metas (Symbols symbols) s = omega arith
-few_metas (Opaque name bytes) s = omega arith
+few_metas block s = omega arith
 
 few_names : (block : Block) → IsSpellable block → length (names_of block) ≤ 65535
-few_names (Entry code method_size exception_size debug tail) s = omega arith
-few_names (Objects metaclass flags objects) s = omega arith
-few_names (PoolDef pool count size) s = omega arith
-few_names (Page pool index mask bytes) s = omega arith
-few_names (Metas metas) s = omega arith
 few_names (Functions names) s = omega (arith, s.0)
-few_names (Symbols symbols) s = omega arith
-few_names (Opaque name bytes) s = omega arith
+few_names block s = omega arith
 
 pub few_metas_of : (placed : PlacedBlock) → IsGood placed → length (metas_of placed.block) ≤ 65535
 few_metas_of placed good = few_metas placed.block good.spellable

@@ -15,7 +15,8 @@ use Rattle.t3_load.specs.declared.objects.ImageObject.{ImageObject}
 use Rattle.t3_load.specs.Names.{metas_in}
 use Rattle.t3_load.specs.Kinds.{kind_entry_of, kind_named, numbers_of}
 use Rattle.t3_load.specs.Statics.{StaticValue, statics_in, kind_at, IsObjectOf, AreObjectsOf}
-use Rattle.t3_load.specs.Rules.{Breaks, KeepsRules, IsFirst, IsFirstTwice, IsNoObject, AreObjectsIn}
+use Rattle.t3_pools.specs.First.{IsFirst}
+use Rattle.t3_load.specs.Rules.{Breaks, KeepsRules, IsFirstTwice, IsNoObject, AreObjectsIn}
 use Rattle.t3_load.specs.Inner.Objects.{entry_kind_at, HasNumbers}
 use Rattle.t3_load.specs.Inner.Deciding.{IsFirstBroken}
 use Rattle.t3_load.specs.declared.refusal.LoadRefusal.TheVariants.{ObjectTwice, ObjectData}
@@ -23,7 +24,8 @@ use Rattle.std.proofs.lemmas.Bool.{ltb-true, ltb-false}
 use Rattle.std.proofs.lemmas.List.{length-map, take-map, get_or-map, map-append, take_more}
 use Rattle.t3_load.specs.ImageObjects.{object_of}
 use Rattle.t3_load.proofs.RuleSteps.{kept_one, kept_both}
-use Rattle.t3_load.proofs.Firsts.{none_first, not_twice, parts_at}
+use Rattle.t3_pools.proofs.Firsts.{none_first}
+use Rattle.t3_load.proofs.Firsts.{not_twice, parts_at}
 
 -- rule 7 is kept
 pub numbers_kept : (blocks : List PlacedBlock)

@@ -5,7 +5,9 @@ use Rattle.std.specs.FinMap.{get, same_map, nat_cmp-IsAntisymmetric}
 use Rattle.std.specs.List.{AllByRecursion, IsDistinct}
 use Rattle.std.proofs.lemmas.Bool.{cases_lt}
 use Rattle.t3_image_read.specs.declared.image.PlacedBlock.{PlacedBlock}
-use Rattle.t3_pools.specs.Building.{Breaks as PoolsBreak, Refuses as PoolsRefuse, Keeps, before}
+use Rattle.t3_pools.specs.Building.{Breaks as PoolsBreak, Refuses as PoolsRefuse, rules}
+use Rattle.t3_pools.specs.First.{IsFirst}
+use Rattle.t3_pools.proofs.Firsts.{one_first}
 use Rattle.t3_pools.specs.declared.refusal.PoolRefusal.{PoolRefusal}
 use Rattle.t3_pools.specs.declared.refusal.PoolRefusal.TheVariants as pools
 use Rattle.t3_store.specs.Value.{Value, Objects}
@@ -17,35 +19,15 @@ use Rattle.t3_load.specs.Entries.{EntryValue}
 use Rattle.t3_load.specs.ImageObjects.{IsHalf, IsOwnAncestor, lacks_super, has_transient_super}
 use Rattle.t3_load.specs.Loading.{ProgramValue, LoadsAs, Loads}
 use Rattle.t3_load.specs.Names.{metas_in}
-use Rattle.t3_load.specs.Rules.{Breaks, KeepsRules, IsFirst, IsFirstTwice, IsNoObject, OfObjects, first_by, rule_of}
+use Rattle.t3_load.specs.Rules.{Breaks, KeepsRules, IsFirstTwice, IsNoObject, OfObjects, first_by, rule_of}
 use Rattle.t3_load.specs.Statics.{StaticValue, statics_in, static_numbers, kind_at}
+use Rattle.t3_load.proofs.DecidedPools.{refusal-first}
 use Rattle.t3_load.proofs.Firsts.{not_twice}
 use Rattle.t3_load.proofs.OneObject.{one_list_of}
 use Rattle.t3_load.proofs.RuleSteps.{IsOfRule, is_of_rule, numbered}
 use Rattle.t3_load.proofs.SuperRules.{of_these}
 
--- ---- the first of a list
-
-one_split : {X : Type 0} (Broken : X → Type 0) (items before other : List X) (x y : X) (after behind : List X)
-    → items ≡ before ++ x ∷ after → items ≡ other ++ y ∷ behind → AllByRecursion (λ item. ¬ Broken item) before
-    → AllByRecursion (λ item. ¬ Broken item) other → Broken x → Broken y → x ≡ y
-one_split Broken items [] [] x y after behind p q kept too at_x at_y = let both : x ∷ after ≡ y ∷ behind = sym p ∙ q in cc
-one_split Broken items [] (o ∷ other) x y after behind p q kept too at_x at_y =
-    let both : x ∷ after ≡ o ∷ (other ++ y ∷ behind) = sym p ∙ q in
-    let here : x ≡ o = cc in
-    absurd (too.0 (subst Broken here at_x))
-one_split Broken items (b ∷ before) [] x y after behind p q kept too at_x at_y =
-    let both : b ∷ (before ++ x ∷ after) ≡ y ∷ behind = sym p ∙ q in
-    let here : y ≡ b = cc in
-    absurd (kept.0 (subst Broken here at_y))
-one_split Broken items (b ∷ before) (o ∷ other) x y after behind p q kept too at_x at_y =
-    let both : b ∷ (before ++ x ∷ after) ≡ o ∷ (other ++ y ∷ behind) = sym p ∙ q in
-    let rest : before ++ x ∷ after ≡ other ++ y ∷ behind = cc in
-    one_split Broken (before ++ x ∷ after) before other x y after behind refl rest kept.1 too.1 at_x at_y
-
-pub one_first : {X : Type 0} (Broken : X → Type 0) (items : List X) (x y : X) → IsFirst Broken items x → IsFirst Broken items y → x ≡ y
-one_first Broken items x y a b =
-    one_split Broken items a.before b.before x y a.after b.after a.is b.is a.kept b.kept a.broken b.broken
+-- ---- the first that stands twice
 
 -- of two fronts of one list the shorter is a front of the other, and what follows it stands in the other
 record IsFrontOf (before other : List ℕ) (n : ℕ) : Type 0 where
@@ -79,87 +61,10 @@ one_twice numbers m n a b =
 
 -- ---- the rules on pools
 
-abbrev every : List PoolRefusal
-every = pools.NoCode ∷ pools.TwoDefs ∷ pools.TooWide ∷ pools.PageIndex ∷ pools.PageTwice ∷ pools.PageMissing ∷ pools.PageLong ∷ []
-
-abbrev rank : PoolRefusal → ℕ
-rank pools.NoCode = 0
-rank pools.TwoDefs = 1
-rank pools.TooWide = 2
-rank pools.PageIndex = 3
-rank pools.PageTwice = 4
-rank pools.PageMissing = 5
-rank pools.PageLong = 6
-rank pools.NoMemory = 7
-
-at_rank : (why : PoolRefusal) → get_or every (rank why) pools.NoMemory ≡ why
-at_rank pools.NoCode = refl
-at_rank pools.TwoDefs = refl
-at_rank pools.TooWide = refl
-at_rank pools.PageIndex = refl
-at_rank pools.PageTwice = refl
-at_rank pools.PageMissing = refl
-at_rank pools.PageLong = refl
-at_rank pools.NoMemory = refl
-
-before_rank : (why : PoolRefusal) → before why ≡ take (rank why) every
-before_rank pools.NoCode = refl
-before_rank pools.TwoDefs = refl
-before_rank pools.TooWide = refl
-before_rank pools.PageIndex = refl
-before_rank pools.PageTwice = refl
-before_rank pools.PageMissing = refl
-before_rank pools.PageLong = refl
-before_rank pools.NoMemory = refl
-
-rank_below : (why : PoolRefusal) → why ≢ pools.NoMemory → rank why < 7
-rank_below pools.NoCode known = omega arith
-rank_below pools.TwoDefs known = omega arith
-rank_below pools.TooWide known = omega arith
-rank_below pools.PageIndex known = omega arith
-rank_below pools.PageTwice known = omega arith
-rank_below pools.PageMissing known = omega arith
-rank_below pools.PageLong known = omega arith
-rank_below pools.NoMemory known = absurd (known refl)
-
-refusal_parts : (blocks : List PlacedBlock) (why : PoolRefusal) → why ≢ pools.NoMemory → PoolsRefuse why blocks
-    → PoolsBreak why blocks × Keeps (before why) blocks
-refusal_parts blocks pools.NoCode known refuses = refuses
-refusal_parts blocks pools.TwoDefs known refuses = refuses
-refusal_parts blocks pools.TooWide known refuses = refuses
-refusal_parts blocks pools.PageIndex known refuses = refuses
-refusal_parts blocks pools.PageTwice known refuses = refuses
-refusal_parts blocks pools.PageMissing known refuses = refuses
-refusal_parts blocks pools.PageLong known refuses = refuses
-refusal_parts blocks pools.NoMemory known refuses = absurd (known refl)
-
-kept_at : (blocks : List PlacedBlock) (rules : List PoolRefusal) (n i : ℕ) (d : PoolRefusal) → i < n → i < length rules
-    → Keeps (take n rules) blocks → ¬ PoolsBreak (get_or rules i d) blocks
-kept_at blocks [] n i d less within kept = absurd (omega arith)
-kept_at blocks (rule ∷ rules) zero i d less within kept = absurd (omega arith)
-kept_at blocks (rule ∷ rules) (suc n) zero d less within kept = kept.0
-kept_at blocks (rule ∷ rules) (suc n) (suc i) d less within kept = kept_at blocks rules n i d (omega arith) (omega arith) kept.1
-
-not_later : (blocks : List PlacedBlock) (a b : PoolRefusal) → a ≢ pools.NoMemory → b ≢ pools.NoMemory → PoolsRefuse a blocks
-    → PoolsRefuse b blocks → ¬ (rank a < rank b)
-not_later blocks a b known_a known_b refuses_a refuses_b less =
-    let kept : Keeps (take (rank b) every) blocks =
-    subst (λ rules. Keeps rules blocks) (before_rank b) (refusal_parts blocks b known_b refuses_b).1 in
-    kept_at blocks every (rank b) (rank a) pools.NoMemory less (rank_below a known_a) kept
-    (subst (λ why. PoolsBreak why blocks) (sym (at_rank a)) (refusal_parts blocks a known_a refuses_a).0)
-
 one_pool_refusal : (blocks : List PlacedBlock) (a b : PoolRefusal) → a ≢ pools.NoMemory → b ≢ pools.NoMemory → PoolsRefuse a blocks
     → PoolsRefuse b blocks → a ≡ b
 one_pool_refusal blocks a b known_a known_b refuses_a refuses_b =
-    elim (cases_lt (rank a) (rank b)) [
-      | inl less ↦ absurd (not_later blocks a b known_a known_b refuses_a refuses_b less)
-      | inr more ↦ elim (cases_lt (rank b) (rank a)) [
-        | inl less ↦ absurd (not_later blocks b a known_b known_a refuses_b refuses_a less)
-        | inr over ↦
-            let same : rank a ≡ rank b = omega arith in
-            sym (at_rank a) ∙ ap (λ n. get_or every n pools.NoMemory) same ∙ at_rank b
-      ]
-    ]
+    one_first (λ rule. PoolsBreak rule blocks) rules a b (refusal-first blocks a known_a refuses_a) (refusal-first blocks b known_b refuses_b)
 
 -- ---- one rule has one refusal
 
@@ -286,21 +191,8 @@ one_program blocks fingerprint limits a b is_a is_b =
 -- ---- one answer
 
 known_rule : (why : LoadRefusal) → why ≢ NoMemory → (1 ≤ rule_of why) × (rule_of why < 15)
-known_rule NoEntry known = (omega arith, omega arith)
-known_rule TwoEntries known = (omega arith, omega arith)
-known_rule HeaderSizes known = (omega arith, omega arith)
-known_rule (Pool cause) known = (omega arith, omega arith)
-known_rule (Metaclass n) known = (omega arith, omega arith)
-known_rule (FunctionSet n) known = (omega arith, omega arith)
-known_rule (ObjectNumber n) known = (omega arith, omega arith)
-known_rule (ObjectTwice n) known = (omega arith, omega arith)
-known_rule (ObjectData n) known = (omega arith, omega arith)
-known_rule (SuperMissing n) known = (omega arith, omega arith)
-known_rule (SuperCycle n) known = (omega arith, omega arith)
-known_rule (TransientSuper n) known = (omega arith, omega arith)
-known_rule Full known = (omega arith, omega arith)
-known_rule Unbuilt known = (omega arith, omega arith)
 known_rule NoMemory known = absurd (known refl)
+known_rule why known = (omega arith, omega arith)
 
 -- an image that keeps all rules isn't refused
 not_refused : (blocks : List PlacedBlock) (limits : StoreLimits) (why : LoadRefusal) → why ≢ NoMemory → KeepsRules blocks limits 1 15

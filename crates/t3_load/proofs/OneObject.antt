@@ -56,55 +56,34 @@ as_tads : (object : NewObject) (bytes : List ℕ) → BeginsObject kinds.Tads ob
     → (supers : List ℕ) × (class : Bool) × (props : List PropValue) × (object ≡ new.Tads supers class props)
     × BeginsTads supers class props bytes
 as_tads (new.Tads supers class props) bytes begins = (supers, class, props, refl, begins)
-as_tads (new.Text text) bytes begins = absurd begins
-as_tads (new.List items) bytes begins = absurd begins
-as_tads (new.Vector items) bytes begins = absurd begins
-as_tads new.Table bytes begins = absurd begins
+as_tads object bytes begins = absurd begins
 
 pub as_text : (object : NewObject) (bytes : List ℕ) → BeginsObject kinds.Text object bytes
     → (text : List ℕ) × (object ≡ new.Text text) × BeginsText text bytes
-as_text (new.Tads supers class props) bytes begins = absurd begins
 as_text (new.Text text) bytes begins = (text, refl, begins)
-as_text (new.List items) bytes begins = absurd begins
-as_text (new.Vector items) bytes begins = absurd begins
-as_text new.Table bytes begins = absurd begins
+as_text object bytes begins = absurd begins
 
 pub as_list : (object : NewObject) (bytes : List ℕ) → BeginsObject kinds.List object bytes
     → (items : List Holder) × (object ≡ new.List items) × BeginsList items bytes
-as_list (new.Tads supers class props) bytes begins = absurd begins
-as_list (new.Text text) bytes begins = absurd begins
 as_list (new.List items) bytes begins = (items, refl, begins)
-as_list (new.Vector items) bytes begins = absurd begins
-as_list new.Table bytes begins = absurd begins
+as_list object bytes begins = absurd begins
 
 pub as_vector : (object : NewObject) (bytes : List ℕ) → BeginsObject kinds.Vector object bytes
     → (items : List Holder) × (object ≡ new.Vector items) × BeginsVector items bytes
-as_vector (new.Tads supers class props) bytes begins = absurd begins
-as_vector (new.Text text) bytes begins = absurd begins
-as_vector (new.List items) bytes begins = absurd begins
 as_vector (new.Vector items) bytes begins = (items, refl, begins)
-as_vector new.Table bytes begins = absurd begins
+as_vector object bytes begins = absurd begins
 
 pub root_not : (object : NewObject) (bytes : List ℕ) → ¬ BeginsObject kinds.Root object bytes
 root_not (new.Tads supers class props) bytes begins = begins
-root_not (new.Text text) bytes begins = begins
-root_not (new.List items) bytes begins = begins
-root_not (new.Vector items) bytes begins = begins
-root_not new.Table bytes begins = begins
+root_not object bytes begins = begins
 
 pub collection_not : (object : NewObject) (bytes : List ℕ) → ¬ BeginsObject kinds.Collection object bytes
 collection_not (new.Tads supers class props) bytes begins = begins
-collection_not (new.Text text) bytes begins = begins
-collection_not (new.List items) bytes begins = begins
-collection_not (new.Vector items) bytes begins = begins
-collection_not new.Table bytes begins = begins
+collection_not object bytes begins = begins
 
 pub table_not : (object : NewObject) (bytes : List ℕ) → ¬ BeginsObject kinds.Table object bytes
 table_not (new.Tads supers class props) bytes begins = begins
-table_not (new.Text text) bytes begins = begins
-table_not (new.List items) bytes begins = begins
-table_not (new.Vector items) bytes begins = begins
-table_not new.Table bytes begins = begins
+table_not object bytes begins = begins
 
 one_object : (kind : MetaKind) (x y : NewObject) (bytes : List ℕ) → BeginsObject kind x bytes → BeginsObject kind y bytes → x ≡ y
 one_object kinds.Tads x y bytes a b =
@@ -152,10 +131,6 @@ one_list_of kind (s ∷ statics) (x ∷ xs) (y ∷ ys) a b =
 
 fitting : (kind : MetaKind) (object : NewObject) (bytes : List ℕ) → BeginsObject kind object bytes → HasFittingLength (new_value object)
 fitting kinds.Tads (new.Tads supers class props) bytes begins = tt
-fitting kinds.Tads (new.Text text) bytes begins = absurd begins
-fitting kinds.Tads (new.List items) bytes begins = absurd begins
-fitting kinds.Tads (new.Vector items) bytes begins = absurd begins
-fitting kinds.Tads new.Table bytes begins = absurd begins
 fitting kinds.Text object bytes begins =
     let text = as_text object bytes begins in
     subst (λ o. HasFittingLength (new_value o)) (sym text.1) (omega (arith, text.2.few))
@@ -168,6 +143,7 @@ fitting kinds.Vector object bytes begins =
 fitting kinds.Root object bytes begins = absurd (root_not object bytes begins)
 fitting kinds.Collection object bytes begins = absurd (collection_not object bytes begins)
 fitting kinds.Table object bytes begins = absurd (table_not object bytes begins)
+fitting kinds.Tads object bytes begins = absurd begins
 
 number_within : (n : ℕ) → not (is_object_number n) ≡ false → (0 < n) × (n < 2 ^ 31)
 number_within n e = by_test (nat_lt 0 n) refl (nat_lt n (2 ^ 31)) refl e

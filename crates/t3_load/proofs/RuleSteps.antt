@@ -25,9 +25,6 @@ abbrev pub IsOfRule : ℕ → LoadRefusal → Type 0
 IsOfRule rule why = get_or refusals rule (λ _. ⊥) why
 
 pub is_of_rule : (why : LoadRefusal) → IsOfRule (rule_of why) why
-is_of_rule NoEntry = refl
-is_of_rule TwoEntries = refl
-is_of_rule HeaderSizes = refl
 is_of_rule (Pool cause) = (cause, refl)
 is_of_rule (Metaclass n) = (n, refl)
 is_of_rule (FunctionSet n) = (n, refl)
@@ -37,9 +34,7 @@ is_of_rule (ObjectData n) = (n, refl)
 is_of_rule (SuperMissing n) = (n, refl)
 is_of_rule (SuperCycle n) = (n, refl)
 is_of_rule (TransientSuper n) = (n, refl)
-is_of_rule Full = refl
-is_of_rule Unbuilt = refl
-is_of_rule NoMemory = refl
+is_of_rule why = refl
 
 -- one rule is kept where none of its refusals holds
 pub kept_one : (blocks : List PlacedBlock) (limits : StoreLimits) (rule : ℕ)

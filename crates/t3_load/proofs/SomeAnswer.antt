@@ -19,18 +19,21 @@ use Rattle.t3_load.specs.Inner.Halves.{AreHalves}
 use Rattle.t3_load.specs.Kinds.{kind_entry_of}
 use Rattle.t3_load.specs.Loading.{ProgramValue, Loads, next_above}
 use Rattle.t3_load.specs.Names.{metas_in, names_in, symbols_in, unknown_from}
-use Rattle.t3_load.specs.Rules.{Breaks, KeepsRules, IsFirst, AreObjectsIn, first_bad, first_by, rule_of}
+use Rattle.t3_pools.specs.First.{IsFirst}
+use Rattle.t3_load.specs.Rules.{Breaks, KeepsRules, AreObjectsIn, first_bad, first_by, rule_of}
 use Rattle.t3_load.specs.Sets.{set_named}
 use Rattle.t3_load.specs.Statics.{statics_in, static_numbers, kind_at}
 use Rattle.t3_load.specs.Symbols.{firsts}
 use Rattle.t3_load.specs.Unbuilt.{is_unbuilt}
-use Rattle.t3_load.proofs.Decided.{first_or_all, numbers_or_twice, all_known}
+use Rattle.t3_pools.proofs.Firsts.{first_or_all}
+use Rattle.t3_load.proofs.Decided.{numbers_or_twice, all_known}
 use Rattle.t3_load.proofs.DecidedCycles.{own_or_not}
 use Rattle.t3_load.proofs.DecidedObjects.{objects_or_first}
 use Rattle.t3_load.proofs.DecidedPools.{pools_or_first, pools_kept}
 use Rattle.t3_load.proofs.EntryRules.{some_entry, one_entry, good_entry}
 use Rattle.t3_load.proofs.FirstSymbols.{raw_of-firsts}
-use Rattle.t3_load.proofs.Firsts.{none_first, not_twice}
+use Rattle.t3_pools.proofs.Firsts.{none_first}
+use Rattle.t3_load.proofs.Firsts.{not_twice}
 use Rattle.t3_load.proofs.Halving.{fresh, no_halves, transient_more, persistent_more}
 use Rattle.t3_load.proofs.LoadSteps.{room_kept}
 use Rattle.t3_load.proofs.NameRules.{kinds_kept, sets_kept}

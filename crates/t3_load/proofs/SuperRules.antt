@@ -10,9 +10,10 @@ use Rattle.t3_load.specs.declared.objects.ImageObject.{ImageObject}
 use Rattle.t3_load.specs.Names.{metas_in}
 use Rattle.t3_load.specs.ImageObjects.{supers_by, lacks_super, has_transient_super, IsOwnAncestor}
 use Rattle.t3_load.specs.Statics.{statics_in, kind_at}
-use Rattle.t3_load.specs.Rules.{Breaks, KeepsRules, IsFirst, AreObjectsIn, OfObjects, first_by}
+use Rattle.t3_pools.specs.First.{IsFirst}
+use Rattle.t3_load.specs.Rules.{Breaks, KeepsRules, AreObjectsIn, OfObjects, first_by}
 use Rattle.t3_load.proofs.RuleSteps.{kept_one, kept_none}
-use Rattle.t3_load.proofs.Firsts.{none_first}
+use Rattle.t3_pools.proofs.Firsts.{none_first}
 use Rattle.t3_load.specs.Inner.Deciding.{IsFirstBroken}
 use Rattle.t3_load.specs.declared.refusal.LoadRefusal.TheVariants.{SuperCycle}
 use Rattle.std.specs.List.{AllByRecursion}

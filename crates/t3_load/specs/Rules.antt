@@ -3,6 +3,7 @@ use Rattle.std.specs.Prelude.{◌≡◌, ◌≢◌, ℕ, ◌<◌, ◌≤◌, ◌
 use Rattle.std.specs.List.{find, list_any, AllByRecursion, IsDistinct}
 use Rattle.t3_image_read.specs.declared.image.PlacedBlock.{PlacedBlock}
 use Rattle.t3_pools.specs.Building.{Refuses as PoolsRefuse}
+use Rattle.t3_pools.specs.First.{IsFirst}
 use Rattle.t3_pools.specs.declared.refusal.PoolRefusal.TheVariants as pools
 use Rattle.t3_store.specs.declared.limits.StoreLimits.{StoreLimits}
 use Rattle.t3_load.specs.Statics.{static_numbers}
@@ -16,14 +17,6 @@ use Rattle.t3_load.specs.Sets.{set_named}
 use Rattle.t3_load.specs.Statics.{StaticValue, statics_in, kind_at, IsObjectOf, AreObjectsOf}
 use Rattle.t3_load.specs.Unbuilt.{is_unbuilt}
 use Rattle.t3_load.specs.ImageObjects.{lacks_super, has_transient_super, IsOwnAncestor, is_past}
-
--- the first of a list that breaks a rule
-pub record IsFirst {X : Type 0} (Broken : X → Type 0) (items : List X) (first : X) : Type 0 where
-  pub before : List X
-  pub after : List X
-  pub is : items ≡ before ++ first ∷ after
-  pub kept : AllByRecursion (λ item. ¬ Broken item) before
-  pub broken : Broken first
 
 -- the first number that stands a second time
 pub record IsFirstTwice (numbers : List ℕ) (number : ℕ) : Type 0 where

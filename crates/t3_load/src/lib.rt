@@ -17,8 +17,6 @@ mod halves;
 mod kinds;
 mod laws;
 mod listing;
-#[cfg(test)]
-mod load_tests;
 mod names;
 mod objects;
 mod program;
@@ -27,17 +25,11 @@ mod rows;
 mod sets;
 mod standing;
 mod statics;
-#[cfg(test)]
-mod store_tests;
 mod supers;
 mod symbols;
 #[cfg(test)]
-mod test_images;
-#[cfg(test)]
 mod tests;
 mod unbuilt;
-#[cfg(test)]
-mod unbuilt_tests;
 
 pub use kinds::{KindEntry, Kinds, MetaKind, PropNumbers};
 pub use laws::one_answer;

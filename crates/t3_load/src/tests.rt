@@ -1,91 +1,25 @@
-//! Names, symbols and static objects, on small worked cases.
+//! Names, symbols and static objects, on small worked cases: what no public call tells yet.
 use super::*;
+use crate::basis::basis_of;
+use crate::halves::{Halves, halve, is_past};
 use crate::refusal::NameRefusal;
 use crate::statics::static_object;
+use crate::supers::checked_objects;
 use std::alloc::{AllocError, Global};
 use std::test::Fail;
 use t3_holder::{Holder, Raw};
-use t3_image_read::{Image, ImageReader};
-use t3_store::NewObject;
+use t3_image_read::Image;
+use t3_store::{NewObject, StoreLimits};
 use t3_tadsobj::PropValue;
-
-/// An image of these blocks.
-pub(crate) fn image(alloc: Global, blocks: &[Vec<u8>]) -> Result<Image, Fail> {
-    let mut bytes = Vec::new(alloc);
-    bytes.extend_from_slice(b"T3-image\r\n\x1a\x01\x00")?;
-    bytes.extend_from_slice(&[0; 56])?;
-    for block in blocks {
-        bytes.extend_from_slice(block)?;
-    }
-    bytes.extend_from_slice(b"EOF \x00\x00\x00\x00\x00\x00")?;
-    let mut reader = ImageReader::new(alloc);
-    reader.feed(&bytes)?;
-    Ok(reader.finish()?)
-}
-
-/// A number as two bytes.
-pub(crate) fn two(number: usize) -> [u8; 2] {
-    u16::try_from(number).unwrap_or(0).to_le_bytes()
-}
-
-/// A block of so many items, which these bytes spell.
-fn block(alloc: Global, name: &[u8], count: usize, items: &[u8]) -> Result<Vec<u8>, AllocError> {
-    let mut block = Vec::from_slice(alloc, name)?;
-    let size = u32::try_from(items.len()).unwrap_or(0).wrapping_add(2);
-    block.extend_from_slice(&size.to_le_bytes())?;
-    block.extend_from_slice(b"\x01\x00")?;
-    block.extend_from_slice(&two(count))?;
-    block.extend_from_slice(items)?;
-    Ok(block)
-}
+use t3_test_images::{
+    block, function_sets, image, metaclasses, metaclasses_with, object_block, page,
+    pool_definition, symbols,
+};
+use t3_undo::Cell;
 
 /// The metaclasses of these names, each with the two properties 3 and 1.
-pub(crate) fn metas(alloc: Global, names: &[&[u8]]) -> Result<Vec<u8>, AllocError> {
-    metas_with(alloc, names, b"\x02\x00\x02\x00\x03\x00\x01\x00")
-}
-
-/// The metaclasses of these names, without properties.
-pub(crate) fn plain_metas(alloc: Global, names: &[&[u8]]) -> Result<Vec<u8>, AllocError> {
-    metas_with(alloc, names, b"\x00\x00\x02\x00")
-}
-
-/// The metaclasses of these names, each with these properties behind their count and size.
-fn metas_with(alloc: Global, names: &[&[u8]], props: &[u8]) -> Result<Vec<u8>, AllocError> {
-    let mut items = Vec::new(alloc);
-    for name in names {
-        let mut entry = named(alloc, name)?;
-        entry.extend_from_slice(props)?;
-        items.extend_from_slice(&two(entry.len().wrapping_add(2)))?;
-        items.extend_from_slice(&entry)?;
-    }
-    block(alloc, b"MCLD", names.len(), &items)
-}
-
-/// The function sets of these names.
-pub(crate) fn sets(alloc: Global, names: &[&[u8]]) -> Result<Vec<u8>, AllocError> {
-    let mut items = Vec::new(alloc);
-    for name in names {
-        items.extend_from_slice(&named(alloc, name)?)?;
-    }
-    block(alloc, b"FNSD", names.len(), &items)
-}
-
-/// The symbols of these names, each an integer.
-fn symbols(alloc: Global, symbols: &[(&[u8], u8)]) -> Result<Vec<u8>, AllocError> {
-    let mut items = Vec::new(alloc);
-    for (name, number) in symbols {
-        items.extend_from_slice(&[7, *number, 0, 0, 0])?;
-        items.extend_from_slice(&named(alloc, name)?)?;
-    }
-    block(alloc, b"SYMD", symbols.len(), &items)
-}
-
-/// A name behind its length.
-fn named(alloc: Global, name: &[u8]) -> Result<Vec<u8>, AllocError> {
-    let mut bytes = Vec::new(alloc);
-    bytes.push(u8::try_from(name.len()).unwrap_or(0))?;
-    bytes.extend_from_slice(name)?;
-    Ok(bytes)
+fn metas(alloc: Global, names: &[&[u8]]) -> Result<Vec<u8>, AllocError> {
+    metaclasses_with(alloc, names, b"\x02\x00\x02\x00\x03\x00\x01\x00")
 }
 
 #[test]
@@ -93,10 +27,10 @@ fn lists_over_blocks_are_one(rt: HostRuntime) -> Result<(), Fail> {
     let alloc = rt.alloc();
     let blocks = [
         metas(alloc, &[b"tads-object/030005", b"root-object"])?,
-        sets(alloc, &[b"t3vm"])?,
+        function_sets(alloc, &[b"t3vm"])?,
         metas(alloc, &[])?,
         metas(alloc, &[b"lookuptable/a/b", b"root-object/030000"])?,
-        sets(alloc, &[b"tads-io/030007", b"tads-gen/"])?,
+        function_sets(alloc, &[b"tads-io/030007", b"tads-gen/"])?,
     ];
     let image = image(alloc, &blocks)?;
     let kinds = Kinds::of(alloc, &image)?;
@@ -140,7 +74,7 @@ fn the_first_unknown_name_is_told(rt: HostRuntime) -> Result<(), Fail> {
         };
         assert_eq!(rt; found, unknown);
     }
-    let blocks = [sets(alloc, &[b"t3vm", b"tads-net", b"tads-net"])?];
+    let blocks = [function_sets(alloc, &[b"t3vm", b"tads-net", b"tads-net"])?];
     let Err(NameRefusal::Unknown(1)) = Sets::of(alloc, &image(alloc, &blocks)?) else {
         return Err(Fail::from("a set that isn't there"));
     };
@@ -168,7 +102,8 @@ fn the_first_symbol_of_a_name_counts(rt: HostRuntime) -> Result<(), Fail> {
     Ok(())
 }
 
-/// A class with the superclasses 9 and 5 and the properties 3, which is nil, and 2, which is 7; and a byte behind it.
+/// A class with the superclasses 9 and 5 and the properties 3, which is nil, and 2, which is 7; and a
+/// byte behind it.
 const CLASS: &[u8] = b"\x02\x00\x02\x00\x01\x00\x09\x00\x00\x00\x05\x00\x00\x00\
 \x03\x00\x01\x00\x00\x00\x00\x02\x00\x07\x07\x00\x00\x00\xFF";
 
@@ -261,5 +196,67 @@ fn bytes_begin_with_an_object_or_with_none(rt: HostRuntime) -> Result<(), Fail> 
             "{kind:?} {bytes:?}"
         );
     }
+    Ok(())
+}
+
+/// The string `ab`, and a byte behind it.
+const TEXT: &[u8] = &[2, 0, 97, 98, 9];
+
+/// A list of two integers.
+const LIST: &[u8] = &[2, 0, 7, 1, 0, 0, 0, 7, 2, 0, 0, 0];
+
+/// A vector with room for nine elements, of which it has one, an enumerator.
+const VECTOR: &[u8] = &[9, 0, 1, 0, 15, 1, 0, 0, 0];
+
+/// The blocks of an image that breaks no rule, of an object of each of these three.
+fn good_blocks(alloc: Global) -> Result<Vec<Vec<u8>>, AllocError> {
+    let mut blocks = Vec::new(alloc);
+    let entry = [5, 0, 0, 0, 10, 0, 10, 0, 0, 0, 0, 0, 0, 0, 0, 0];
+    blocks.push(block(alloc, b"ENTP", &entry)?)?;
+    blocks.push(object_block(alloc, 1, false, 7, TEXT)?)?;
+    blocks.push(object_block(alloc, 3, true, 6, VECTOR)?)?;
+    blocks.push(object_block(alloc, 2, false, 5, LIST)?)?;
+    blocks.push(pool_definition(alloc, 1, 1, 64)?)?;
+    blocks.push(page(alloc, 1, 0, &[1, 2, 3])?)?;
+    let names: [&[u8]; 4] = [b"tads-object/030005", b"string/030000", b"list", b"vector"];
+    blocks.push(metaclasses(alloc, &names)?)?;
+    Ok(blocks)
+}
+
+/// The objects of an image, whatever the machine can do with them.
+fn halves(alloc: Global, image: &Image) -> Result<Halves, Fail> {
+    let Ok(basis) = basis_of(alloc, image) else {
+        return Err(Fail::from("the tables of a good image are refused"));
+    };
+    let Ok(objects) = checked_objects(alloc, image, &basis.kinds) else {
+        return Err(Fail::from("the objects of a good image are refused"));
+    };
+    let limits = StoreLimits {
+        objects: 1_048_576,
+        units: 4_194_304,
+        records: 1,
+        savepoints: 1,
+    };
+    if is_past(objects.as_slice(), limits) {
+        return Err(Fail::from("the objects of a good image are too many"));
+    }
+    match halve(alloc, objects) {
+        Ok(halves) => Ok(halves),
+        Err(_why) => Err(Fail::from("no memory")),
+    }
+}
+
+#[test]
+fn strings_lists_and_vectors_are_in_their_halves(rt: HostRuntime) -> Result<(), Fail> {
+    let image = image(rt.alloc(), &good_blocks(rt.alloc())?)?;
+    let Halves { first, passing } = halves(rt.alloc(), &image)?;
+    assert_eq!(rt; first.text(7), Some(b"ab".as_slice()));
+    assert_eq!(rt;
+        first.items(5),
+        Some([Holder::Int(1), Holder::Int(2)].as_slice())
+    );
+    assert_eq!(rt; first.length(6), None);
+    assert_eq!(rt; passing.length(6), Some(1));
+    assert_eq!(rt; passing.get(6, &Cell::Elem(1)), Some(Holder::Enum(1)));
     Ok(())
 }

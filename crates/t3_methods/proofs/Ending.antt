@@ -16,37 +16,16 @@ use Rattle.t3_methods.proofs.Operating.{operand_by-number_of, kind_of-operand_by
 
 -- of any kind but cases nothing more stands than its number
 rest_none : (code : Pool) (kind : Kind) (at n : ℕ) → kind ≢ kinds.Cases → HasRest code at (operand_by kind at n)
-rest_none code kinds.Ubyte at n other = tt
-rest_none code kinds.Sbyte at n other = tt
-rest_none code kinds.Uint2 at n other = tt
-rest_none code kinds.Jump at n other = tt
-rest_none code kinds.Uint4 at n other = tt
-rest_none code kinds.Int4 at n other = tt
-rest_none code kinds.Property at n other = tt
-rest_none code kinds.Object at n other = tt
 rest_none code kinds.Cases at n other = absurd (other refl)
+rest_none code kind at n other = tt
 
 size_of-operand_by : (kind : Kind) (at n : ℕ) → kind ≢ kinds.Cases → size_of (operand_by kind at n) ≡ width_of kind
-size_of-operand_by kinds.Ubyte at n other = refl
-size_of-operand_by kinds.Sbyte at n other = refl
-size_of-operand_by kinds.Uint2 at n other = refl
-size_of-operand_by kinds.Jump at n other = refl
-size_of-operand_by kinds.Uint4 at n other = refl
-size_of-operand_by kinds.Int4 at n other = refl
-size_of-operand_by kinds.Property at n other = refl
-size_of-operand_by kinds.Object at n other = refl
 size_of-operand_by kinds.Cases at n other = absurd (other refl)
+size_of-operand_by kind at n other = refl
 
 width_some : (kind : Kind) → 0 < width_of kind
 width_some kinds.Ubyte = omega arith
-width_some kinds.Sbyte = omega arith
-width_some kinds.Uint2 = omega arith
-width_some kinds.Jump = omega arith
-width_some kinds.Uint4 = omega arith
-width_some kinds.Int4 = omega arith
-width_some kinds.Property = omega arith
-width_some kinds.Object = omega arith
-width_some kinds.Cases = omega arith
+width_some kind = omega arith
 
 pub end_fixed : (code : Pool) (w : Window) (place : ℕ) (kind : Kind) → Shows code w.address w.bytes.now → place + width_of kind ≤ length w.bytes.now
     → IsNamed kind (number_at (width_of kind) w.bytes.now place) → kind ≢ kinds.Cases → EndsOperand code w place kind (place + width_of kind)
@@ -132,14 +111,7 @@ ends_one code w place kind (Some end) ends = record { have = (ends.has, tt); end
 -- behind one that is no switch's
 pub last_behind : (kind next : Kind) (rest : List Kind) → is_cases_last (kind ∷ next ∷ rest) ≡ true → is_cases_last (next ∷ rest) ≡ true
 last_behind kinds.Cases next rest last = absurd cc
-last_behind kinds.Ubyte next rest last = last
-last_behind kinds.Sbyte next rest last = last
-last_behind kinds.Uint2 next rest last = last
-last_behind kinds.Jump next rest last = last
-last_behind kinds.Uint4 next rest last = last
-last_behind kinds.Int4 next rest last = last
-last_behind kinds.Property next rest last = last
-last_behind kinds.Object next rest last = last
+last_behind kind next rest last = last
 
 -- those behind the first don't stand there
 none_behind : (code : Pool) (at : ℕ) (first : Operand) (rest : List Kind) → HasOperand code at first
@@ -185,14 +157,7 @@ ends_more code w place mid kind rest (Some end) other first ends =
 
 cases_or_other : (kind : Kind) → (kind ≡ kinds.Cases) ⊎ (kind ≢ kinds.Cases)
 cases_or_other kinds.Cases = inl refl
-cases_or_other kinds.Ubyte = inr (λ same. absurd cc)
-cases_or_other kinds.Sbyte = inr (λ same. absurd cc)
-cases_or_other kinds.Uint2 = inr (λ same. absurd cc)
-cases_or_other kinds.Jump = inr (λ same. absurd cc)
-cases_or_other kinds.Uint4 = inr (λ same. absurd cc)
-cases_or_other kinds.Int4 = inr (λ same. absurd cc)
-cases_or_other kinds.Property = inr (λ same. absurd cc)
-cases_or_other kinds.Object = inr (λ same. absurd cc)
+cases_or_other kind = inr (λ same. absurd cc)
 
 -- nothing stands behind cases
 cases_alone : (kind : Kind) (rest : List Kind) → kind ≡ kinds.Cases → is_cases_last (kind ∷ rest) ≡ true → rest ≡ []
@@ -207,14 +172,7 @@ last_rest kind (next ∷ rest) last = last_behind kind next rest last
 
 cased_behind : (kind : Kind) (rest : List Kind) → kind ≢ kinds.Cases → are_cased (kind ∷ rest) ≡ are_cased rest
 cased_behind kinds.Cases rest other = absurd (other refl)
-cased_behind kinds.Ubyte rest other = refl
-cased_behind kinds.Sbyte rest other = refl
-cased_behind kinds.Uint2 rest other = refl
-cased_behind kinds.Jump rest other = refl
-cased_behind kinds.Uint4 rest other = refl
-cased_behind kinds.Int4 rest other = refl
-cased_behind kinds.Property rest other = refl
-cased_behind kinds.Object rest other = refl
+cased_behind kind rest other = refl
 
 -- cases have two bytes at least
 pub cased_wide : (kinds : List Kind) → are_cased kinds ≡ true → 2 ≤ widths_of kinds
@@ -227,37 +185,19 @@ cased_wide (kind ∷ rest) cased =
 
 -- what the test of a number tells
 named_front : (kind : Kind) (front : Bool) (n : ℕ) → named_by kind front n ≡ true → front ≡ true
-named_front kinds.Ubyte front n is = is
-named_front kinds.Sbyte front n is = is
-named_front kinds.Uint2 front n is = is
-named_front kinds.Jump front n is = is
-named_front kinds.Uint4 front n is = is
-named_front kinds.Int4 front n is = is
 named_front kinds.Property front n is = (and_parts front (nat_lt 0 n) is).0
 named_front kinds.Object front n is = (and_parts front (nat_lt 0 n) is).0
-named_front kinds.Cases front n is = is
+named_front kind front n is = is
 
 named_is : (kind : Kind) (n : ℕ) → named_by kind true n ≡ true → IsNamed kind n
-named_is kinds.Ubyte n is = tt
-named_is kinds.Sbyte n is = tt
-named_is kinds.Uint2 n is = tt
-named_is kinds.Jump n is = tt
-named_is kinds.Uint4 n is = tt
-named_is kinds.Int4 n is = tt
 named_is kinds.Property n is = ltb-true 0 n is
 named_is kinds.Object n is = ltb-true 0 n is
-named_is kinds.Cases n is = tt
+named_is kind n is = tt
 
 unnamed_is : (kind : Kind) (n : ℕ) → named_by kind true n ≡ false → ¬ IsNamed kind n
-unnamed_is kinds.Ubyte n is some = absurd cc
-unnamed_is kinds.Sbyte n is some = absurd cc
-unnamed_is kinds.Uint2 n is some = absurd cc
-unnamed_is kinds.Jump n is some = absurd cc
-unnamed_is kinds.Uint4 n is some = absurd cc
-unnamed_is kinds.Int4 n is some = absurd cc
 unnamed_is kinds.Property n is some = let none = ltb-false 0 n is in omega (arith, none, some)
 unnamed_is kinds.Object n is some = let none = ltb-false 0 n is in omega (arith, none, some)
-unnamed_is kinds.Cases n is some = absurd cc
+unnamed_is kind n is some = absurd cc
 
 -- those in front are named where all are
 all_named : (front : Bool) (bytes : List ℕ) (place : ℕ) (kinds : List Kind) → are_named front bytes place kinds ≡ true → front ≡ true

@@ -13,8 +13,6 @@ mod operands;
 mod refusal;
 mod rows;
 mod shape;
-#[cfg(test)]
-mod tests;
 mod window;
 
 pub use cases::case_at;

@@ -1,3 +1,15 @@
 pub mod Faults
 pub mod Arithmetic
 pub mod Truth
+pub mod Values
+pub mod Equality
+pub mod Order
+pub mod Making
+pub mod Containers
+pub mod Adding
+pub mod Builtins
+pub mod Keys
+pub mod Indexing
+pub mod Elements
+pub mod Creating
+pub mod Inner

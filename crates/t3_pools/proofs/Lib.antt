@@ -1,3 +1,4 @@
+pub mod Firsts
 pub mod Bytes
 pub mod Kept
 pub mod Placing

@@ -1,4 +1,4 @@
--- What is known of the holders of a constant list while they are read, and what of it when the reading ends.
+-- What is known of the holders of a constant list while they are read, and what of it when the reading ends. Other crates may use what stands here.
 use Rattle.std.proofs.Common.{◌≡◌, ℕ, zero, suc, ◌+◌, ◌*◌, ◌^◌, ◌<◌, true, false, List, [], ◌∷◌, ◌++◌, length, Option, Some, None, refl, sym, ap, subst, ◌∙◌, length-append, arith}
 use Rattle.std.specs.FinMap.{get}
 use Rattle.std.specs.Option.{option_map, option_and_then, is_some, IfSome, IsNone}
@@ -8,7 +8,7 @@ use Rattle.t3_holder.specs.HolderText.{raw_text, IsRaw, Means, IsNoHolder}
 use Rattle.t3_holder.specs.declared.holder.Raw.{Raw}
 use Rattle.t3_holder.specs.declared.holder.Holder.{Holder}
 use Rattle.t3_pools.specs.Pool.{Pool, HasBytes}
-use Rattle.t3_pools.specs.Constants.{HasHolder, HasHolders, HasList, bytes_in, number_in, holder_in, holders_in, list_in, meaning_of, extent_of, IsOfBytes}
+use Rattle.t3_pools.specs.Constants.{HasHolder, HasHolders, HasList, FindsHolder, bytes_in, number_in, holder_in, holders_in, list_in, meaning_of, extent_of, IsOfBytes}
 use Rattle.t3_pools.specs.Inner.Reading.{IsNumber, ReadsHolder, ReadsHolders, ListAnswer}
 use Rattle.t3_pools.proofs.Standing.{number_in-none, number_in-stands, stands-number_in, none_then}
 use Rattle.t3_pools.proofs.Meaning.{meaning-meant, meant-meaning, meaning-none}
@@ -62,6 +62,16 @@ reads-holder pool address bytes raw (Some holder) stands is fits means none = re
   means = means;
   stands = subst (λ (b : List ℕ). HasBytes pool address b) (sym is) stands;
 }
+
+-- what is read of a holder is the holder that is there
+pub holder-read : (pool : Pool) (address : ℕ) (read : Option Holder) → ReadsHolder pool address read → read ≡ holder_in pool address
+holder-read pool address None none = sym none
+holder-read pool address (Some holder) has = sym (holder_in-stands pool address holder has)
+
+-- it is the one that stands there, and where none is read none stands
+pub holder-found : (pool : Pool) (address : ℕ) (read : Option Holder) → ReadsHolder pool address read → FindsHolder pool address read
+holder-found pool address None none = λ holder has. none-some holder (sym none ∙ holder_in-stands pool address holder has)
+holder-found pool address (Some holder) has = has
 
 -- ---- lists
 
@@ -183,7 +193,7 @@ list-found pool address count number found =
 
 -- ---- what is read stands
 
-stands-holder_in : (pool : Pool) (address : ℕ) (holder : Holder) → IsOfBytes pool → holder_in pool address ≡ Some holder
+pub stands-holder_in : (pool : Pool) (address : ℕ) (holder : Holder) → IsOfBytes pool → holder_in pool address ≡ Some holder
     → HasHolder pool address holder
 unfolding holder_in raw_text
 stands-holder_in pool address holder of_bytes is =

@@ -1,5 +1,5 @@
 -- Which rules a pool keeps or breaks, and which pool it is, by what was gathered of it.
-use Rattle.std.proofs.Common.{◌≡◌, ◌≢◌, ℕ, suc, ◌*◌, ◌^◌, ◌<◌, ◌≤◌, ◌⊎◌, inl, inr, subst, Bool, true, false, cond, nat_eq, nat_lt, nat_le, List, [], ◌∷◌, map, length, Option, Some, None, Result, Ok, Err, refl, sym, ap, ◌∙◌, arith}
+use Rattle.std.proofs.Common.{◌≡◌, ◌≢◌, ℕ, suc, ◌*◌, ◌^◌, ◌<◌, ◌≤◌, ◌⊎◌, inl, inr, subst, Bool, true, false, cond, nat_eq, nat_lt, nat_le, List, [], ◌∷◌, ◌++◌, map, length, Option, Some, None, Result, Ok, Err, refl, sym, ap, ◌∙◌, arith}
 use Rattle.std.specs.Result.{IsErrAnd}
 use Rattle.std.specs.List.{flat_map, list_any, slice_get}
 use Rattle.std.specs.Ordering.{nat_cmp}
@@ -14,15 +14,16 @@ use Rattle.t3_pools.specs.declared.definitions.Layout.{Layout}
 use Rattle.t3_pools.specs.declared.sheets.Sheet.{Sheet}
 use Rattle.t3_pools.specs.declared.pages.PoolPages.{PoolPages}
 use Rattle.t3_pools.specs.declared.refusal.PoolRefusal.{PoolRefusal}
-use Rattle.t3_pools.specs.declared.refusal.PoolRefusal.TheVariants.{PageIndex}
+use Rattle.t3_pools.specs.declared.refusal.PoolRefusal.TheVariants.{PageIndex, PageTwice, PageMissing, PageLong}
 use Rattle.t3_pools.specs.declared.refusal.PageRule.{PageRule}
 use Rattle.t3_pools.specs.declared.refusal.PageRule.TheVariants.{Index, Twice, Missing, Long}
 use Rattle.t3_pools.specs.Pool.{PagedPoolValue, PoolsValue, Defined, Paged, Said, said_of, size_by, page_bytes, pool_of, pool_in, pools_in, pools_of, numbered}
-use Rattle.t3_pools.specs.Building.{count_by, pages_at, HasFarPage, HasPageTwice, LacksPage, HasLongPage, Keeps, KeepsRules, Refuses, before}
+use Rattle.t3_pools.specs.Building.{count_by, pages_at, HasFarPage, HasPageTwice, LacksPage, HasLongPage, Breaks, Keeps, KeepsRules, Refuses, definition_rules}
 use Rattle.t3_pools.specs.Finding.{listed}
 use Rattle.t3_pools.specs.Inner.Breaking.{page_refusal, rank}
 use Rattle.t3_pools.specs.Inner.Gathering.{paged, sheets_at, Sorts, Orders, LaysOut, BreaksRule, KeepsFirst, IsGathered, FindsPages, Joins, Gathers}
 use Rattle.t3_pools.specs.Inner.Keeping.{kept_bytes}
+use Rattle.t3_pools.proofs.Firsts.{first_after}
 use Rattle.t3_pools.proofs.Bytes.{is_any_long}
 use Rattle.t3_pools.proofs.Kept.{one, is_long_in, same_pool}
 use Rattle.t3_pools.proofs.Placing.{now, long_map, at-paged, far-paged, long-paged, placed_pages, no_gap, short_pages}
@@ -274,43 +275,37 @@ keeps_both : (blocks : List PlacedBlock) (rule : PageRule) (count : ℕ) → ran
 keeps_both blocks rule count below kept = neither (kept.0 rule below) (kept.1 rule below)
 
 -- the first rule on pages that a pool breaks is the first rule that the blocks break
-pub refuses_page : (blocks : List PlacedBlock) (rule : PageRule) → Keeps (before PageIndex) blocks
+pub refuses_page : (blocks : List PlacedBlock) (rule : PageRule) → Keeps definition_rules blocks
     → FindsBoth (said_of 1 blocks) (said_of 2 blocks) (Err rule) → Refuses (page_refusal rule) blocks
-refuses_page blocks Index kept found = (found.0, kept)
+refuses_page blocks Index kept found = first_after (λ r. Breaks r blocks) definition_rules _ PageIndex kept found.0
 refuses_page blocks Twice kept found =
-    (found.0, (kept.0, (kept.1.0, (kept.1.1.0, (keeps_both blocks Index 1 (omega arith) found.1, tt)))))
-refuses_page blocks Missing kept found = (
-  found.0,
-  (
-    kept.0,
-    (
-      kept.1.0,
+    first_after (λ r. Breaks r blocks) (definition_rules ++ PageIndex ∷ []) _ PageTwice
+    (kept.0, (kept.1.0, (kept.1.1.0, (keeps_both blocks Index 1 (omega arith) found.1, tt)))) found.0
+refuses_page blocks Missing kept found =
+    first_after (λ r. Breaks r blocks) (definition_rules ++ PageIndex ∷ PageTwice ∷ []) _ PageMissing (
+      kept.0,
       (
-        kept.1.1.0,
+        kept.1.0,
         (
-          keeps_both blocks Index 2 (omega arith) found.1,
-          (keeps_both blocks Twice 2 (omega arith) found.1, tt),
+          kept.1.1.0,
+          (keeps_both blocks Index 2 (omega arith) found.1, (keeps_both blocks Twice 2 (omega arith) found.1, tt)),
         ),
       ),
-    ),
-  ),
-)
-refuses_page blocks Long kept found = (
-  found.0,
-  (
-    kept.0,
-    (
-      kept.1.0,
+    ) found.0
+refuses_page blocks Long kept found =
+    first_after (λ r. Breaks r blocks) (definition_rules ++ PageIndex ∷ PageTwice ∷ PageMissing ∷ []) [] PageLong (
+      kept.0,
       (
-        kept.1.1.0,
+        kept.1.0,
         (
-          keeps_both blocks Index 3 (omega arith) found.1,
-          (keeps_both blocks Twice 3 (omega arith) found.1, (keeps_both blocks Missing 3 (omega arith) found.1, tt)),
+          kept.1.1.0,
+          (
+            keeps_both blocks Index 3 (omega arith) found.1,
+            (keeps_both blocks Twice 3 (omega arith) found.1, (keeps_both blocks Missing 3 (omega arith) found.1, tt)),
+          ),
         ),
       ),
-    ),
-  ),
-)
+    ) found.0
 
 pub refuses_so : (blocks : List PlacedBlock) (rule : PageRule) (result : Result (PoolPages × PoolPages) PoolRefusal)
     → Refuses (page_refusal rule) blocks → IsErrAnd result (λ why. why ≡ page_refusal rule) → Gathers blocks result
@@ -318,7 +313,7 @@ refuses_so blocks rule (Ok both) refuses gives = absurd gives
 refuses_so blocks rule (Err why) refuses gives = subst (λ (w : PoolRefusal). Refuses w blocks) (sym gives) refuses
 
 -- pools that keep all rules on pages keep all rules
-pub keeps_all : (blocks : List PlacedBlock) → Keeps (before PageIndex) blocks
+pub keeps_all : (blocks : List PlacedBlock) → Keeps definition_rules blocks
     → KeepsFirst 4 (said_of 1 blocks) × KeepsFirst 4 (said_of 2 blocks) → KeepsRules blocks
 keeps_all blocks kept found = (
   kept.0,

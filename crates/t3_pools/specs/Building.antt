@@ -1,9 +1,10 @@
 -- The rules that the pools of an image keep, in their order, and what building the pools answers (the chapter on the image format).
-use Rattle.std.specs.Prelude.{◌≡◌, ℕ, ◌*◌, ◌^◌, ◌<◌, ◌≤◌, ◌==◌, ◌⊎◌, nat_lt, nat_le, IsTrue, List, [], ◌∷◌, length, Result, Ok, Err, if◌then◌else◌}
-use Rattle.std.specs.List.{flat_map, list_any}
+use Rattle.std.specs.Prelude.{◌≡◌, ℕ, ◌*◌, ◌^◌, ◌<◌, ◌≤◌, ◌==◌, ◌⊎◌, nat_lt, nat_le, IsTrue, List, [], ◌∷◌, ◌++◌, length, Result, Ok, Err, if◌then◌else◌}
+use Rattle.std.specs.List.{flat_map, list_any, AllByRecursion}
 use Rattle.t3_image_read.specs.declared.image.PlacedBlock.{PlacedBlock}
 use Rattle.t3_pools.specs.declared.refusal.PoolRefusal.{PoolRefusal}
 use Rattle.t3_pools.specs.declared.refusal.PoolRefusal.TheVariants.{NoCode, TwoDefs, TooWide, PageIndex, PageTwice, PageMissing, PageLong, NoMemory}
+use Rattle.t3_pools.specs.First.{IsFirst}
 use Rattle.t3_pools.specs.Pool.{Defined, Paged, PoolsValue, Said, said_of, size_by, pools_in}
 
 -- the page count by the first definition, 0 where there is none
@@ -56,31 +57,29 @@ Breaks PageMissing blocks = InEither LacksPage blocks
 Breaks PageLong blocks = InEither HasLongPage blocks
 Breaks NoMemory blocks = ⊥
 
--- the rules that come before that of a refusal, and all of them before want of memory
-abbrev pub before : PoolRefusal → List PoolRefusal
-before NoCode = []
-before TwoDefs = NoCode ∷ []
-before TooWide = NoCode ∷ TwoDefs ∷ []
-before PageIndex = NoCode ∷ TwoDefs ∷ TooWide ∷ []
-before PageTwice = NoCode ∷ TwoDefs ∷ TooWide ∷ PageIndex ∷ []
-before PageMissing = NoCode ∷ TwoDefs ∷ TooWide ∷ PageIndex ∷ PageTwice ∷ []
-before PageLong = NoCode ∷ TwoDefs ∷ TooWide ∷ PageIndex ∷ PageTwice ∷ PageMissing ∷ []
-before NoMemory = NoCode ∷ TwoDefs ∷ TooWide ∷ PageIndex ∷ PageTwice ∷ PageMissing ∷ PageLong ∷ []
+-- the rules in their order, those on definitions and then those on pages
+abbrev pub definition_rules : List PoolRefusal
+definition_rules = NoCode ∷ TwoDefs ∷ TooWide ∷ []
+
+abbrev pub page_rules : List PoolRefusal
+page_rules = PageIndex ∷ PageTwice ∷ PageMissing ∷ PageLong ∷ []
+
+abbrev pub rules : List PoolRefusal
+rules = definition_rules ++ page_rules
 
 -- none of these rules is broken
 abbrev pub Keeps : List PoolRefusal → List PlacedBlock → Type 0
-Keeps [] blocks = Unit {0}
-Keeps (rule ∷ rules) blocks = (¬ Breaks rule blocks) × Keeps rules blocks
+Keeps some blocks = AllByRecursion (λ rule. ¬ Breaks rule blocks) some
 
 -- an image from which pools can be built breaks no rule
 abbrev pub KeepsRules : List PlacedBlock → Type 0
-KeepsRules blocks = Keeps (before NoMemory) blocks
+KeepsRules blocks = Keeps rules blocks
 
 -- the first rule that an image breaks; want of memory says only that the rules on definitions are kept, since to sort pages takes memory before
 -- their rules are tried
 abbrev pub Refuses : PoolRefusal → List PlacedBlock → Type 0
-Refuses NoMemory blocks = Keeps (before PageIndex) blocks
-Refuses why blocks = Breaks why blocks × Keeps (before why) blocks
+Refuses NoMemory blocks = Keeps definition_rules blocks
+Refuses why blocks = IsFirst (λ rule. Breaks rule blocks) rules why
 
 -- the pools of an image that breaks no rule, or why it has none
 abbrev pub Builds : List PlacedBlock → Result PoolsValue PoolRefusal → Type 0

@@ -39,6 +39,11 @@ pub record HasList (pool : Pool) (address : ℕ) (elements : List Holder) : Type
   pub count : HasBytes pool address (little_endian 2 (length elements))
   pub stands : HasHolders pool (address + 2) elements
 
+-- this holder stands at an address; or none does
+abbrev pub FindsHolder : Pool → ℕ → Option Holder → Type 0
+FindsHolder pool address None = (holder : Holder) → ¬ HasHolder pool address holder
+FindsHolder pool address (Some holder) = HasHolder pool address holder
+
 -- a constant string stands at an address, so long and with its first byte there; or none does
 abbrev pub FindsText : Pool → ℕ → Option (ℕ × ℕ) → Type 0
 FindsText pool address None = (text : List ℕ) → ¬ HasText pool address text

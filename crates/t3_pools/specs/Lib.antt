@@ -1,4 +1,5 @@
 pub mod Pool
+pub mod First
 pub mod Building
 pub mod Finding
 pub mod Constants

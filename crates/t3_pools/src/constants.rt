@@ -122,7 +122,7 @@ impl PagedPool {
     }
 
     /// The holder in the five bytes at an address.
-    fn holder(&self, address: u32) -> Option<Holder>
+    pub(crate) fn holder(&self, address: u32) -> Option<Holder>
         ensures reads { ReadsHolder self.now.bytes address result }
         ensures bounded { IfSome result (λ _. address + 5 < 2 ^ 31) }
     {

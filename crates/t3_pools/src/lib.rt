@@ -9,7 +9,8 @@
 //! assert_eq!(pools.text_at(0), Some((2, 5)));
 //! ```
 //!
-//! The test `the_example_of_the_first_page` runs this on an image of one page of code and one of constants.
+//! The test `the_example_of_the_first_page` of `t3_pools_tests` runs this on an image of one page of
+//! code and one of constants.
 #![tactic(auto)]
 
 mod constants;
@@ -21,9 +22,7 @@ mod pages;
 mod pools;
 mod refusal;
 mod sheets;
-#[cfg(test)]
-mod tests;
 
-pub use laws::{constant_list, constant_text};
+pub use laws::{constant_holder, constant_list, constant_text};
 pub use pools::Pools;
 pub use refusal::PoolRefusal;

@@ -1,4 +1,4 @@
-//! A pool as it is kept: its pages by their indices, each with its own bytes.
+//! A pool as it is kept: its pages by their indices, whose bytes it shares with the image.
 ghost use Rattle.std.specs.Prelude.{◌≡◌, ◌+◌, ◌<◌, ◌*◌, ◌^◌, nat_lt, false, length, map, drop, IfOk, IfSome};
 ghost use Rattle.std.specs.FinMap.{get};
 ghost use Rattle.std.specs.List.{list_any};

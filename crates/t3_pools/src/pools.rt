@@ -2,13 +2,14 @@ ghost use Rattle.std.specs.Prelude.{◌≡◌, ◌≢◌, ℕ, None, ◌<◌, �
 ghost use Rattle.std.specs.FinMap.{get};
 ghost use Rattle.t3_pools.specs.Pool.{numbered, page_size_of, pools_in, HasBytes, ReachesPageEnd};
 ghost use Rattle.t3_pools.specs.Building.{Builds};
-ghost use Rattle.t3_pools.specs.Constants.{FindsText, FindsList, extent_of, text_in, list_in};
+ghost use Rattle.t3_pools.specs.Constants.{FindsText, FindsHolder, FindsList, extent_of, text_in, list_in, holder_in};
 
 use crate::paged::PagedPool;
 use crate::pages::gathered;
 use crate::refusal::PoolRefusal;
 use std::alloc::Global;
 use std::marker::Model;
+use t3_holder::Holder;
 use t3_image_read::Image;
 
 /// The code and the constants of an image. Contracts see each pool as a map from addresses to bytes, and
@@ -49,8 +50,8 @@ impl Pools {
     }
 
     /// The bytes from an address of a pool to the end of its page: pool 1 is the code, 2 the constants.
-    /// Empty exactly where no byte stands there; none stands at 2^31 or beyond. It takes a shift where the page size is a power of two,
-    /// else a division, and no memory.
+    /// Empty exactly where no byte stands there; none stands at 2^31 or beyond. It takes a shift where the
+    /// page size is a power of two, else a division, and no memory.
     #[inline(always)]
     pub fn run(&self, pool: u8, address: u32) -> &[u8]
         ensures stand { HasBytes (numbered self.now pool) address result.now }
@@ -99,5 +100,14 @@ impl Pools {
         ensures bounded { IfSome result (λ found. found.0 + 5 * found.1 < 2 ^ 31) }
     {
         self.constants.list_at(address)
+    }
+
+    /// The holder in the five bytes at an address of the constants. `None` exactly where five bytes aren't
+    /// there, or `holder_of` doesn't take them. It may go over the borders of pages, and takes no memory.
+    pub fn holder_at(&self, address: u32) -> Option<Holder>
+        ensures holder { FindsHolder self.now.constants address result }
+        ensures read { result ≡ holder_in self.now.constants address }
+    {
+        self.constants.holder(address)
     }
 }

@@ -3,7 +3,7 @@ use Rattle.std.proofs.Common.{◌≡◌, ◌∙◌, ap, sym, subst, refl, ℕ, �
 use Rattle.std.specs.Ordering.{nat_cmp}
 use Rattle.std.specs.FinMap.{FinMap, get, len}
 use Rattle.t3_undo.specs.Content.{Present}
-use Rattle.t3_undo.specs.Objects.{Objects, OldPart, Segment, adjust}
+use Rattle.t3_undo.specs.Objects.{Objects, Segment, adjust}
 use Rattle.t3_undo.specs.Journal.{Held, note_in}
 use Rattle.t3_undo.specs.declared.cell.Cell.{Cell}
 use Rattle.t3_holder.specs.declared.holder.Holder.{Holder}
@@ -13,7 +13,7 @@ use Rattle.t3_store.specs.Inner.Shapes.{Shape, Stored, values, AreWithin}
 use Rattle.t3_store.specs.Inner.Store.{marks_of, store_of, IsWritten, IsStore, AreNumbered, saved_units, IsFront}
 use Rattle.t3_store.specs.declared.limits.StoreLimits.{StoreLimits}
 use Rattle.t3_store.proofs.MapValues.{some-values, len-adjust, units_in-with, units_in-without, present-can_at}
-use Rattle.t3_store.proofs.Marks.{marks-changed}
+use Rattle.t3_store.proofs.Marks.{record_of, marks-changed}
 use Rattle.t3_store.specs.Inner.Whole.{supers_from, supers_of_both, AreWhole}
 use Rattle.t3_store.proofs.KindsKept.{kinds-persistent, kinds-transient, kinds-more}
 use Rattle.t3_store.proofs.Ticks.{within-more}
@@ -35,19 +35,16 @@ with-transient s n c g e =
     ap (λ b. with_value n g (if b then record s { marks = changed_in s.limits.records n c s.marks } else s)) e
     ∙ ap (λ b. if b then record s { persistent = adjust s.persistent n g } else record s { transient = adjust s.transient n g }) e
 
-abbrev part : ℕ → Cell → Option Present → OldPart
-part n c was = record { number = n; cell = c; old = was }
-
 marks-written : (limit : ℕ) (ss : List Segment) (old new : Stored) (n : ℕ) (c : Cell) (g : Value → Value) (was : Option Present)
-    → IsWritten old new n c g was → marks_of new.objects (note_in limit (part n c was) ss) ≡ changed_in limit n c (marks_of old.objects ss)
+    → IsWritten old new n c g was → marks_of new.objects (note_in limit (record_of n c was) ss) ≡ changed_in limit n c (marks_of old.objects ss)
 marks-written limit ss old new n c g was w =
-    (λ i. marks_of (w.objects i) (note_in limit (part n c (w.stood i)) ss)) ∙ marks-changed limit ss old.objects n c w.content
+    (λ i. marks_of (w.objects i) (note_in limit (record_of n c (w.stood i)) ss)) ∙ marks-changed limit ss old.objects n c w.content
 
 -- the store with a persistent object changed
 pub persistent-changed : (old new : Stored) (t : Objects Shape) (next next_transient : ℕ) (limits : StoreLimits) (ss : List Segment) (limit n : ℕ)
     (c : Cell) (g : Value → Value) (was : Option Present) → IsWritten old new n c g was → limit ≡ limits.records
     → is_some (get old.objects n) ≡ true
-    → store_of new.objects t next next_transient limits (note_in limit (part n c was) ss)
+    → store_of new.objects t next next_transient limits (note_in limit (record_of n c was) ss)
     ≡ with_value n g (noted n c (store_of old.objects t next next_transient limits ss))
 persistent-changed old new t next next_transient limits ss limit n c g was w same there =
     (λ i. record {
@@ -78,13 +75,13 @@ transient-changed old new p next next_transient limits ss n c g was w gone =
 pub persistent-kept : (old new t : Stored) (next next_transient : ℕ) (limits : StoreLimits) (j : Held) (units : List ℕ) (room writes n : ℕ)
     (c : Cell) (g : Value → Value) (was : Option Present) → IsStore old t next next_transient limits j units room writes
     → IsWritten old new n c g was → units_in (values new.objects) ≤ limits.units → writes + 1 ≤ 2 ^ 63
-    → IsStore new t next next_transient limits (record j { segments = note_in j.record_limit (part n c was) j.segments }) units room (writes + 1)
+    → IsStore new t next next_transient limits (record j { segments = note_in j.record_limit (record_of n c was) j.segments }) units room (writes + 1)
 persistent-kept old new t next next_transient limits j units room writes n c g was is w few more = record {
   bounded = is.bounded;
   records = is.records;
   savepoints = is.savepoints;
   numbered = subst (λ o. AreNumbered o t.objects next next_transient) (sym w.objects) (numbered-persistent old.objects t.objects next next_transient n c w.content is.numbered);
-  sound = sound-noted new.places next j.record_limit j.segments (part n c was) (record { placed = w.placed; formed = w.formed })
+  sound = sound-noted new.places next j.record_limit j.segments (record_of n c was) (record { placed = w.placed; formed = w.formed })
       (sound-keep old.places new.places next next j.segments w.kept (omega arith) is.sound);
   counted = record {
     objects = subst (λ k. k + len (values t.objects) ≤ limits.objects)
@@ -101,8 +98,8 @@ persistent-kept old new t next next_transient limits j units room writes n c g w
   };
   few_writes = more;
   whole = subst (λ o. AreWhole (supers_from o) (supers_of_both o t.objects) next next_transient
-      (note_in j.record_limit (part n c was) j.segments)) (sym w.objects)
-      (whole-persistent old.objects t.objects next next_transient j.record_limit n j.segments c w.content (part n c was) is.whole);
+      (note_in j.record_limit (record_of n c was) j.segments)) (sym w.objects)
+      (whole-persistent old.objects t.objects next next_transient j.record_limit n j.segments c w.content (record_of n c was) is.whole);
   kinds = kinds-persistent old new t j.segments j.record_limit n writes c g was is.kinds w;
 }
 

@@ -2,7 +2,7 @@
 use Rattle.std.proofs.Common.{◌≡◌, sym, subst, ℕ, ◌+◌, ◌≤◌, List, [], ◌∷◌, take, drop, Option, None, arith}
 use Rattle.std.specs.FinMap.{get, insert}
 use Rattle.t3_undo.specs.Content.{Present, Parts}
-use Rattle.t3_undo.specs.Objects.{Objects, OldPart, Segment, part_at}
+use Rattle.t3_undo.specs.Objects.{Objects, Segment, part_at}
 use Rattle.t3_undo.specs.Objects as journaled
 use Rattle.t3_undo.specs.Journal.{note_in}
 use Rattle.t3_undo.specs.UndoLaw as law
@@ -11,24 +11,22 @@ use Rattle.t3_store.specs.Value.{Value}
 use Rattle.t3_store.specs.Inner.Shapes.{Shape, Stored, AreWithin}
 use Rattle.t3_store.specs.Inner.Valid.{AreValid, AreValidBefore}
 use Rattle.t3_store.specs.Inner.Store.{IsWritten, AreKindsKept, AreRecordsWithin}
+use Rattle.t3_store.proofs.Marks.{record_of}
 use Rattle.t3_store.proofs.Ticks.{risen-most, within-more, within-insert, records-more, records-noted, records-take, records-drop}
 use Rattle.t3_store.proofs.Validity.{back-noted, back-made, back-take, back-saved, back-undone}
 
-abbrev part : ℕ → Cell → Option Present → OldPart
-part n c was = record { number = n; cell = c; old = was }
-
 -- a write
 pub kinds-persistent : (old new t : Stored) (ss : List Segment) (limit n writes : ℕ) (c : Cell) (g : Value → Value) (was : Option Present)
-    → AreKindsKept old t ss writes → IsWritten old new n c g was → AreKindsKept new t (note_in limit (part n c was) ss) (writes + 1)
+    → AreKindsKept old t ss writes → IsWritten old new n c g was → AreKindsKept new t (note_in limit (record_of n c was) ss) (writes + 1)
 kinds-persistent old new t ss limit n writes c g was kinds w =
     let up = w.ticks (writes + 1) kinds.persistent_ticks in
     record {
-      valid = subst (λ m. AreValidBefore m (note_in limit (part n c was) ss)) (sym w.objects)
-          (subst (λ o. AreValidBefore (journaled.set_cell old.objects n c w.content) (note_in limit (part n c o) ss)) (sym w.stood)
+      valid = subst (λ m. AreValidBefore m (note_in limit (record_of n c was) ss)) (sym w.objects)
+          (subst (λ o. AreValidBefore (journaled.set_cell old.objects n c w.content) (note_in limit (record_of n c o) ss)) (sym w.stood)
           (back-noted limit ss old.objects n c w.content kinds.valid));
       persistent_ticks = within-more _ (writes + 1 + 1) new.ticks (risen-most (writes + 1) was) up.1;
       transient_ticks = within-more (writes + 1) (writes + 1 + 1) t.ticks (omega arith) kinds.transient_ticks;
-      records = records-noted (writes + 1 + 1) limit (part n c was) ss (omega (arith, up.0))
+      records = records-noted (writes + 1 + 1) limit (record_of n c was) ss (omega (arith, up.0))
           (records-more (writes + 1) (writes + 1 + 1) ss (omega arith) kinds.records);
     }
 
@@ -75,10 +73,11 @@ kinds-made p t new ss next writes tick kinds few ticks = record {
 }
 
 -- a savepoint
-pub kinds-saved : (p t : Stored) (ss : List Segment) (next k writes : ℕ) → AreKindsKept p t ss writes → AreValid p.objects
-    → ((q : ℕ) → next ≤ q → get p.objects q ≡ None) → AreKindsKept p t (record { next = next; records = [] } ∷ take k ss) writes
-kinds-saved p t ss next k writes kinds valid all = record {
-  valid = back-saved next (take k ss) p.objects all valid (back-take k ss p.objects kinds.valid);
+pub kinds-saved : (p t : Stored) (ss : List Segment) (serial next k writes : ℕ) → AreKindsKept p t ss writes → AreValid p.objects
+    → ((q : ℕ) → next ≤ q → get p.objects q ≡ None)
+    → AreKindsKept p t (record { serial = serial; next = next; records = [] } ∷ take k ss) writes
+kinds-saved p t ss serial next k writes kinds valid all = record {
+  valid = back-saved serial next (take k ss) p.objects all valid (back-take k ss p.objects kinds.valid);
   persistent_ticks = kinds.persistent_ticks;
   transient_ticks = kinds.transient_ticks;
   records = (tt, records-take (writes + 1) k ss kinds.records);

@@ -33,3 +33,4 @@ pub mod Added
 pub mod RowNumbers
 pub mod Lacking
 pub mod FirstBroken
+pub mod SetCells

@@ -14,6 +14,10 @@ use Rattle.t3_store.specs.Store.{Mark, room_for, is_change_of, is_change_due, ad
 use Rattle.t3_store.specs.Inner.Shapes.{Shape, values}
 use Rattle.t3_store.specs.Inner.Store.{change_of, marks_of}
 
+-- the record of what stood in a cell
+abbrev pub record_of : ℕ → Cell → Option Present → OldPart
+record_of n c was = record { number = n; cell = c; old = was; stamp = 0 }
+
 due-split : (n next : ℕ) → (nat_lt n next && true) ≡ false → next ≤ n
 due-split n next e = by (nat_lt n next) refl e
   where
@@ -41,12 +45,12 @@ marks-newest s ss a b e =
     ap (λ x. record { copy = values x; next = s.next; changed = map change_of s.records } ∷ marks_of x ss) e
 
 marks-added : (s : Segment) (ss : List Segment) (m : Objects Shape) (n : ℕ) (c : Cell) (o : Option Present)
-    → marks_of (journaled.set_cell m n c o) (record { next = s.next; records = record { number = n; cell = c; old = part_at m n c } ∷ s.records } ∷ ss)
+    → marks_of (journaled.set_cell m n c o) (record s { records = record_of n c (part_at m n c) ∷ s.records } ∷ ss)
     ≡ add_change n c (marks_of m (s ∷ ss))
 unfolding marks_of
 marks-added s ss m n c o =
-    let back : before (journaled.set_cell m n c o) (record { next = s.next; records = record { number = n; cell = c; old = part_at m n c } ∷ s.records })
-    ≡ before m s = ap (below s.next) (put_back-note s.records m n c o) in
+    let back : before (journaled.set_cell m n c o) (record s { records = record_of n c (part_at m n c) ∷ s.records })
+    ≡ before m s = ap (below s.next) (put_back-note s.records m n c o 0) in
     ap (λ x. record { copy = values x; next = s.next; changed = (n, c) ∷ map change_of s.records } ∷ marks_of x ss) back
 
 any-map : {X Y : Type 0} (p : Y → Bool) (f : X → Y) (xs : List X) → list_any p (map f xs) ≡ list_any (λ x. p (f x)) xs
@@ -87,13 +91,13 @@ room-same limit (s ∷ ss) m =
 
 -- a change of a cell
 pub marks-changed : (limit : ℕ) (ss : List Segment) (m : Objects Shape) (n : ℕ) (c : Cell) (o : Option Present)
-    → marks_of (journaled.set_cell m n c o) (note_in limit (record { number = n; cell = c; old = part_at m n c }) ss)
+    → marks_of (journaled.set_cell m n c o) (note_in limit (record_of n c (part_at m n c)) ss)
     ≡ changed_in limit n c (marks_of m ss)
 marks-changed limit ss m n c o =
     by (is_due n c ss) refl
     ∙ (λ i. if sym (due-same ss m n c) i then add_change n c (room-same limit ss m i) else marks_of m ss)
   where
-    due : (ss : List Segment) → marks_of (journaled.set_cell m n c o) (add (record { number = n; cell = c; old = part_at m n c }) ss)
+    due : (ss : List Segment) → marks_of (journaled.set_cell m n c o) (add (record_of n c (part_at m n c)) ss)
         ≡ add_change n c (marks_of m ss)
     due [] = marks-none (journaled.set_cell m n c o) ∙ ap (add_change n c) (sym (marks-none m))
     due (s ∷ ss) = marks-added s ss m n c o
@@ -103,7 +107,7 @@ marks-changed limit ss m n c o =
     undue (s ∷ ss) e = marks-newest s ss _ m (before-undue s m n c o e)
 
     by : (b : Bool) → is_due n c ss ≡ b
-        → marks_of (journaled.set_cell m n c o) (if b then add (record { number = n; cell = c; old = part_at m n c }) (room limit ss) else ss)
+        → marks_of (journaled.set_cell m n c o) (if b then add (record_of n c (part_at m n c)) (room limit ss) else ss)
         ≡ (if b then add_change n c (marks_of m (room limit ss)) else marks_of m ss)
     by true e = due (room limit ss)
     by false e = undue ss e
@@ -138,19 +142,23 @@ marks-take (suc k) (s ∷ ss) m =
     (marks-take k ss (before m s))
 
 -- a savepoint with nothing changed since
-pub before-now : (next : ℕ) (m : Objects Shape) → ((q : ℕ) → next ≤ q → get m q ≡ None) → before m (record { next = next; records = [] }) ≡ m
+pub before-now : (serial next : ℕ) (m : Objects Shape) → ((q : ℕ) → next ≤ q → get m q ≡ None)
+    → before m (record { serial = serial; next = next; records = [] }) ≡ m
 unfolding journaled.put_back
-before-now next m all =
-    same_map nat_cmp_total nat_cmp-IsAntisymmetric _ m (λ q. get-before (record { next = next; records = [] }) m q ∙ by q (nat_lt q next) refl)
+before-now serial next m all =
+    same_map nat_cmp_total nat_cmp-IsAntisymmetric _ m
+    (λ q. get-before (record { serial = serial; next = next; records = [] }) m q ∙ by q (nat_lt q next) refl)
   where
     by : (q : ℕ) (b : Bool) → nat_lt q next ≡ b → cond b (get m q) None ≡ get m q
     by q true t = refl
     by q false t = sym (all q (ltb-false q next t))
 
-pub marks-saved : (next : ℕ) (ss : List Segment) (m : Objects Shape) → ((q : ℕ) → next ≤ q → get m q ≡ None)
-    → marks_of m (record { next = next; records = [] } ∷ ss) ≡ record { copy = values m; next = next; changed = [] } ∷ marks_of m ss
+pub marks-saved : (serial next : ℕ) (ss : List Segment) (m : Objects Shape) → ((q : ℕ) → next ≤ q → get m q ≡ None)
+    → marks_of m (record { serial = serial; next = next; records = [] } ∷ ss)
+    ≡ record { copy = values m; next = next; changed = [] } ∷ marks_of m ss
 unfolding marks_of
-marks-saved next ss m all = ap (λ x. record { copy = values x; next = next; changed = [] } ∷ marks_of x ss) (before-now next m all)
+marks-saved serial next ss m all =
+    ap (λ x. record { copy = values x; next = next; changed = [] } ∷ marks_of x ss) (before-now serial next m all)
 
 -- an undo
 pub values-undone : (ss : List Segment) (m : Objects Shape) → values (law.undone m ss) ≡ newest_copy (values m) (marks_of m ss)

@@ -5,9 +5,9 @@ use Rattle.std.specs.Ordering.{nat_cmp}
 use Rattle.std.specs.FinMap.{FinMap}
 use Rattle.t3_undo.specs.Content.{Places}
 use Rattle.t3_undo.specs.Objects.{Objects, OldPart, Segment, set_cell, put_back}
-use Rattle.t3_undo.specs.Journal.{Held, newest_record, but_newest_record, first}
+use Rattle.t3_undo.specs.Journal.{Held, newest_records, newest_record, but_newest_record, first}
 use Rattle.t3_store.specs.Inner.Shapes.{Shape, tick_behind, AreWithin}
-use Rattle.t3_store.specs.Inner.Store.{CanBePut, CanAllBePut, AreRecordsWithin, newest_records, emptied}
+use Rattle.t3_store.specs.Inner.Store.{CanBePut, CanAllBePut, AreRecordsWithin, emptied}
 use Rattle.t3_store.specs.Inner.Entries.{IsRising, things_of, places_in, ticks_in}
 use Rattle.t3_store.specs.declared.entries.Entry.{Entry}
 
@@ -109,7 +109,7 @@ no-record (s ∷ ss) e = by s.records refl
 
 but-none : (ss : List Segment) → None ≡ newest_record ss → but_newest_record ss ≡ emptied ss
 but-none [] e = refl
-but-none (s ∷ ss) e = ap (λ (rs : List OldPart). record { next = s.next; records = drop 1 rs } ∷ ss) (no-record (s ∷ ss) e)
+but-none (s ∷ ss) e = ap (λ (rs : List OldPart). record s { records = drop 1 rs } ∷ ss) (no-record (s ∷ ss) e)
 
 pub put-things : (from es : List Entry) (before now : Held) → IsPutting from es before now → None ≡ newest_record now.segments
     → things_of es ≡ put_back (things_of from) (newest_records before.segments)

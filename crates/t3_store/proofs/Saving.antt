@@ -62,12 +62,15 @@ map-take zero ms = refl
 map-take (suc k) [] = refl
 map-take (suc k) (m ∷ ms) = ap (λ us. units_in m.copy ∷ us) (map-take k ms)
 
--- a savepoint
+-- the segments once a savepoint is made
+abbrev pub saved_segments : Held → ℕ → List Segment
+saved_segments j next = record { serial = j.marks + 1; next = next; records = [] } ∷ take (j.mark_limit - 1) j.segments
+
 pub saved-kept : (p t : Stored) (next next_transient : ℕ) (limits : StoreLimits) (j : Held) (units more : List ℕ) (room wide writes count : ℕ)
     → IsStore p t next next_transient limits j units room writes → AreValid p.objects → count ≡ units_in (values p.objects)
     → reverse more ≡ count ∷ take (limits.savepoints - 1) (reverse units) → length more ≤ limits.savepoints → wide ≡ room
     → IsStore p t next next_transient limits
-    (record j { segments = record { next = next; records = [] } ∷ take (j.mark_limit - 1) j.segments; marks = j.marks + 1 }) more wide writes
+    (record j { segments = saved_segments j next; marks = j.marks + 1 }) more wide writes
 saved-kept p t next next_transient limits j units more room wide writes count is valid counts pushed few same = record {
   bounded = is.bounded;
   records = is.records;
@@ -86,17 +89,17 @@ saved-kept p t next next_transient limits j units more room wide writes count is
     fits = omega (arith, is.counted.fits);
   };
   few_writes = is.few_writes;
-  whole = whole-saved p.objects t.objects next next_transient (j.mark_limit - 1) j.segments is.numbered is.whole;
-  kinds = kinds-saved p t j.segments next (j.mark_limit - 1) writes is.kinds valid is.numbered.persistent_below;
+  whole = whole-saved p.objects t.objects (j.marks + 1) next next_transient (j.mark_limit - 1) j.segments is.numbered is.whole;
+  kinds = kinds-saved p t j.segments (j.marks + 1) next (j.mark_limit - 1) writes is.kinds valid is.numbered.persistent_below;
 }
   where
     marks : List Mark
     marks = marks_of p.objects j.segments
 
-    saved : saved_units (marks_of p.objects (record { next = next; records = [] } ∷ take (j.mark_limit - 1) j.segments))
+    saved : saved_units (marks_of p.objects (saved_segments j next))
         ≡ count ∷ take (limits.savepoints - 1) (saved_units (marks_of p.objects j.segments))
     saved =
-        ap saved_units (marks-saved next (take (j.mark_limit - 1) j.segments) p.objects is.numbered.persistent_below)
+        ap saved_units (marks-saved (j.marks + 1) next (take (j.mark_limit - 1) j.segments) p.objects is.numbered.persistent_below)
         ∙ (λ i. sym counts i ∷ saved_units (marks-take (j.mark_limit - 1) j.segments p.objects i))
         ∙ ap (λ us. count ∷ us) (map-take (j.mark_limit - 1) (marks_of p.objects j.segments))
         ∙ λ i. count ∷ take (is.savepoints i - 1) (saved_units (marks_of p.objects j.segments))

@@ -8,20 +8,19 @@ use Rattle.std.specs.FinMap.{get, insert, empty, get-empty, get-insert}
 use Rattle.t3_undo.specs.Content.{Present, Parts, is_form}
 use Rattle.t3_undo.specs.Objects as journaled
 use Rattle.t3_undo.specs.Objects.{Objects, OldPart, Segment, part_at, is_noted, before, with_part}
-use Rattle.t3_undo.specs.Journal.{room, is_due, add, note_in, newest_next}
+use Rattle.t3_undo.specs.Journal.{room, is_due, add, note_in, newest_next, newest_records}
 use Rattle.t3_undo.specs.UndoLaw as law
 use Rattle.t3_undo.specs.declared.cell.Cell.{Cell}
 use Rattle.t3_undo.proofs.Maps.{get-adjust}
 use Rattle.t3_undo.proofs.PuttingBack.{put_back-note, before-made}
 use Rattle.t3_store.specs.Inner.Shapes.{Shape, thing_of, value_of, values}
-use Rattle.t3_store.specs.Inner.Store.{newest_records}
 use Rattle.t3_store.specs.Value.{Value, can_lose_at}
 use Rattle.t3_store.specs.declared.object.Object.{Object}
 use Rattle.t3_store.proofs.KindValues.{valid-without, lose-form}
 use Rattle.t3_store.proofs.MapValues.{get-values}
 use Rattle.t3_store.specs.Inner.Valid.{IsValid, AreValid, AreValidBefore}
 use Rattle.t3_store.proofs.Rows.{same, same-is}
-use Rattle.t3_store.proofs.Marks.{before-undue, before-now}
+use Rattle.t3_store.proofs.Marks.{record_of, before-undue, before-now}
 
 -- none, one changed, and one more
 pub valid-none : AreValid empty
@@ -54,9 +53,9 @@ back-newest s ss a b e valid =
 
 back-added : (s : Segment) (ss : List Segment) (m : Objects Shape) (n : ℕ) (c : Cell) (o : Option Present) → AreValidBefore m (s ∷ ss)
     → AreValidBefore (journaled.set_cell m n c o)
-    (record { next = s.next; records = record { number = n; cell = c; old = part_at m n c } ∷ s.records } ∷ ss)
+    (record s { records = record_of n c (part_at m n c) ∷ s.records } ∷ ss)
 back-added s ss m n c o valid =
-    let back = ap (journaled.below s.next) (put_back-note s.records m n c o) in
+    let back = ap (journaled.below s.next) (put_back-note s.records m n c o 0) in
     (subst AreValid (sym back) valid.0, subst (λ m. AreValidBefore m ss) (sym back) valid.1)
 
 back-if : (b : Bool) (m : Objects Shape) (ss : List Segment) → AreValidBefore m ss → AreValidBefore m (cond b ss [])
@@ -70,11 +69,11 @@ back-room limit (s ∷ ss) m valid =
     (valid.0, back-room (limit - length s.records) ss (before m s) valid.1)
 
 pub back-noted : (limit : ℕ) (ss : List Segment) (m : Objects Shape) (n : ℕ) (c : Cell) (o : Option Present) → AreValidBefore m ss
-    → AreValidBefore (journaled.set_cell m n c o) (note_in limit (record { number = n; cell = c; old = part_at m n c }) ss)
+    → AreValidBefore (journaled.set_cell m n c o) (note_in limit (record_of n c (part_at m n c)) ss)
 back-noted limit ss m n c o valid = by (is_due n c ss) refl
   where
     due : (ss : List Segment) → AreValidBefore m ss
-        → AreValidBefore (journaled.set_cell m n c o) (add (record { number = n; cell = c; old = part_at m n c }) ss)
+        → AreValidBefore (journaled.set_cell m n c o) (add (record_of n c (part_at m n c)) ss)
     due [] valid = tt
     due (s ∷ ss) valid = back-added s ss m n c o valid
 
@@ -83,7 +82,7 @@ back-noted limit ss m n c o valid = by (is_due n c ss) refl
     undue (s ∷ ss) e valid = back-newest s ss (journaled.set_cell m n c o) m (before-undue s m n c o e) valid
 
     by : (b : Bool) → is_due n c ss ≡ b
-        → AreValidBefore (journaled.set_cell m n c o) (cond b (add (record { number = n; cell = c; old = part_at m n c }) (room limit ss)) ss)
+        → AreValidBefore (journaled.set_cell m n c o) (cond b (add (record_of n c (part_at m n c)) (room limit ss)) ss)
     by true e = due (room limit ss) (back-room limit ss m valid)
     by false e = undue ss e valid
 
@@ -97,10 +96,10 @@ back-take zero ss m valid = tt
 back-take (suc k) [] m valid = tt
 back-take (suc k) (s ∷ ss) m valid = (valid.0, back-take k ss (before m s) valid.1)
 
-pub back-saved : (next : ℕ) (ss : List Segment) (m : Objects Shape) → ((q : ℕ) → next ≤ q → get m q ≡ None) → AreValid m → AreValidBefore m ss
-    → AreValidBefore m (record { next = next; records = [] } ∷ ss)
-back-saved next ss m all valid old =
-    (subst AreValid (sym (before-now next m all)) valid, subst (λ x. AreValidBefore x ss) (sym (before-now next m all)) old)
+pub back-saved : (serial next : ℕ) (ss : List Segment) (m : Objects Shape) → ((q : ℕ) → next ≤ q → get m q ≡ None) → AreValid m
+    → AreValidBefore m ss → AreValidBefore m (record { serial = serial; next = next; records = [] } ∷ ss)
+back-saved serial next ss m all valid old =
+    let same = sym (before-now serial next m all) in (subst AreValid same valid, subst (λ x. AreValidBefore x ss) same old)
 
 pub back-undone : (ss : List Segment) (m : Objects Shape) → AreValidBefore m ss → AreValidBefore (law.undone m ss) (drop 1 ss)
 back-undone [] m valid = tt

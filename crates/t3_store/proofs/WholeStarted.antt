@@ -1,4 +1,4 @@
--- Superclasses stay whole: a new store.
+-- Superclasses stay whole: a new store. Other crates may use these.
 use Rattle.std.proofs.Common.{◌≡◌, ◌∙◌, ap, sym, subst, ℕ, List, [], ◌∷◌, Option, None, Some, is_some}
 use Rattle.std.specs.Prelude.{option_and_then}
 use Rattle.std.specs.FinMap.{get}

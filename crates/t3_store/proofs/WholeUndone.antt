@@ -120,10 +120,10 @@ all-below p t next next_transient [] are there = tt
 all-below p t next next_transient (a ∷ rest) are there =
     (live-persistent p t next next_transient a are (some-supers (get p a) there.0), all-below p t next next_transient rest are there.1)
 
-pub whole-saved : (p t : Objects Shape) (next next_transient k : ℕ) (ss : List Segment) → AreNumbered p t next next_transient
+pub whole-saved : (p t : Objects Shape) (serial next next_transient k : ℕ) (ss : List Segment) → AreNumbered p t next next_transient
     → AreWhole (supers_from p) (supers_of_both p t) next next_transient ss
-    → AreWhole (supers_from p) (supers_of_both p t) next next_transient (record { next = next; records = [] } ∷ take k ss)
-whole-saved p t next next_transient k ss are whole = record {
+    → AreWhole (supers_from p) (supers_of_both p t) next next_transient (record { serial = serial; next = next; records = [] } ∷ take k ss)
+whole-saved p t serial next next_transient k ss are whole = record {
   there = whole.there;
   older = (λ q supers h e. all-below p t next next_transient supers are (whole.there q supers e), older-take (supers_from p) k ss whole.older);
   given = whole.given;

@@ -24,36 +24,28 @@
 //!
 //! Superclasses stay whole: those of a persistent object are persistent, and no walk over superclasses comes
 //! back, whatever is made, changed and undone. [`Store::kind`] says so where a search needs it.
+//!
+//! [`cell_law`] says of the definitions that a cell that was set stands so, and that all else is as before.
 #![tactic(auto)]
 
 mod broken;
-#[cfg(test)]
-mod broken_tests;
 mod entries;
 mod kind;
+mod law;
 mod limits;
 mod new_object;
 mod object;
 mod object_at;
 mod object_map;
 mod persistent;
-#[cfg(test)]
-mod random_tests;
-#[cfg(test)]
-mod replace_tests;
 mod store;
 mod table_cells;
-#[cfg(test)]
-mod tests;
 mod unit_rows;
-#[cfg(test)]
-mod unit_tests;
-#[cfg(test)]
-mod whole_copies;
 mod writing;
 
 pub use broken::Broken;
 pub use kind::Kind;
+pub use law::cell_law;
 pub use limits::{StoreLimits, StoreRefusal};
 pub use new_object::NewObject;
 pub use object_at::ObjectAt;

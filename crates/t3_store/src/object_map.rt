@@ -7,8 +7,8 @@ ghost use Rattle.t3_undo.specs.Objects.{part_at};
 ghost use Rattle.t3_store.specs.Value.{holder_at, can_have_at, can_lose_at, with_cell, without_cell, cell_units, units_of, units_in, IsNextAbove};
 ghost use Rattle.t3_store.specs.Inner.Shapes.{thing_of, places_of, tick_of, value_of, values, has_place, with_place, places_below, AreWithin, IsChanged};
 ghost use Rattle.t3_store.specs.Inner.Valid.{IsValid, AreValid};
-ghost use Rattle.t3_store.specs.Inner.Store.{CanAllBePut, AreRecordsWithin, HaveRisen, IsWritten, newest_records};
-ghost use Rattle.t3_undo.specs.Journal.{newest_next};
+ghost use Rattle.t3_store.specs.Inner.Store.{CanAllBePut, AreRecordsWithin, HaveRisen, IsWritten};
+ghost use Rattle.t3_undo.specs.Journal.{newest_next, newest_records};
 ghost use Rattle.t3_undo.specs.UndoLaw.{undone};
 
 use crate::entries::{

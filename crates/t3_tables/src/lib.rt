@@ -20,8 +20,6 @@ mod law;
 mod ordered;
 mod pair;
 mod table;
-#[cfg(test)]
-mod tests;
 
 pub use law::entry_order;
 pub use pair::{Entries, Pair};

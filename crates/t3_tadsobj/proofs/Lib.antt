@@ -6,7 +6,6 @@ pub mod OrderDepth
 pub mod OrderClosed
 pub mod OrderVisits
 pub mod OrderChains
-pub mod OrderRising
 pub mod CycleLists
 pub mod CycleSteps
 pub mod CycleMerges

@@ -13,16 +13,10 @@
 //! law by which a search along single superclasses needs no list.
 #![tactic(auto)]
 
-#[cfg(test)]
-mod cycle_tests;
 mod cycles;
 mod object;
 mod order;
-#[cfg(test)]
-mod order_tests;
 mod props;
-#[cfg(test)]
-mod tests;
 
 pub use cycles::first_cyclic;
 pub use object::TadsObject;

@@ -3,5 +3,10 @@ pub mod SlotLists
 pub mod PuttingBack
 pub mod AnyOrder
 pub mod Undoing
-pub mod RowLists
+pub mod LastItems
+pub mod RingLists
+pub mod Noting
 pub mod Apart
+pub mod Stamping
+pub mod StampChanges
+pub mod AllStamps

@@ -32,7 +32,7 @@ and-second false b e = absurd (true≢false (sym e))
 
 -- a record of this cell
 abbrev pub at : ℕ → Cell → OldPart
-at number cell = record { number = number; cell = cell; old = None }
+at number cell = record { number = number; cell = cell; old = None; stamp = 0 }
 
 pub is_of-is : (q : ℕ) (d : Cell) (r : OldPart) → is_of q d r ≡ true → (q ≡ r.number) × (d ≡ r.cell)
 is_of-is q d r e = (same_number-is q r.number (and-first _ _ e), same_cell-is d r.cell (and-second _ _ e))
@@ -178,10 +178,10 @@ module _ {S : Type 0} where
       by rest false t e = ap (λ x. put_back x rs) (set_cell-apart m n c o r t) ∙ rest (set_cell m r.number r.cell r.old) e
 
   -- a cell changed with a record of what stood there
-  pub put_back-note : (rs : List OldPart) (m : Objects S) (n : ℕ) (c : Cell) (o : Option Present)
-      → put_back (set_cell m n c o) (record { number = n; cell = c; old = part_at m n c } ∷ rs) ≡ put_back m rs
+  pub put_back-note : (rs : List OldPart) (m : Objects S) (n : ℕ) (c : Cell) (o : Option Present) (t : ℕ)
+      → put_back (set_cell m n c o) (record { number = n; cell = c; old = part_at m n c; stamp = t } ∷ rs) ≡ put_back m rs
   unfolding put_back
-  put_back-note rs m n c o = ap (λ x. put_back x rs) (set_cell-back m n c o)
+  put_back-note rs m n c o t = ap (λ x. put_back x rs) (set_cell-back m n c o)
 
   get-set_cell : (a b : Objects S) (n : ℕ) (c : Cell) (o : Option Present) (q : ℕ) → get a q ≡ get b q → get (set_cell a n c o) q
       ≡ get (set_cell b n c o) q

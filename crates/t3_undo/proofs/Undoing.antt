@@ -92,15 +92,16 @@ module _ {S : Type 0} where
       by false t = before-newer s m n c o (due-split n s.next false (ap (λ b. nat_lt n s.next && not b) (sym t) ∙ e) refl)
 
   copies-set : (ss : List Segment) (m : Objects S) (n : ℕ) (c : Cell) (o : Option Present)
-      → copies (set_cell m n c o) (noted (record { number = n; cell = c; old = part_at m n c }) ss) ≡ copies m ss
+      → copies (set_cell m n c o) (noted (record { number = n; cell = c; old = part_at m n c; stamp = 0 }) ss) ≡ copies m ss
   copies-set [] m n c o = copies-none (set_cell m n c o) ∙ sym (copies-none m)
   copies-set (s ∷ ss) m n c o = by (nat_lt n s.next && not (is_noted n c s.records)) refl
     where
       by : (b : Bool) → (nat_lt n s.next && not (is_noted n c s.records)) ≡ b
-          → copies (set_cell m n c o) (if b then add (record { number = n; cell = c; old = part_at m n c }) (s ∷ ss) else (s ∷ ss))
+          → copies (set_cell m n c o)
+          (if b then add (record { number = n; cell = c; old = part_at m n c; stamp = 0 }) (s ∷ ss) else (s ∷ ss))
           ≡ copies m (s ∷ ss)
-      by true t = copies-newest (record { next = s.next; records = record { number = n; cell = c; old = part_at m n c } ∷ s.records }) s
-          ss _ m (ap (below s.next) (put_back-note s.records m n c o))
+      by true t = copies-newest (record s { records = record { number = n; cell = c; old = part_at m n c; stamp = 0 } ∷ s.records }) s
+          ss _ m (ap (below s.next) (put_back-note s.records m n c o 0))
       by false t = copies-newest s s ss _ m (before-undue s m n c o t)
 
   copies-made : (ss : List Segment) (m : Objects S) (n : ℕ) (x : S × Parts) → AreOlder n ss → copies (insert m n x) ss ≡ copies m ss
@@ -113,10 +114,10 @@ module _ {S : Type 0} where
   copies-take (suc kept) [] m = refl
   copies-take (suc kept) (s ∷ ss) m = ap (λ xs. before m s ∷ xs) (copies-take kept ss (before m s))
 
-  unchanged : (next : ℕ) (m : Objects S) → AreBelow next m → before m (record { next = next; records = [] }) ≡ m
+  unchanged : (next : ℕ) (m : Objects S) → AreBelow next m → before m (record { serial = 0; next = next; records = [] }) ≡ m
   unfolding put_back
   unchanged next m all =
-      same_map nat_cmp_total nat_cmp-IsAntisymmetric _ m (λ q. get-before (record { next = next; records = [] }) m q
+      same_map nat_cmp_total nat_cmp-IsAntisymmetric _ m (λ q. get-before (record { serial = 0; next = next; records = [] }) m q
       ∙ by q (nat_lt q next) refl)
     where
       by : (q : ℕ) (b : Bool) → nat_lt q next ≡ b → cond b (get m q) None ≡ get m q
@@ -169,8 +170,8 @@ module _ {S : Type 0} where
 
   stays : (k : Noted S) (e : Event S) → IsKept k → IsKept (noted_after k e)
   stays k (Sets n c o) is = record {
-    apart = apart-noted k.segments (record { number = n; cell = c; old = part_at k.objects n c }) is.apart;
-    older = older-noted k.segments (record { number = n; cell = c; old = part_at k.objects n c }) k.next is.older;
+    apart = apart-noted k.segments (record { number = n; cell = c; old = part_at k.objects n c; stamp = 0 }) is.apart;
+    older = older-noted k.segments (record { number = n; cell = c; old = part_at k.objects n c; stamp = 0 }) k.next is.older;
     below = λ q later. get-adjust nat_cmp_total k.objects n (with_part c o) q
         ∙ none-set (same_number q n) (with_part c o) (get k.objects q) (is.below q later);
   }

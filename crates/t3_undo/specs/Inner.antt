@@ -1,3 +1,3 @@
 -- What only private functions' contracts cite.
-pub mod Rows
+pub mod Rings
 pub mod KeyOrder

@@ -1,5 +1,5 @@
 -- What a journal holds, the newest first: segments and their records, and how each call moves them.
-use Rattle.std.specs.Prelude.{ℕ, ◌+◌, ◌-◌, Bool, false, ◌&&◌, not, nat_lt, if◌then◌else◌, List, [], ◌∷◌, Option, None, Some, length, drop, refl}
+use Rattle.std.specs.Prelude.{ℕ, ◌+◌, ◌-◌, Bool, true, false, ◌&&◌, not, nat_lt, if◌then◌else◌, List, [], ◌∷◌, Option, None, Some, length, drop, refl}
 use Rattle.std.specs.List.{AllByRecursion}
 use Rattle.std.specs.Coded.{Coded, code_by, coded×, coded_ℕ, coded_list, coded_option}
 use Rattle.t3_undo.specs.Cell.{coded_cell}
@@ -10,7 +10,7 @@ use Rattle.t3_undo.specs.declared.kept.Kept.{Kept}
 
 -- what a record says
 abbrev pub old_of : Kept → OldPart
-old_of kept = record { number = kept.number; cell = kept.cell; old = shown kept.old }
+old_of kept = record { number = kept.number; cell = kept.cell; old = shown kept.old; stamp = kept.stamp }
 
 -- how many records segments have together
 abbrev pub total : List Segment → ℕ
@@ -31,11 +31,35 @@ is_due number cell (segment ∷ segments) = nat_lt number segment.next && not (i
 -- a record more in the newest segment, if there is one
 abbrev pub add : OldPart → List Segment → List Segment
 add part [] = []
-add part (segment ∷ segments) = record { next = segment.next; records = part ∷ segment.records } ∷ segments
+add part (segment ∷ segments) = record segment { records = part ∷ segment.records } ∷ segments
 
 -- a record where one is due, after the oldest segments have made room for it
 abbrev pub note_in : ℕ → OldPart → List Segment → List Segment
 note_in limit part segments = if is_due part.number part.cell segments then add part (room limit segments) else segments
+
+-- a savepoint is held
+abbrev pub is_held : List Segment → Bool
+is_held [] = false
+is_held (segment ∷ segments) = true
+
+-- such a record is added: it is due, and a savepoint is still held once there is room for it
+abbrev pub is_added : ℕ → OldPart → List Segment → Bool
+is_added limit part segments = is_due part.number part.cell segments && is_held (room limit segments)
+
+-- the records of the newest savepoint
+abbrev pub newest_records : List Segment → List OldPart
+newest_records [] = []
+newest_records (segment ∷ segments) = segment.records
+
+-- the serial of the newest savepoint
+abbrev pub newest_serial : List Segment → Option ℕ
+newest_serial [] = None
+newest_serial (segment ∷ segments) = Some segment.serial
+
+-- the serial of the newest savepoint, if the object is older than it
+abbrev pub serial_for : ℕ → List Segment → Option ℕ
+serial_for number [] = None
+serial_for number (segment ∷ segments) = if nat_lt number segment.next then Some segment.serial else None
 
 -- the number that was next at the newest savepoint
 abbrev pub newest_next : List Segment → Option ℕ
@@ -54,7 +78,7 @@ newest_record (segment ∷ segments) = first segment.records
 -- all but that record
 abbrev pub but_newest_record : List Segment → List Segment
 but_newest_record [] = []
-but_newest_record (segment ∷ segments) = record { next = segment.next; records = drop 1 segment.records } ∷ segments
+but_newest_record (segment ∷ segments) = record segment { records = drop 1 segment.records } ∷ segments
 
 -- in no segment has a cell two records
 abbrev pub HaveDistinctCells : List Segment → Type 0
@@ -69,14 +93,14 @@ pub record Held : Type 0 where
 
 abbrev coded_old : Coded OldPart
 coded_old =
-    code_by (ℕ × (Cell × Option Present)) (coded× coded_ℕ (coded× coded_cell (coded_option coded_present)))
-    (λ p. (p.number, (p.cell, p.old)))
-    (λ t. record { number = t.0; cell = t.1.0; old = t.1.1 }) (λ _. refl)
+    code_by (ℕ × (Cell × (Option Present × ℕ))) (coded× coded_ℕ (coded× coded_cell (coded× (coded_option coded_present) coded_ℕ)))
+    (λ p. (p.number, (p.cell, (p.old, p.stamp))))
+    (λ t. record { number = t.0; cell = t.1.0; old = t.1.1.0; stamp = t.1.1.1 }) (λ _. refl)
 
 abbrev coded_segment : Coded Segment
 coded_segment =
-    code_by (ℕ × List OldPart) (coded× coded_ℕ (coded_list coded_old)) (λ s. (s.next, s.records))
-    (λ t. record { next = t.0; records = t.1 }) (λ _. refl)
+    code_by (ℕ × (ℕ × List OldPart)) (coded× coded_ℕ (coded× coded_ℕ (coded_list coded_old))) (λ s. (s.serial, (s.next, s.records)))
+    (λ t. record { serial = t.0; next = t.1.0; records = t.1.1 }) (λ _. refl)
 
 abbrev pub coded_held : Coded Held
 coded_held =

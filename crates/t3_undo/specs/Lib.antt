@@ -5,4 +5,5 @@ pub mod Objects
 pub mod Slots
 pub mod Journal
 pub mod UndoLaw
+pub mod Stamps
 pub mod Inner

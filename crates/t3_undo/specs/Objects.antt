@@ -42,11 +42,12 @@ part_of (Some x) cell = get x.1 cell
 abbrev pub part_at : {S : Type 0} → Objects S → ℕ → Cell → Option Present
 part_at objects number cell = part_of (get objects number) cell
 
--- what stood in a cell of an object before it was changed
+-- what stood in a cell of an object before it was changed, and the stamp that the cell's place had then
 pub record OldPart : Type 0 where
   pub number : ℕ
   pub cell : Cell
   pub old : Option Present
+  pub stamp : ℕ
 
 -- whether this is a record of that cell
 abbrev pub is_of : ℕ → Cell → OldPart → Bool
@@ -70,8 +71,10 @@ put_back objects (part ∷ parts) = put_back (set_cell objects part.number part.
 abbrev pub below : {S : Type 0} → ℕ → Objects S → Objects S
 below next objects = retain_keys objects (λ number. nat_lt number next)
 
--- of a savepoint: the number that was next then, and what was changed first since, the newest change first
+-- of a savepoint: its serial, which is how many had been made with it; the number that was next then; and what was
+-- changed first since, the newest change first
 pub record Segment : Type 0 where
+  pub serial : ℕ
   pub next : ℕ
   pub records : List OldPart
 

@@ -49,14 +49,14 @@ abbrev pub undone : {S : Type 0} → Objects S → List Segment → Objects S
 undone objects [] = objects
 undone objects (segment ∷ segments) = before objects segment
 
--- what happens where only first changes are kept
+-- what happens where only first changes are kept; serials and stamps play no part here, and are 0
 abbrev pub noted_after : {S : Type 0} → Noted S → Event S → Noted S
 noted_after s (Sets number cell content) = record s {
   objects = set_cell s.objects number cell content;
-  segments = noted (record { number = number; cell = cell; old = part_at s.objects number cell }) s.segments;
+  segments = noted (record { number = number; cell = cell; old = part_at s.objects number cell; stamp = 0 }) s.segments;
 }
 noted_after s (Makes shape parts) = record s { objects = insert s.objects s.next (shape, parts); next = s.next + 1 }
-noted_after s Saves = record s { segments = record { next = s.next; records = [] } ∷ s.segments }
+noted_after s Saves = record s { segments = record { serial = 0; next = s.next; records = [] } ∷ s.segments }
 noted_after s (Drops kept) = record s { segments = take kept s.segments }
 noted_after s Undoes = record s { objects = undone s.objects s.segments; segments = drop 1 s.segments }
 

@@ -1,25 +1,31 @@
-ghost use Rattle.std.specs.Prelude.{◌≡◌, ◌+◌, ◌-◌, ◌^◌, ◌<◌, ◌≤◌, [], ◌∷◌, length, take, drop, None, IfOk, option_map};
+ghost use Rattle.std.specs.Prelude.{◌≡◌, ◌+◌, ◌-◌, ◌^◌, ◌<◌, ◌≤◌, [], ◌∷◌, false, length, take, drop, None, IfOk, option_map};
 ghost use Rattle.t3_undo.specs.Content.{shown};
-ghost use Rattle.t3_undo.specs.Journal.{total, old_of, note_in, newest_next, newest_record, but_newest_record, HaveDistinctCells};
+ghost use Rattle.t3_undo.specs.Objects.{is_noted};
+ghost use Rattle.t3_undo.specs.Journal.{total, old_of, note_in, is_added, newest_next, newest_serial, serial_for, newest_records, newest_record, but_newest_record, HaveDistinctCells};
 
 use crate::cell::Cell;
 use crate::content::Content;
 use crate::kept::Kept;
-use crate::mark::Mark;
-use crate::rows::{add_mark, newest_next, note_record, take_mark, take_record};
+use crate::newest::{newest_next, newest_serial, serial_for};
+use crate::rings::{
+    Marks, Records, add_mark, note_fresh_record, note_record, take_mark, take_record,
+};
+use circular_buffer::HeapCircularBuffer;
 use std::alloc::Global;
 use std::marker::Model;
 use t3_holder::NoMemory;
 
 /// Savepoints, and of each what was changed first since: a record a cell, with what stood there before.
+/// A savepoint's serial is how many had been made with it. A record keeps the stamp of the cell's place,
+/// by which a caller tells without a search whether the newest savepoint has one.
 ///
 /// There are as many savepoints at most as the one limit says, and as many records of all savepoints
 /// together as the other says. All memory is taken by [`Journal::start`]; where a limit is reached, the
 /// oldest savepoints go. Contracts see the newest savepoint first, and the newest record first.
 #[derive(Drop)]
 pub struct Journal {
-    marks: Vec<Mark>,
-    records: Vec<Kept>,
+    marks: Marks,
+    records: Records,
     made: u64,
     mark_limit: u32,
     record_limit: u32,
@@ -32,8 +38,7 @@ impl Model for Journal {
 
     ghost coded = { coded_held };
 
-    ghost use Rattle.std.specs.Prelude.{vec_capacity};
-    ghost use Rattle.t3_undo.specs.Inner.Rows.{segments_of, IsJournal};
+    ghost use Rattle.t3_undo.specs.Inner.Rings.{segments_of, IsJournal};
 
     ghost view = { λ j. record {
       segments = segments_of j.marks.items j.records.items;
@@ -42,8 +47,7 @@ impl Model for Journal {
       mark_limit = j.mark_limit;
     } };
 
-    ghost invariant = { λ j. IsJournal j.marks.items j.records.items (vec_capacity j.marks)
-        (vec_capacity j.records) j.made j.mark_limit j.record_limit };
+    ghost invariant = { λ j. IsJournal j.marks j.records j.made j.mark_limit j.record_limit };
 }
 
 impl Journal {
@@ -61,8 +65,8 @@ impl Journal {
             }) }
     {
         Ok(Journal {
-            marks: Vec::with_capacity(alloc, savepoints as usize)?,
-            records: Vec::with_capacity(alloc, records as usize)?,
+            marks: HeapCircularBuffer::with_capacity(alloc, savepoints as usize)?,
+            records: HeapCircularBuffer::with_capacity(alloc, records as usize)?,
             made: 0,
             mark_limit: savepoints,
             record_limit: records,
@@ -74,24 +78,31 @@ impl Journal {
     pub fn mark(&mut self, next: u32)
         requires { self.old.marks < 2 ^ 63 }
         ensures { self.new ≡ record self.old {
-          segments = record { next = next; records = [] }
+          segments = record { serial = self.old.marks + 1; next = next; records = [] }
               ∷ take (self.old.mark_limit - 1) self.old.segments;
           marks = self.old.marks + 1;
         } }
     {
-        add_mark(&mut self.marks, &mut self.records, self.mark_limit, next);
         self.made += 1;
+        add_mark(
+            &mut self.marks,
+            &mut self.records,
+            self.mark_limit,
+            self.made,
+            next,
+        );
     }
 
     /// Adds a record of what stood in a cell before a change, where one is due: a savepoint is held, the
     /// object is older than the newest, and that one has no record of the cell. While there are as many
     /// records as the limit says, the oldest savepoint goes first, with its records; where none is left,
-    /// nothing is recorded.
+    /// nothing is recorded. The record's stamp is 0: this is for a caller whose places have no stamps.
     #[inline(always)]
     pub fn note(&mut self, number: u32, cell: Cell, old: Content)
         ensures { self.new ≡ record self.old {
           segments = note_in self.old.record_limit
-              (record { number = number; cell = cell; old = shown old }) self.old.segments;
+              (record { number = number; cell = cell; old = shown old; stamp = 0 })
+              self.old.segments;
         } }
     {
         // Mostly none is held, and then a caller pays for a test alone.
@@ -100,9 +111,56 @@ impl Journal {
                 &mut self.marks,
                 &mut self.records,
                 self.record_limit,
-                Kept { number, cell, old },
+                Kept {
+                    number,
+                    cell,
+                    old,
+                    stamp: 0,
+                },
             );
         }
+    }
+
+    /// Does what [`Journal::note`] does without a search: the newest savepoint, if one is held, has no
+    /// record of the cell. The record keeps the stamp. True exactly where it was added.
+    pub fn note_fresh(&mut self, number: u32, cell: Cell, old: Content, stamp: u64) -> bool
+        requires { is_noted number cell (newest_records self.old.segments) ≡ false }
+        ensures journal { self.new ≡ record self.old {
+          segments = note_in self.old.record_limit
+              (record { number = number; cell = cell; old = shown old; stamp = stamp })
+              self.old.segments;
+        } }
+        ensures added { result ≡ is_added self.old.record_limit
+            (record { number = number; cell = cell; old = shown old; stamp = stamp })
+            self.old.segments }
+    {
+        note_fresh_record(
+            &mut self.marks,
+            &mut self.records,
+            self.record_limit,
+            Kept {
+                number,
+                cell,
+                old,
+                stamp,
+            },
+        )
+    }
+
+    /// The serial of the newest savepoint. `None` exactly where none is held.
+    pub fn newest_serial(&self) -> Option<u64>
+        ensures { result ≡ newest_serial self.now.segments }
+    {
+        newest_serial(&self.marks, &self.records)
+    }
+
+    /// The serial of the newest savepoint, which a change of the object's cells gives to their places.
+    /// `None` exactly where no savepoint is held, or the object was made since the newest.
+    #[inline(always)]
+    pub fn serial_for(&self, number: u32) -> Option<u64>
+        ensures { result ≡ serial_for number self.now.segments }
+    {
+        serial_for(&self.marks, &self.records, number)
     }
 
     /// The number that was next at the newest savepoint. `None` exactly where none is held.

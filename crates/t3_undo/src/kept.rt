@@ -8,4 +8,6 @@ pub struct Kept {
     pub number: u32,
     pub cell: Cell,
     pub old: Content,
+    /// The stamp that the cell's place had before the change.
+    pub stamp: u64,
 }

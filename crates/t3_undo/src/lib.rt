@@ -13,7 +13,9 @@
 //! journal.records();                                          // 1
 //! ```
 //!
-//! [`undo_law`] says that this is as good as a whole copy of all objects at each savepoint.
+//! [`undo_law`] says that this is as good as a whole copy of all objects at each savepoint. Where the places of
+//! cells carry stamps, [`Journal::note_fresh`] takes the place of `note` and needs no search: [`stamp_law`] says
+//! that a stamp tells whether the newest savepoint has a record of the cell.
 #![tactic(auto)]
 
 mod cell;
@@ -25,18 +27,17 @@ mod key_order;
 mod law;
 mod mark;
 mod metaclass;
+mod newest;
 mod numbers;
-mod rows;
+mod rings;
 mod slots;
-#[cfg(test)]
-mod tests;
 
 pub use cell::Cell;
 pub use content::Content;
 pub use journal::Journal;
 pub use kept::Kept;
 pub use key::Key;
-pub use law::undo_law;
+pub use law::{stamp_law, undo_law};
 pub use metaclass::Metaclass;
 pub use numbers::Numbers;
 pub use slots::Slots;

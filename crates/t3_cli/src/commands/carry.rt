@@ -1,5 +1,5 @@
 //! Carries commands out: reads their image or source, and shows what it is or what it says, or writes it
-//! anew.
+//! anew, listed or assembled.
 ghost use Rattle.std.specs.Prelude.{◌≡◌, ◌≢◌, ◌<◌, ◌-◌, ◌^◌, ◌⊎◌, ℕ, List, [], Some, IfSome, IfOk};
 ghost use Rattle.t3_holder.specs.FileName.{IsFileName};
 ghost use Rattle.t3_io.specs.Cause.{MovesFaults};
@@ -28,7 +28,7 @@ use t3_holder::NoMemory;
 use t3_image_write::write_image;
 use t3_io::{Console, Depot, DeviceRefusal};
 
-/// Reads the command's image, and does with it what the command does.
+/// Reads the command's image or source, and does with it what the command does.
 pub(crate) fn carry_out<D: Depot, C: Console>(
     alloc: Global,
     command: Command,

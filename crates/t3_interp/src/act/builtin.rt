@@ -1,7 +1,7 @@
 //! Built-in functions.
 ghost use Rattle.std.specs.Prelude.{◌≡◌, ◌≤◌, ◌++◌, if◌then◌else◌, length, take, drop, IfOk, reverse, option_map, string_bytes};
 ghost use Rattle.t3_interp.specs.Values.{said_text, said_texts};
-ghost use Rattle.t3_interp.specs.Search.{kind_fault as kind_fault_of};
+ghost use Rattle.t3_ops.specs.Values.{kind_fault as kind_fault_of};
 ghost use Rattle.t3_interp.specs.Builtins.{builtin_action, io_action, is_gen_function, says};
 ghost use Rattle.t3_interp.specs.Inner.Acting.{HasAction, Appends, quiet_of, effect_of};
 ghost use Rattle.t3_interp.specs.Effect.{Stop, Fault as FaultEffect};
@@ -11,11 +11,10 @@ ghost use Rattle.t3_ops.specs.declared.fault.Fault.TheVariants.{NoBuiltin};
 use crate::effect::{MakeEffect, Quiet};
 use crate::event::CodeWhy;
 use crate::running::Core;
-use crate::values::kind_fault;
 use std::alloc::{AllocError, Global};
 use t3_holder::{Bytes, Holder, NoMemory};
 use t3_load::{Program, SetKind};
-use t3_ops::Fault;
+use t3_ops::{Fault, kind_fault};
 
 /// The index of the function that says values.
 const SAY: u8 = 0;

@@ -7,11 +7,11 @@ ghost use Rattle.t3_interp.specs.Inner.Acting.{HasDone, HasCasesOf, context_of};
 
 use crate::effect::Quiet;
 use crate::event::CodeWhy;
-use crate::relation::{Relation, equal, related};
+use crate::relation::{Relation, related};
 use crate::running::Core;
 use t3_holder::Holder;
 use t3_methods::{JumpCode, case_at};
-use t3_ops::{Fault, truth};
+use t3_ops::{Fault, same_holder, truth};
 use t3_pools::Pools;
 
 /// The number of the pool of code.
@@ -172,7 +172,7 @@ fn chosen(pools: &Pools, at: u32, count: u16, value: Holder) -> Option<(u32, i16
         let Some((holder, operand, distance)) = case_at(pools, at, nth) else {
             return None;
         };
-        if equal(holder, value) {
+        if same_holder(holder, value) {
             return Some((operand, distance));
         }
     }

@@ -9,10 +9,9 @@ use crate::effect::Quiet;
 use crate::event::CodeWhy;
 use crate::relation::{Relation, related};
 use crate::running::Core;
-use crate::values::kind_fault;
 use t3_holder::Holder;
 use t3_methods::MathCode;
-use t3_ops::{ArithOp, Fault, arith, truth};
+use t3_ops::{ArithOp, Fault, arith, kind_fault, truth};
 use t3_store::Store;
 
 /// Carries out an instruction that computes.

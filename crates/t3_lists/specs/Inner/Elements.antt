@@ -1,8 +1,7 @@
 -- The elements of a vector by their indices.
-use Rattle.std.specs.Prelude.{◌≡◌, ℕ, zero, suc, ◌<◌, ◌≤◌, ◌^◌, ◌==◌, ◌++◌, if◌then◌else◌, List, [], ◌∷◌, Option, None, Some, count_by, is_some, length, slice_get, slice_set, option_map, IsTrue}
+use Rattle.std.specs.Prelude.{◌≡◌, ℕ, zero, suc, ◌<◌, ◌^◌, ◌==◌, ◌++◌, if◌then◌else◌, List, [], ◌∷◌, Option, None, Some, count_by, is_some, length, slice_get, slice_set, option_map}
 use Rattle.t3_holder.specs.declared.holder.Holder.{Holder}
-use Rattle.std.specs.FinSet as set
-use Rattle.t3_undo.specs.Content.{shown, Places}
+use Rattle.t3_undo.specs.Content.{shown}
 use Rattle.t3_undo.specs.declared.cell.Cell.{Cell}
 use Rattle.t3_undo.specs.declared.cell.Cell.TheVariants as cells
 use Rattle.t3_undo.specs.declared.content.Content.{Content}
@@ -44,7 +43,3 @@ pub record AreCounted (elements : List (Option Holder)) (present : ℕ) : Type 0
 abbrev pub with_next : List (Option Holder) → Option ℕ → List (Option Holder)
 with_next elements None = elements
 with_next elements (Some index) = if index == length elements then elements ++ None ∷ [] else elements
-
--- the elements up to a number have places
-abbrev pub HasPlacesTo : Places → ℕ → Type 0
-HasPlacesTo places count = (number : ℕ) → 0 < number → number ≤ count → IsTrue (set.contains places (cells.Elem number))

@@ -10,7 +10,8 @@ use Rattle.t3_load.specs.declared.objects.Tried.TheVariants as tried
 use Rattle.t3_load.specs.declared.kinds.KindEntry.{KindEntry}
 use Rattle.t3_load.specs.declared.kinds.MetaKind.{MetaKind}
 use Rattle.t3_load.specs.Statics.{StaticValue, IsObjectOf, AreObjectsOf}
-use Rattle.t3_load.specs.Rules.{IsFirst, IsFirstTwice}
+use Rattle.t3_pools.specs.First.{IsFirst}
+use Rattle.t3_load.specs.Rules.{IsFirstTwice}
 
 abbrev pub static_of : StaticObject → StaticValue
 static_of static = record {

@@ -6,7 +6,6 @@ use Rattle.std.specs.BTreeMap.{BTreeMap, get as get_key}
 use denote.Ref.{Bor}
 use Rattle.t3_image_read.specs.declared.image.PlacedBlock.{PlacedBlock}
 use Rattle.t3_pools.specs.declared.refusal.PoolRefusal.{PoolRefusal}
-use Rattle.t3_pools.specs.declared.refusal.PoolRefusal.TheVariants.{PageIndex}
 use Rattle.t3_pools.specs.declared.refusal.DefinitionRule.{DefinitionRule}
 use Rattle.t3_pools.specs.declared.refusal.PageRule.{PageRule}
 use Rattle.t3_pools.specs.declared.refusal.PageRule.TheVariants.{Index, Twice, Missing, Long}
@@ -17,7 +16,7 @@ use Rattle.t3_pools.specs.declared.definitions.Definitions.{Definitions}
 use Rattle.t3_pools.specs.declared.definitions.Definitions.TheVariants.{Absent, Once, Repeated}
 use Rattle.t3_pools.specs.declared.sheets.Sheet.{Sheet}
 use Rattle.t3_pools.specs.Pool.{Defined, Paged, Said, said_of, size_by, pool_of}
-use Rattle.t3_pools.specs.Building.{count_by, HasFarPage, HasPageTwice, LacksPage, HasLongPage, Keeps, KeepsRules, Refuses, before}
+use Rattle.t3_pools.specs.Building.{count_by, HasFarPage, HasPageTwice, LacksPage, HasLongPage, Keeps, KeepsRules, Refuses, definition_rules}
 use Rattle.t3_pools.specs.Inner.Breaking.{definition_refusal, rank}
 use Rattle.t3_pools.specs.Inner.Keeping.{kept_bytes}
 
@@ -44,7 +43,7 @@ pub record LaysOut (said : Said) (layout : Layout) : Type 0 where
 
 abbrev pub FindsLayouts : List PlacedBlock → Result (Layout × Layout) DefinitionRule → Type 0
 FindsLayouts blocks (Ok layouts) = LaysOut (said_of 1 blocks) layouts.0 ×
-    (LaysOut (said_of 2 blocks) layouts.1 × Keeps (before PageIndex) blocks)
+    (LaysOut (said_of 2 blocks) layouts.1 × Keeps definition_rules blocks)
 FindsLayouts blocks (Err rule) = Refuses (definition_refusal rule) blocks
 
 -- the map has each index's one page; or an index has two

@@ -1,4 +1,4 @@
--- How a pool is kept: its page size, and its pages by their indices, each with its own bytes.
+-- How a pool is kept: its page size, and the bytes of its pages by their indices.
 use Rattle.std.specs.Prelude.{◌≡◌, ℕ, ◌+◌, ◌*◌, ◌/◌, ◌%◌, ◌^◌, ◌<◌, ◌≤◌, ◌==◌, nat_lt, false, List, [], ◌∷◌, length, Option, Some, None, drop, if◌then◌else◌}
 use Rattle.std.specs.List.{flat_map, list_any, slice_get}
 use Rattle.std.specs.FinMap.{get, from_entries}

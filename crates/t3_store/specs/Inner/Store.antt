@@ -45,15 +45,10 @@ pub record CanBePut (places : FinMap nat_cmp Places) (part : OldPart) : Type 0 w
 abbrev pub CanAllBePut : FinMap nat_cmp Places → List OldPart → Type 0
 CanAllBePut places parts = AllByRecursion (CanBePut places) parts
 
--- the records of the newest segment
-abbrev pub newest_records : List Segment → List OldPart
-newest_records [] = []
-newest_records (segment ∷ segments) = segment.records
-
 -- the newest segment without its records
 abbrev pub emptied : List Segment → List Segment
 emptied [] = []
-emptied (segment ∷ segments) = record { next = segment.next; records = [] } ∷ segments
+emptied (segment ∷ segments) = record segment { records = [] } ∷ segments
 
 -- the segments can be put back one after another: next numbers don't rise towards the older ones, and each record is of
 -- an object older than its savepoint

@@ -1,5 +1,5 @@
 use Rattle.std.proofs.Common.{length}
-use Rattle.t3_store.specs.Inner.Store.{newest_records}
+use Rattle.t3_undo.specs.Journal.{newest_records}
 use Rattle.t3_store.proofs.PuttingBack.{IsPutting}
 use Rattle.t3_store.proofs.entries.put_back.Given as goal
 

@@ -1,5 +1,5 @@
 use Rattle.std.proofs.Common.{sym, ap, ◌∙◌}
-use Rattle.t3_interp.specs.Search.{kind_fault}
+use Rattle.t3_ops.specs.Values.{kind_fault}
 use Rattle.t3_interp.proofs.Saying.{kind_fault-reverse}
 use Rattle.t3_interp.proofs.act.builtin.unsaid.Goals as goal
 

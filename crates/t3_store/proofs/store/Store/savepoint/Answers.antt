@@ -25,7 +25,8 @@ returns c = λ i. record {
         next = c.self.inside.next;
         next_transient = c.self.inside.next_transient;
         limits = c.self.inside.limits;
-        marks = (marks-saved c.self.inside.next (take (c.self.inside.journal.mark_limit - 1) c.self.inside.journal.segments)
+        marks = (marks-saved (c.self.inside.journal.marks + 1) c.self.inside.next
+            (take (c.self.inside.journal.mark_limit - 1) c.self.inside.journal.segments)
             c.self.inside.persistent.objects c.self.invariant.numbered.persistent_below
             ∙ (λ l. record { copy = values c.self.inside.persistent.objects; next = c.self.inside.next; changed = [] }
             ∷ marks-take (c.self.inside.journal.mark_limit - 1) c.self.inside.journal.segments c.self.inside.persistent.objects l)

@@ -1,0 +1,31 @@
+# Completion of t3 for bash: its commands, the files of this folder, and options.
+
+_t3() {
+    local LC_ALL=C word=${COMP_WORDS[COMP_CWORD]} names option='' name
+    COMPREPLY=()
+    if ((COMP_CWORD == 1)); then
+        COMPREPLY=($(compgen -W 'check show list run rewrite asm' -- "$word"))
+        return
+    fi
+    case ${COMP_WORDS[1]} in
+        check | show) names=1 ;;
+        list | asm) names=2 ;;
+        run) names=1 option=--steps= ;;
+        rewrite) names=2 option=--mask= ;;
+        *) return ;;
+    esac
+    if ((COMP_CWORD <= names + 1)); then
+        # Only files of this folder, under names that t3 takes.
+        while IFS= read -r name; do
+            if [[ -f $name && $name =~ ^[A-Za-z0-9_][A-Za-z0-9._-]{0,63}$ ]]; then
+                COMPREPLY+=("$name")
+            fi
+        done < <(compgen -f -- "$word")
+    elif [[ -n $option ]] && ((COMP_CWORD == names + 2)); then
+        COMPREPLY=($(compgen -W "$option" -- "$word"))
+        # A number follows at once.
+        compopt -o nospace 2>/dev/null
+    fi
+    return 0
+}
+complete -F _t3 t3

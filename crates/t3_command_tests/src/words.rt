@@ -1,0 +1,32 @@
+//! Words that are no command.
+use std::test::Fail;
+use t3_cli::Status;
+use t3_testing::outcome;
+
+const USAGE: &str = "usage: t3 check or show or list or run or rewrite or asm or drill\n";
+
+#[test]
+fn other_words_show_the_usage(rt: HostRuntime) -> Result<(), Fail> {
+    let rows: [&[&str]; 13] = [
+        &[],
+        &["check"],
+        &["check", "a.t3", "b.t3"],
+        &["check", "-a.t3"],
+        &["check", "folder/a.t3"],
+        &["--help"],
+        &["run", "a.t3", "--steps=007"],
+        &["run", "a.t3", "--steps=7", "--steps=7"],
+        &["run", "a.t3", "--steps=7", "7"],
+        &["run", "--steps=7", "a.t3"],
+        &["show", "a.t3", "--steps=7"],
+        &["show", "a.t3", "b.t3"],
+        &["show"],
+    ];
+    for words in &rows {
+        let (status, shown) = outcome(rt.alloc(), words, None)?;
+        assert_eq!(rt; shown.as_slice(), USAGE.as_bytes());
+        assert_eq!(rt; status, Status::Usage);
+        assert_eq!(rt; status.code(), 1);
+    }
+    Ok(())
+}

@@ -1,0 +1,94 @@
+//! Frames beside lists.
+use std::alloc::Global;
+use std::test::Fail;
+use t3_frames::Frames;
+use t3_holder::Holder;
+
+/// A method's locals and operands, the topmost last.
+#[derive(Drop)]
+struct Plain {
+    locals: Vec<Holder>,
+    operands: Vec<Holder>,
+}
+
+/// Does to both what a number says, and tells whether they answer the same.
+fn does_the_same(frames: &mut Frames, plain: &mut Plain, number: u32) -> Result<bool, Fail> {
+    let n = (number >> 8 & 3) as u16;
+    let value = Holder::Int((number >> 12).cast_signed());
+    let same = match number % 8 {
+        0..=3 => {
+            if !frames.is_full() {
+                frames.push(value);
+                plain.operands.push(value)?;
+            }
+            let Ok(count) = u32::try_from(plain.operands.len()) else {
+                return Ok(false);
+            };
+            frames.has_operands(count) && !frames.has_operands(count.saturating_add(1))
+        }
+        4 | 5 => frames.pop() == plain.operands.pop(),
+        6 => {
+            frames.set_local(n, value);
+            if let Some(local) = plain.locals.get_mut(usize::from(n)) {
+                *local = value;
+            }
+            frames.top() == plain.operands.last().copied()
+        }
+        _ => frames.local(n) == plain.locals.get(usize::from(n)).copied(),
+    };
+    Ok(same)
+}
+
+/// Two thousand changes of a method with three locals, by numbers that seem random.
+#[test]
+fn does_as_lists_do(rt: HostRuntime) -> Result<(), Fail> {
+    let alloc = rt.alloc();
+    let mut frames = Frames::new(alloc)?;
+    frames.begin(100, 3);
+    let mut plain = Plain {
+        locals: vec![in alloc; Holder::Nil; 3]?,
+        operands: Vec::new(alloc),
+    };
+    let mut number: u32 = 1;
+    for _ in 0..2_000 {
+        number = number.wrapping_mul(1_103_515_245).wrapping_add(12_345);
+        assert!(rt; does_the_same(&mut frames, &mut plain, number >> 4)?);
+    }
+    Ok(())
+}
+
+#[test]
+fn holds_as_many_values_as_it_may(rt: HostRuntime) -> Result<(), Fail> {
+    let mut frames = Frames::new(rt.alloc())?;
+    frames.begin(0, 65_535);
+    assert!(rt; !frames.is_full());
+    frames.push(Holder::True);
+    assert!(rt; frames.is_full());
+    assert_eq!(rt; frames.local(65_534), Some(Holder::Nil));
+    assert_eq!(rt; frames.local(65_535), None);
+    assert_eq!(rt; frames.topmost(9), [Holder::True].as_slice());
+    frames.drop_operands(9);
+    assert_eq!(rt; frames.pop(), None);
+    assert_eq!(rt; frames.argument(0), None);
+    Ok(())
+}
+
+#[test]
+fn goes_from_place_to_place(rt: HostRuntime) -> Result<(), Fail> {
+    let mut frames = Frames::new(rt.alloc())?;
+    frames.begin(100, 0);
+    frames.carry_out(5);
+    assert_eq!(rt;
+        (frames.method(), frames.place(), frames.next()),
+        (100, 110, 115)
+    );
+    frames.go_on();
+    assert_eq!(rt; (frames.place(), frames.next()), (115, 115));
+    frames.go_to(7);
+    assert_eq!(rt; (frames.place(), frames.next()), (7, 7));
+    assert_eq!(rt;
+        (frames.this(), frames.arguments(), frames.locals()),
+        (Holder::Nil, 0, 0)
+    );
+    Ok(())
+}

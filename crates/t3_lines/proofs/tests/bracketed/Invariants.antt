@@ -1,5 +1,0 @@
-use Rattle.std.proofs.Common.{◌≡◌}
-use Rattle.t3_lines.proofs.tests.bracketed.Given as goal
-
-abbrev pub invariant-loop-turn : goal.invariant-loop-turn
-invariant-loop-turn g l = g.C.Console.faults l.console ≡ g.C.Console.faults l.fn.console

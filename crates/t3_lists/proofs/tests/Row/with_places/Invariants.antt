@@ -1,7 +1,0 @@
-use Rattle.t3_lists.specs.Vector.{places_of}
-use Rattle.t3_lists.specs.Inner.Elements.{HasPlacesTo}
-use Rattle.t3_lists.proofs.tests.Row.with_places.Given as goal
-
--- the places so far
-abbrev pub invariant-loop-index : goal.invariant-loop-index
-invariant-loop-index l = HasPlacesTo (places_of l.vector) l.index

@@ -1,0 +1,136 @@
+//! Small images for tests of the loader.
+use std::alloc::{AllocError, Global};
+use std::test::Fail;
+use t3_load::{LoadRefusal, Program, load};
+use t3_store::StoreLimits;
+use t3_test_images::{
+    block, function_sets, image, metaclasses, metaclasses_with, object_block, page, pool_definition,
+};
+
+/// An object of a test image: its metaclass's index, whether it is transient, its number and its
+/// bytes.
+pub(crate) type Thing<'a> = (u16, bool, u32, &'a [u8]);
+
+/// A test image, and the limits that it is loaded with.
+#[derive(Clone, Copy)]
+pub(crate) struct Parts<'a> {
+    /// How many `ENTP` blocks there are.
+    pub(crate) entries: usize,
+    pub(crate) method_size: u8,
+    pub(crate) exception_size: u8,
+    pub(crate) has_pool: bool,
+    /// The bytes of code, at most 64. The entry method is to stand at the sixth.
+    pub(crate) code: &'a [u8],
+    pub(crate) metas: &'a [&'a [u8]],
+    /// Whether each has properties.
+    pub(crate) has_methods: bool,
+    pub(crate) sets: &'a [&'a [u8]],
+    pub(crate) things: &'a [Thing<'a>],
+    pub(crate) objects: u16,
+    pub(crate) units: u16,
+}
+
+/// The metaclasses that test images list, by their indices.
+const METAS: [&[u8]; 7] = [
+    b"tads-object/030005",
+    b"string/030000",
+    b"list",
+    b"vector",
+    b"lookuptable/030003",
+    b"root-object",
+    b"collection",
+];
+
+/// An image that breaks no rule, without objects.
+pub(crate) const GOOD: Parts<'static> = Parts {
+    entries: 1,
+    method_size: 10,
+    exception_size: 10,
+    has_pool: true,
+    code: &[1, 2, 3],
+    metas: &METAS,
+    has_methods: false,
+    sets: &[b"tads-gen/030008", b"tads-io"],
+    things: &[],
+    objects: 100,
+    units: 100,
+};
+
+/// Two properties, 3 and 1, behind their count and size.
+const PROPS: &[u8] = b"\x02\x00\x02\x00\x03\x00\x01\x00";
+
+/// The blocks of a test image with these objects.
+fn blocks(
+    alloc: Global,
+    parts: &Parts<'_>,
+    things: &[Thing<'_>],
+) -> Result<Vec<Vec<u8>>, AllocError> {
+    let mut blocks = Vec::new(alloc);
+    let mut entry = [0; 16];
+    entry[0] = 5;
+    entry[4] = parts.method_size;
+    entry[6] = parts.exception_size;
+    for _entry in 0..parts.entries {
+        blocks.push(block(alloc, b"ENTP", &entry)?)?;
+    }
+    for thing in things {
+        let (metaclass, transient, number, bytes) = *thing;
+        blocks.push(object_block(alloc, metaclass, transient, number, bytes)?)?;
+    }
+    if parts.has_pool {
+        blocks.push(pool_definition(alloc, 1, 1, 64)?)?;
+        blocks.push(page(alloc, 1, 0, parts.code)?)?;
+    }
+    if parts.has_methods {
+        blocks.push(metaclasses_with(alloc, parts.metas, PROPS)?)?;
+    } else {
+        blocks.push(metaclasses(alloc, parts.metas)?)?;
+    }
+    blocks.push(function_sets(alloc, parts.sets)?)?;
+    Ok(blocks)
+}
+
+pub(crate) fn loaded(
+    alloc: Global,
+    parts: &Parts<'_>,
+) -> Result<Result<Program, LoadRefusal>, Fail> {
+    loaded_with(alloc, parts, parts.things)
+}
+
+/// What is made of a test image with these objects in place of its own.
+fn loaded_with(
+    alloc: Global,
+    parts: &Parts<'_>,
+    things: &[Thing<'_>],
+) -> Result<Result<Program, LoadRefusal>, Fail> {
+    let image = image(alloc, &blocks(alloc, parts, things)?)?;
+    let limits = StoreLimits {
+        objects: u32::from(parts.objects),
+        units: u32::from(parts.units),
+        records: 1,
+        savepoints: 1,
+    };
+    Ok(load(alloc, &image, [7; 32], limits))
+}
+
+/// The refusal of a test image.
+pub(crate) fn refusal(alloc: Global, parts: &Parts<'_>) -> Result<Option<LoadRefusal>, Fail> {
+    refusal_with(alloc, parts, parts.things)
+}
+
+/// The refusal of a test image with these objects in place of its own.
+pub(crate) fn refusal_with(
+    alloc: Global,
+    parts: &Parts<'_>,
+    things: &[Thing<'_>],
+) -> Result<Option<LoadRefusal>, Fail> {
+    match loaded_with(alloc, parts, things)? {
+        Ok(_program) => Ok(None),
+        Err(why) => Ok(Some(why)),
+    }
+}
+
+/// `GOOD` with these objects.
+pub(crate) fn with(things: &'static [Thing<'static>]) -> Parts<'static> {
+    Parts { things, ..GOOD }
+}

@@ -1,0 +1,12 @@
+//! Tests of `t3_load`: which rule an image breaks first, the program of one that breaks none, and
+//! stores that begin with its objects.
+#![tactic(auto)]
+
+#[cfg(test)]
+mod images;
+#[cfg(test)]
+mod rules;
+#[cfg(test)]
+mod stores;
+#[cfg(test)]
+mod unbuilt;

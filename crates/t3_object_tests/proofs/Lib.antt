@@ -1,0 +1,3 @@
+pub mod OrderRising
+pub mod Places
+pub mod Journals

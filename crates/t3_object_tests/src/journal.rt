@@ -1,0 +1,302 @@
+//! The journal by itself, and a kind round its slots.
+ghost use Rattle.std.specs.Prelude.{◌≡◌, ◌<◌, IsTrue, IfOk, OnOk};
+ghost use Rattle.t3_undo.specs.Content.{shown, is_form};
+
+use std::alloc::Global;
+use std::process::Abort;
+use std::test::Fail;
+use t3_holder::{Bytes, Holder, NoMemory};
+use t3_undo::{Cell, Content, Journal, Key, Metaclass, Slots};
+
+/// A number in a cell.
+fn held(number: i32) -> Content {
+    Content::Held(Holder::Int(number))
+}
+
+#[test]
+fn the_only_savepoint_goes_where_its_records_fill_the_journal(rt: HostRuntime) -> Result<(), Fail> {
+    let mut journal = Journal::start(rt.alloc(), 2, 128)?;
+    journal.mark(2);
+    journal.note(1, Cell::Prop(1), held(0));
+    journal.note(1, Cell::Prop(2), held(0));
+    assert_eq!(rt; (journal.held(), journal.records()), (1, 2));
+    journal.note(1, Cell::Prop(3), held(0));
+    assert_eq!(rt; (journal.held(), journal.records()), (0, 0));
+    assert_eq!(rt; journal.newest_next(), None);
+    assert_eq!(rt; journal.marks(), 1);
+    Ok(())
+}
+
+#[test]
+fn a_further_savepoint_drops_the_oldest(rt: HostRuntime) -> Result<(), Fail> {
+    let mut journal = Journal::start(rt.alloc(), 3, 2)?;
+    journal.mark(2);
+    journal.note(1, Cell::Prop(5), held(0));
+    journal.mark(2);
+    journal.note(1, Cell::Prop(5), held(1));
+    journal.mark(2);
+    journal.note(1, Cell::Prop(5), held(2));
+    assert_eq!(rt; (journal.held(), journal.records()), (2, 2));
+    let kept = journal.take_kept().ok_or("a record")?;
+    assert_eq!(rt; (kept.number, kept.old), (1, held(2)));
+    assert!(rt; kept.cell == Cell::Prop(5));
+    journal.clear();
+    assert_eq!(rt; (journal.held(), journal.records()), (0, 0));
+    assert_eq!(rt; journal.marks(), 3);
+    Ok(())
+}
+
+#[test]
+fn one_record_is_room_for_one_change(rt: HostRuntime) -> Result<(), Fail> {
+    let mut journal = Journal::start(rt.alloc(), 1, 1)?;
+    journal.mark(7);
+    journal.mark(9);
+    assert_eq!(rt; (journal.held(), journal.newest_next()), (1, Some(9)));
+    journal.note(9, Cell::Prop(1), held(0));
+    assert_eq!(rt; journal.records(), 0, "made since the savepoint");
+    check_first_change(&rt, &mut journal)
+}
+
+/// Of two changes of a cell the first is kept, and goes with its savepoint.
+fn check_first_change(rt: &impl Abort, journal: &mut Journal) -> Result<(), Fail>
+    requires { journal.old.marks < 1000 }
+{
+    journal.note(8, Cell::Prop(1), held(1));
+    journal.note(8, Cell::Prop(1), held(2));
+    assert_eq!(rt; (journal.held(), journal.records()), (1, 1));
+    let kept = journal.take_kept().ok_or("a record")?;
+    assert_eq!(rt;
+        kept.old,
+        held(1),
+        "what stood there before the first change"
+    );
+    journal.mark(9);
+    journal.clear();
+    assert_eq!(rt;
+        (journal.held(), journal.records(), journal.marks()),
+        (0, 0, 3)
+    );
+    Ok(())
+}
+
+/// Makes a savepoint. A test makes few.
+fn save(journal: &mut Journal, next: u32) {
+    if journal.marks() < 1000 {
+        journal.mark(next);
+    }
+}
+
+#[test]
+fn rings_go_round(rt: HostRuntime) -> Result<(), Fail> {
+    // Each savepoint but the last loses its two records to the next one's second.
+    let mut journal = Journal::start(rt.alloc(), 3, 2)?;
+    for round in 0..9u16 {
+        save(&mut journal, 10);
+        assert_eq!(rt; journal.held(), if round == 0 { 1 } else { 2 });
+        journal.note(1, Cell::Prop(round), held(1));
+        journal.note(2, Cell::Prop(round), held(2));
+        assert_eq!(rt; (journal.held(), journal.records()), (1, 2));
+        assert_eq!(rt; journal.newest_serial(), Some(u64::from(round) + 1));
+    }
+    let kept = journal.take_kept().ok_or("the last record")?;
+    assert_eq!(rt; (kept.number, kept.old), (2, held(2)));
+    assert!(rt; kept.cell == Cell::Prop(8));
+    let kept = journal.take_kept().ok_or("the one before")?;
+    assert_eq!(rt; (kept.number, kept.old), (1, held(1)));
+    assert!(rt; kept.cell == Cell::Prop(8));
+    assert!(rt; journal.take_kept().is_none());
+    Ok(())
+}
+
+#[test]
+fn full_rings_of_one(rt: HostRuntime) -> Result<(), Fail> {
+    let mut journal = Journal::start(rt.alloc(), 1, 1)?;
+    for round in 1..6u32 {
+        save(&mut journal, round);
+        assert_eq!(rt; (journal.held(), journal.records()), (1, 0));
+        journal.note(0, Cell::Prop(1), held(1));
+        assert_eq!(rt; (journal.held(), journal.records()), (1, 1));
+        assert_eq!(rt; journal.newest_next(), Some(round));
+        assert_eq!(rt; journal.serial_for(round), None, "made since");
+        assert_eq!(rt; journal.serial_for(0), Some(u64::from(round)));
+    }
+    journal.note(0, Cell::Prop(2), held(1));
+    assert_eq!(rt; (journal.held(), journal.records()), (0, 0));
+    assert_eq!(rt;
+        (journal.newest_serial(), journal.serial_for(0)),
+        (None, None)
+    );
+    Ok(())
+}
+
+/// A savepoint, and in it a record of object 1 that is added without a search. Whether it was added.
+fn save_and_note(journal: &mut Journal, next: u32, cell: Cell, old: i32, stamp: u64) -> bool {
+    if journal.marks() >= 1000 {
+        return false;
+    }
+    journal.mark(next);
+    journal.note_fresh(1, cell, held(old), stamp)
+}
+
+/// A savepoint, and in it two records that are added without a search. Whether each was added.
+fn save_and_note_two(journal: &mut Journal) -> (bool, bool) {
+    if journal.marks() >= 1000 {
+        return (false, false);
+    }
+    journal.mark(2);
+    let old = held(0);
+    let first = journal.note_fresh(1, Cell::Prop(1), old, 7);
+    let second = journal.note_fresh(1, Cell::Prop(2), held(0), 7);
+    (first, second)
+}
+
+#[test]
+fn note_fresh_tells_whether_it_noted(rt: HostRuntime) -> Result<(), Fail> {
+    let mut journal = Journal::start(rt.alloc(), 1, 1)?;
+    assert!(rt; save_and_note(&mut journal, 2, Cell::Prop(1), 0, 7));
+    assert_eq!(rt; (journal.held(), journal.records()), (1, 1));
+    assert_eq!(rt;
+        (journal.newest_serial(), journal.serial_for(1)),
+        (Some(1), Some(1))
+    );
+    let added = save_and_note_two(&mut journal);
+    assert_eq!(rt; added, (true, false), "the last savepoint went");
+    assert_eq!(rt; (journal.held(), journal.records()), (0, 0));
+    let added = save_and_note(&mut journal, 1, Cell::Prop(1), 0, 7);
+    assert!(rt; !added, "made since");
+    assert_eq!(rt; (journal.held(), journal.records()), (1, 0));
+    Ok(())
+}
+
+#[test]
+fn records_hand_out_their_stamps(rt: HostRuntime) -> Result<(), Fail> {
+    let mut journal = Journal::start(rt.alloc(), 2, 1)?;
+    assert!(rt; save_and_note(&mut journal, 2, Cell::Elem(1), 3, 7));
+    journal.note(1, Cell::Elem(2), held(4));
+    let kept = journal.take_kept().ok_or("the record without a stamp")?;
+    assert_eq!(rt; (kept.old, kept.stamp), (held(4), 0));
+    let kept = journal.take_kept().ok_or("the record with one")?;
+    assert_eq!(rt; (kept.old, kept.stamp), (held(3), 7));
+    Ok(())
+}
+
+#[test]
+fn copies_are_equal(rt: HostRuntime) -> Result<(), Fail> {
+    let keys = [
+        Key::Nil,
+        Key::True,
+        Key::Int(-1),
+        Key::Enum(1),
+        Key::Prop(1),
+        Key::Func(1),
+        Key::Obj(1),
+        Key::Text(Bytes(Vec::from_slice(rt.alloc(), b"one")?)),
+    ];
+    for (index, key) in keys.iter().enumerate() {
+        check_key(&rt, rt.alloc(), key, &keys, index)?;
+    }
+    for cell in [Cell::Prop(1), Cell::Elem(1), Cell::Default] {
+        assert!(rt; cell.copy(rt.alloc())? == cell);
+    }
+    Ok(())
+}
+
+/// A copy of a key is equal to it, and it to the key of this index alone.
+fn check_key(
+    rt: &impl Abort,
+    alloc: Global,
+    key: &Key,
+    keys: &[Key],
+    index: usize,
+) -> Result<(), Fail> {
+    assert!(rt; key.copy(alloc)? == *key);
+    for (place, other) in keys.iter().enumerate() {
+        assert_eq!(rt; key == other, place == index);
+    }
+    let cell = Cell::Key(key.copy(alloc)?);
+    assert!(rt; cell.copy(alloc)? == cell);
+    Ok(())
+}
+
+/// A kind round slots, which has any cell but a default.
+#[derive(Drop)]
+struct Sheet {
+    slots: Slots,
+}
+
+impl Metaclass for Sheet {
+    ghost use Rattle.std.specs.Prelude.{None, IsTrue};
+    ghost use Rattle.t3_undo.specs.Content.{is_form};
+    ghost use Rattle.t3_undo.specs.Slots.{parts_of, places_of};
+
+    ghost parts = { λ s. parts_of s.slots };
+
+    ghost places = { λ s. places_of s.slots };
+
+    ghost can_have = { λ s cell. IsTrue (is_form cell None) };
+
+    fn get(&self, cell: &Cell) -> Content {
+        self.slots.get(cell)
+    }
+
+    fn put(&mut self, cell: &Cell, content: Content) -> Content {
+        self.slots.put(cell, content)
+    }
+
+    fn make_place(&mut self, cell: Cell) -> Result<(), NoMemory> {
+        self.slots.make_place(cell)
+    }
+
+    fn places(&self) -> u64 {
+        self.slots.places()
+    }
+}
+
+#[test]
+fn what_stood_there_can_be_put_back(rt: HostRuntime) -> Result<(), Fail> {
+    let mut sheet = Sheet {
+        slots: Slots::new(rt.alloc()),
+    };
+    check_put_back(&rt, rt.alloc(), &mut sheet)?;
+    check_places(&rt, rt.alloc(), &mut sheet)
+}
+
+/// A key of three bytes.
+fn one(alloc: Global) -> Result<Key, NoMemory> {
+    Ok(Key::Text(Bytes(Vec::from_slice(alloc, b"one")?)))
+}
+
+fn check_put_back(rt: &impl Abort, alloc: Global, sheet: &mut Sheet) -> Result<(), Fail> {
+    let cell = Cell::Key(one(alloc)?);
+    let seen = set_and_put_back(sheet, alloc, &cell, Content::Slot(1, Holder::True))?;
+    assert_eq!(rt; seen.value(), Some(Holder::True));
+    assert_eq!(rt; sheet.get(&cell), Content::Absent);
+    Ok(())
+}
+
+fn check_places(rt: &impl Abort, alloc: Global, sheet: &mut Sheet) -> Result<(), Fail> {
+    sheet.make_place(Cell::Key(one(alloc)?))?;
+    sheet.make_place(Cell::Elem(2))?;
+    assert_eq!(rt; sheet.places(), 2, "one of these was there");
+    assert_eq!(rt; sheet.slots.copy(alloc)?.places(), 0, "none is present");
+    Ok(())
+}
+
+/// Makes a place for a cell, sets the cell, looks, and puts back what stood there.
+fn set_and_put_back<M: Metaclass>(
+    object: &mut M,
+    alloc: Global,
+    cell: &Cell,
+    content: Content,
+) -> Result<Content, NoMemory>
+    requires can_have { M.can_have object.old cell.now }
+    requires form { IsTrue (is_form cell.now (shown content)) }
+    ensures seen { IfOk result (λ seen. shown seen ≡ shown content) }
+    ensures parts { OnOk result (M.parts object.new ≡ M.parts object.old) }
+{
+    object.make_place(cell.copy(alloc)?)?;
+    let old = object.put(cell, content);
+    let seen = object.get(cell);
+    let _content = object.put(cell, old);
+    Ok(seen)
+}

@@ -1,0 +1,167 @@
+//! Strings, lists and vectors, each call once, and vectors with holes.
+ghost use Rattle.std.specs.Prelude.{◌≡◌, ℕ, ◌<◌, ◌≤◌, [], ◌∷◌, ◌++◌, IsTrue, IfOk, OnOk, length};
+ghost use Rattle.t3_undo.specs.Content.{shown, is_form};
+ghost use Rattle.t3_undo.specs.declared.cell.Cell.TheVariants.{Elem};
+ghost use Rattle.t3_lists.specs.Vector.{parts_of, places_of, items_of, filled, IsWhole};
+ghost use Rattle.t3_object_tests.specs.Places.{HasPlacesTo};
+
+use std::alloc::Global;
+use std::process::Abort;
+use std::test::Fail;
+use t3_holder::{Bytes, Holder, NoMemory};
+use t3_lists::{Holders, List, Text, Vector};
+use t3_undo::{Cell, Content, Metaclass};
+
+/// A vector that has places for so many elements.
+#[derive(Drop)]
+struct Row {
+    vector: Vector,
+    count: u32,
+    ghost placed: { HasPlacesTo (places_of vector) count },
+}
+
+impl Row {
+    /// All elements are missing.
+    fn with_places(alloc: Global, count: u32) -> Result<Row, NoMemory> {
+        let mut vector = Vector::new(alloc);
+        for index in 0..count {
+            vector.make_place(Cell::Elem(index + 1))?;
+        }
+        Ok(Row { vector, count })
+    }
+
+    /// Sets an element, or takes it away, and gives the number that stood there.
+    fn set(&mut self, number: u32, value: Option<i32>) -> Option<Holder> {
+        if number == 0 || number > self.count {
+            return None;
+        }
+        self.vector.put(&Cell::Elem(number), content(value)).value()
+    }
+}
+
+fn content(value: Option<i32>) -> Content
+    ensures { (number : ℕ) → IsTrue (is_form (Elem number) (shown result)) }
+{
+    match value {
+        Some(number) => Content::Held(Holder::Int(number)),
+        None => Content::Absent,
+    }
+}
+
+/// Sets the element behind the last one.
+fn push(vector: &mut Vector, item: Holder) -> Result<(), NoMemory>
+    requires whole { IsWhole (parts_of vector.old) }
+    requires few { length (items_of (parts_of vector.old)) < 65535 }
+    ensures { OnOk result (parts_of vector.new ≡ filled (items_of (parts_of vector.old) ++ item ∷ [])) }
+{
+    let number = vector.length() + 1;
+    vector.make_place(Cell::Elem(number))?;
+    let _absent = vector.put(&Cell::Elem(number), Content::Held(item));
+    Ok(())
+}
+
+/// A vector of these items.
+fn vector_of(alloc: Global, items: &[Holder]) -> Result<Vector, NoMemory>
+    requires { length items.now ≤ 65535 }
+    ensures { IfOk result (λ vector. parts_of vector ≡ filled items.now) }
+{
+    let mut vector = Vector::new(alloc);
+    for item in items {
+        push(&mut vector, *item)?;
+    }
+    Ok(vector)
+}
+
+/// The four elements are set from above and from below, with holes in between.
+fn check_filled(rt: &impl Abort, row: &mut Row) -> Result<(), Fail> {
+    for number in [4, 3, 1, 2] {
+        assert_eq!(rt; row.set(number, Some(number as i32)), None);
+    }
+    assert_eq!(rt; row.vector.length(), 4);
+    Ok(())
+}
+
+/// The lower two are taken away, and set again.
+fn check_set_again(rt: &impl Abort, row: &mut Row) -> Result<(), Fail> {
+    for number in [2, 1] {
+        let stood = row.set(number, None);
+        assert_eq!(rt; stood, Some(Holder::Int(number as i32)));
+    }
+    assert_eq!(rt;
+        (row.vector.places(), row.vector.length()),
+        (4, 2),
+        "two are missing below"
+    );
+    assert_eq!(rt; row.vector.get(&Cell::Elem(2)), Content::Absent);
+    for number in [1, 2] {
+        assert_eq!(rt; row.set(number, Some(0)), None);
+    }
+    assert_eq!(rt; row.vector.length(), 4);
+    Ok(())
+}
+
+/// All are taken away from above, and their places stay.
+fn check_emptied(rt: &impl Abort, row: &mut Row) -> Result<(), Fail> {
+    for number in [4, 3, 2, 1] {
+        let _stood = row.set(number, None);
+        assert_eq!(rt; row.vector.length(), number - 1);
+    }
+    assert_eq!(rt; row.vector.places(), 4);
+    Ok(())
+}
+
+#[test]
+fn holes_are_filled_from_above_and_from_below(rt: HostRuntime) -> Result<(), Fail> {
+    let mut row = Row::with_places(rt.alloc(), 4)?;
+    assert_eq!(rt; (row.vector.places(), row.vector.length()), (4, 0));
+    check_filled(&rt, &mut row)?;
+    check_set_again(&rt, &mut row)?;
+    check_emptied(&rt, &mut row)
+}
+
+#[test]
+fn the_greatest_element_of_a_vector(rt: HostRuntime) -> Result<(), Fail> {
+    let alloc = rt.alloc();
+    let items = vec![in alloc; Holder::Int(7); 65535]?;
+    let vector = vector_of(alloc, &items)?;
+    assert_eq!(rt; (vector.length(), vector.places()), (65535, 65535));
+    let copy = vector.copy(alloc)?;
+    assert_eq!(rt; (copy.length(), copy.places()), (65535, 65535));
+    let last = copy.get(&Cell::Elem(65535));
+    assert_eq!(rt; last, Content::Held(Holder::Int(7)));
+    for outside in [
+        Cell::Elem(0),
+        Cell::Elem(65536),
+        Cell::Prop(1),
+        Cell::Default,
+    ] {
+        assert_eq!(rt; copy.get(&outside), Content::Absent);
+    }
+    Ok(())
+}
+
+#[test]
+fn strings_and_lists_have_no_cells(rt: HostRuntime) -> Result<(), Fail> {
+    let alloc = rt.alloc();
+    assert_eq!(rt;
+        (
+            Text::new(alloc).bytes().len(),
+            List::new(alloc).items().len()
+        ),
+        (0, 0)
+    );
+    let mut text = Text::of(Bytes(Vec::from_slice(alloc, "hé".as_bytes())?)).copy(alloc)?;
+    let mut list = List::of(Holders(Vec::from_slice(alloc, &[Holder::True])?)).copy(alloc)?;
+    text.make_place(Cell::Elem(1))?;
+    list.make_place(Cell::Elem(1))?;
+    let back = text.put(&Cell::Elem(1), Content::Held(Holder::Nil));
+    assert_eq!(rt; back, Content::Held(Holder::Nil));
+    let back = list.put(&Cell::Elem(1), Content::Held(Holder::Nil));
+    assert_eq!(rt; back, Content::Held(Holder::Nil));
+    assert_eq!(rt; (text.places(), list.places()), (0, 0));
+    assert_eq!(rt; text.get(&Cell::Elem(1)), Content::Absent);
+    assert_eq!(rt; list.get(&Cell::Elem(1)), Content::Absent);
+    assert_eq!(rt; text.bytes(), [b'h', 0xC3, 0xA9].as_slice());
+    assert_eq!(rt; list.items(), [Holder::True].as_slice());
+    Ok(())
+}

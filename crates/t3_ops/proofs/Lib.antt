@@ -1,0 +1,11 @@
+pub mod Reading
+pub mod Contents
+pub mod Fronts
+pub mod Walking
+pub mod Appending
+pub mod Containing
+pub mod TextForms
+pub mod Bests
+pub mod Counting
+pub mod Creations
+pub mod Writing

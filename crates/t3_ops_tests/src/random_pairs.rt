@@ -1,0 +1,263 @@
+//! Random values compared by `equal`, and beside it by a plain program that makes the whole list of pairs.
+use crate::fixture::{add_list, add_text, empty_store, paged};
+use std::alloc::{AllocError, Global};
+use std::test::Fail;
+use t3_holder::Holder;
+use t3_ops::{EqualRefusal, Fault, equal};
+use t3_pools::Pools;
+use t3_store::Store;
+
+/// How many constants there are, each in as many bytes.
+const CONSTANTS: u32 = 12;
+
+const SLOT: u32 = 32;
+
+/// How many objects there are, half of them strings and half of them lists.
+const OBJECTS: u32 = 8;
+
+/// Numbers that look random, each from the one before.
+#[derive(Drop)]
+struct Dice(u32);
+
+impl Dice {
+    fn roll(&mut self, sides: u32) -> u32 {
+        self.0 = self.0.wrapping_mul(1_664_525).wrapping_add(1_013_904_223);
+        (self.0 >> 16).checked_rem(sides).unwrap_or(0)
+    }
+
+    /// A value, which is a text, a list or an object in three of four cases, and seldom a stale reference.
+    fn value(&mut self) -> Holder {
+        let address = self.roll(CONSTANTS).wrapping_mul(SLOT);
+        match self.roll(8) {
+            0 => Holder::Nil,
+            1 => Holder::Int(i32::from(self.roll(2) == 0)),
+            2 | 3 => Holder::Text(address),
+            4 | 5 => Holder::List(address),
+            _ => Holder::Obj(self.roll(OBJECTS + 1).wrapping_add(1)),
+        }
+    }
+
+    fn values(&mut self, alloc: Global) -> Result<Vec<Holder>, AllocError> {
+        let mut values = Vec::new(alloc);
+        for _ in 0..self.roll(4) {
+            values.push(self.value())?;
+        }
+        Ok(values)
+    }
+
+    /// Up to three bytes, which often are no UTF-8.
+    fn text(&mut self, alloc: Global) -> Result<Vec<u8>, AllocError> {
+        let mut bytes = Vec::new(alloc);
+        for _ in 0..self.roll(4) {
+            bytes.push(match self.roll(4) {
+                0 => b'a',
+                1 => b'b',
+                2 => 0xC3,
+                _ => 0xA9,
+            })?;
+        }
+        Ok(bytes)
+    }
+}
+
+/// A length or a count, in its two bytes.
+fn length_bytes(length: usize) -> [u8; 2] {
+    u16::try_from(length).unwrap_or(0).to_le_bytes()
+}
+
+/// One of the values that [`Dice::value`] gives, in its five bytes.
+fn holder_bytes(value: Holder) -> [u8; 5] {
+    let (tag, bits) = match value {
+        Holder::Int(number) => (7, number.cast_unsigned()),
+        Holder::Text(address) => (8, address),
+        Holder::List(address) => (10, address),
+        Holder::Obj(number) => (5, number),
+        _ => (1, 0),
+    };
+    let [a, b, c, d] = bits.to_le_bytes();
+    [tag, a, b, c, d]
+}
+
+/// A constant in its slot: a list, or a text.
+fn slot(alloc: Global, dice: &mut Dice) -> Result<Vec<u8>, AllocError> {
+    let mut bytes = Vec::new(alloc);
+    if dice.roll(2) == 0 {
+        let text = dice.text(alloc)?;
+        bytes.extend_from_slice(&length_bytes(text.len()))?;
+        bytes.extend_from_slice(&text)?;
+    } else {
+        let values = dice.values(alloc)?;
+        bytes.extend_from_slice(&length_bytes(values.len()))?;
+        for value in &values {
+            bytes.extend_from_slice(&holder_bytes(*value))?;
+        }
+    }
+    bytes.resize(SLOT as usize, 0)?;
+    Ok(bytes)
+}
+
+/// The bytes of a text or the elements of a list; none of a constant that can't be read.
+#[derive(Drop)]
+enum ValueContents {
+    Text(Option<Vec<u8>>),
+    List(Option<Vec<Holder>>),
+    Other,
+}
+
+fn constant_text(alloc: Global, pools: &Pools, address: u32) -> Result<Option<Vec<u8>>, Fail> {
+    let Some((first, length)) = pools.text_at(address) else {
+        return Ok(None);
+    };
+    let mut bytes = Vec::new(alloc);
+    for index in 0..u32::from(length) {
+        bytes.push(pools.byte(2, first.wrapping_add(index)).ok_or("a byte")?)?;
+    }
+    Ok(Some(bytes))
+}
+
+fn constant_list(alloc: Global, pools: &Pools, address: u32) -> Result<Option<Vec<Holder>>, Fail> {
+    let Some((first, count)) = pools.list_at(address) else {
+        return Ok(None);
+    };
+    let mut items = Vec::new(alloc);
+    for index in 0..u32::from(count) {
+        let at = first.wrapping_add(index.wrapping_mul(5));
+        items.push(pools.holder_at(at).ok_or("a holder")?)?;
+    }
+    Ok(Some(items))
+}
+
+fn contents(
+    alloc: Global,
+    value: Holder,
+    store: &Store,
+    pools: &Pools,
+) -> Result<ValueContents, Fail> {
+    match value {
+        Holder::Text(address) => Ok(ValueContents::Text(constant_text(alloc, pools, address)?)),
+        Holder::List(address) => Ok(ValueContents::List(constant_list(alloc, pools, address)?)),
+        Holder::Obj(number) => {
+            if let Some(bytes) = store.text(number) {
+                return Ok(ValueContents::Text(Some(Vec::from_slice(alloc, bytes)?)));
+            }
+            if let Some(items) = store.items(number) {
+                return Ok(ValueContents::List(Some(Vec::from_slice(alloc, items)?)));
+            }
+            Ok(ValueContents::Other)
+        }
+        _ => Ok(ValueContents::Other),
+    }
+}
+
+/// What is told of one pair: that it is the same so far, or not, or a fault. The pairs of two lists are put
+/// in front of the others, which stand last to first.
+fn tell_pair(
+    pairs: &mut Vec<(Holder, Holder)>,
+    same: bool,
+    left: ValueContents,
+    right: ValueContents,
+) -> Result<Result<bool, Fault>, AllocError> {
+    match (left, right) {
+        (ValueContents::Text(Some(left)), ValueContents::Text(Some(right))) => {
+            Ok(Ok(left.as_slice() == right.as_slice()))
+        }
+        (ValueContents::List(Some(left)), ValueContents::List(Some(right))) => {
+            for index in (0..left.len()).rev() {
+                if let (Some(x), Some(y)) = (left.get(index), right.get(index)) {
+                    pairs.push((*x, *y))?;
+                }
+            }
+            Ok(Ok(left.len() == right.len()))
+        }
+        (ValueContents::Text(_), ValueContents::Text(_))
+        | (ValueContents::List(_), ValueContents::List(_)) => { Ok(Err(Fault::BadConstant)) }
+        _ => Ok(Ok(same)),
+    }
+}
+
+/// What is told of two values with some turns, and those that are left; by all pairs in a list.
+fn told_plainly(
+    alloc: Global,
+    left: Holder,
+    right: Holder,
+    store: &Store,
+    pools: &Pools,
+    turns: u32,
+) -> Result<(Result<bool, Fault>, u32), Fail> {
+    let mut pairs = Vec::new(alloc);
+    pairs.push((left, right))?;
+    for taken in 1..=turns {
+        let Some((x, y)) = pairs.pop() else {
+            return Ok((Ok(true), turns.wrapping_sub(taken).wrapping_add(1)));
+        };
+        let left = contents(alloc, x, store, pools)?;
+        let right = contents(alloc, y, store, pools)?;
+        match tell_pair(&mut pairs, x == y, left, right)? {
+            Ok(true) => {}
+            Ok(false) => return Ok((Ok(false), turns.wrapping_sub(taken))),
+            Err(fault) => return Ok((Err(fault), 0)),
+        }
+    }
+    if pairs.is_empty() {
+        Ok((Ok(true), 0))
+    } else {
+        Ok((Err(Fault::CompareLong), 0))
+    }
+}
+
+/// The same by `equal`.
+fn told(
+    alloc: Global,
+    left: Holder,
+    right: Holder,
+    store: &Store,
+    pools: &Pools,
+    turns: u32,
+) -> Result<(Result<bool, Fault>, u32), Fail> {
+    let mut rest = turns;
+    match equal(alloc, left, right, store, pools, &mut rest) {
+        Ok(is) => Ok((Ok(is), rest)),
+        Err(EqualRefusal::Fault(fault)) => Ok((Err(fault), 0)),
+        Err(EqualRefusal::NoMemory) => Err(Fail::from("memory")),
+    }
+}
+
+#[test]
+fn thousands_of_pairs_are_told_as_a_plain_program_tells_them(rt: HostRuntime) -> Result<(), Fail> {
+    let alloc = rt.alloc();
+    let mut dice = Dice(1);
+    let mut equals = 0u32;
+    for world in 0..20u32 {
+        let mut bytes = Vec::new(alloc);
+        for _ in 0..CONSTANTS {
+            bytes.extend_from_slice(&slot(alloc, &mut dice)?)?;
+        }
+        let pools = paged(alloc, dice.roll(40).wrapping_add(1), &bytes)?;
+        let mut store = empty_store(alloc, OBJECTS, 1_000)?;
+        for _ in 0..OBJECTS / 2 {
+            let _ = add_text(alloc, &mut store, &dice.text(alloc)?)?;
+            let _ = add_list(alloc, &mut store, &dice.values(alloc)?)?;
+        }
+        for _ in 0..250 {
+            let left = dice.value();
+            let right = if dice.roll(4) == 0 {
+                left
+            } else {
+                dice.value()
+            };
+            let turns = dice.roll(40);
+            let want = told_plainly(alloc, left, right, &store, &pools, turns)?;
+            let told = told(alloc, left, right, &store, &pools, turns)?;
+            assert_eq!(rt;
+                told,
+                want,
+                "{left:?} and {right:?} with {turns} in world {world}"
+            );
+            if want.0 == Ok(true) {
+                equals = equals.wrapping_add(1);
+            }
+        }
+    }
+    assert!(rt; equals > 0 && equals < 5_000, "{equals} of 5,000 are equal");
+    Ok(())
+}

@@ -1,0 +1,8 @@
+//! Tests of `run` as a whole: what stories show, how runs end, and what stands where a device
+//! fails.
+#![tactic(auto)]
+
+#[cfg(test)]
+mod devices;
+#[cfg(test)]
+mod run;

@@ -1,0 +1,16 @@
+//! Tests of `t3_store`: worked cases, and random runs beside a plain, slow store that copies all of
+//! its objects at each savepoint.
+#![tactic(auto)]
+
+#[cfg(test)]
+mod broken;
+#[cfg(test)]
+mod random_runs;
+#[cfg(test)]
+mod replacing;
+#[cfg(test)]
+mod stores;
+#[cfg(test)]
+mod units;
+#[cfg(test)]
+mod whole_copies;
