@@ -1,7 +1,8 @@
 //! The built-in functions that make one object at most: by how many arguments they get, by their
 //! kinds, and at their ends.
 use crate::fixture::{
-    BAD_TEXT, EMPTY_TEXT, LIVE_TEXT, STALE, TEXT, VALUES, Want, add_text, is_wanted, pools, store,
+    BAD, BAD_LIST, BAD_TEXT, EMPTY_TEXT, GONE, KIND, LIST, LIVE_LIST, LIVE_TEXT, STALE, TABLE,
+    TADS, TEXT, VALUES, VECTOR, Want, WantRow, add_text, is_wanted, pools, store, want_with,
 };
 use std::alloc::Global;
 use std::test::Fail;
@@ -22,15 +23,9 @@ pub(crate) const MIN: u8 = 19;
 
 pub(crate) const MAKE_STRING: u8 = 20;
 
-pub(crate) const KIND: Want<'static> = Want::Fault(Fault::Kind);
+const COUNT: Want = Want::Fault(Fault::ArgCount);
 
-pub(crate) const GONE: Want<'static> = Want::Fault(Fault::Stale);
-
-pub(crate) const BAD: Want<'static> = Want::Fault(Fault::BadConstant);
-
-const COUNT: Want<'static> = Want::Fault(Fault::ArgCount);
-
-const SEVEN: Want<'static> = Want::Value(Holder::Int(7));
+const SEVEN: Want = Want::Value(Holder::Int(7));
 
 /// Calls a function that is one of the six.
 pub(crate) fn call(
@@ -46,211 +41,328 @@ pub(crate) fn call(
     Ok(pure_builtin(alloc, index, args, store, pools))
 }
 
-#[test]
-fn the_six_have_their_indices(rt: HostRuntime) {
+/// A function and its arguments.
+pub(crate) type Call = (u8, &'static [Holder]);
+
+/// A call, and what is wanted of it.
+pub(crate) type Row = (Call, Want);
+
+/// Whether a call answers and makes what is wanted, in a store of its own.
+fn is_like(
+    alloc: Global,
+    index: u8,
+    args: &[Holder],
+    want: Want,
+    pools: &Pools,
+) -> Result<bool, Fail> {
+    let mut store = store(alloc)?;
+    let answer = call(alloc, index, args, &mut store, pools)?;
+    Ok(is_wanted(want, answer, &store))
+}
+
+/// The first call that isn't as wanted.
+pub(crate) fn first_unlike(
+    alloc: Global,
+    pools: &Pools,
+    rows: &[Row],
+) -> Result<Option<Call>, Fail> {
+    for (call, want) in rows {
+        if !is_like(alloc, call.0, call.1, *want, pools)? {
+            return Ok(Some(*call));
+        }
+    }
+    Ok(None)
+}
+
+/// The first index that has a function, or none, although it is none of the six, or one.
+fn first_misplaced() -> Option<u8> {
     for index in 0..=255 {
         let is_one = matches!(index, 0 | 6 | 7 | 18 | 19 | 20);
-        assert_eq!(rt; pure_at(index).is_some(), is_one, "{index}");
+        if pure_at(index).is_some() != is_one {
+            return Some(index);
+        }
     }
+    None
 }
+
+#[test]
+fn the_six_have_their_indices(rt: HostRuntime) {
+    assert_eq!(rt; first_misplaced(), None);
+}
+
+const ONE_SEVEN: &[Holder] = &[Holder::Int(7)];
+
+const TWO_SEVENS: &[Holder] = &[Holder::Int(7), Holder::Int(7)];
+
+const THREE_SEVENS: &[Holder] = &[Holder::Int(7), Holder::Int(7), Holder::Int(7)];
+
+const THREE_STALE: &[Holder] = &[STALE, STALE, STALE];
+
+const COUNT_ROWS: [Row; 28] = [
+    ((DATA_TYPE, &[]), COUNT),
+    ((DATA_TYPE, ONE_SEVEN), SEVEN),
+    ((DATA_TYPE, TWO_SEVENS), COUNT),
+    ((DATA_TYPE, THREE_SEVENS), COUNT),
+    ((TO_STRING, &[]), COUNT),
+    ((TO_STRING, ONE_SEVEN), Want::Text(b"7")),
+    ((TO_STRING, TWO_SEVENS), COUNT),
+    ((TO_STRING, THREE_SEVENS), COUNT),
+    ((TO_INTEGER, &[]), COUNT),
+    ((TO_INTEGER, ONE_SEVEN), SEVEN),
+    ((TO_INTEGER, TWO_SEVENS), COUNT),
+    ((TO_INTEGER, THREE_SEVENS), COUNT),
+    ((MAX, &[]), COUNT),
+    ((MAX, ONE_SEVEN), SEVEN),
+    ((MAX, TWO_SEVENS), SEVEN),
+    ((MAX, THREE_SEVENS), SEVEN),
+    ((MIN, &[]), COUNT),
+    ((MIN, ONE_SEVEN), SEVEN),
+    ((MIN, TWO_SEVENS), SEVEN),
+    ((MIN, THREE_SEVENS), SEVEN),
+    ((MAKE_STRING, &[]), COUNT),
+    ((MAKE_STRING, ONE_SEVEN), Want::Text(b"\x07")),
+    (
+        (MAKE_STRING, TWO_SEVENS),
+        Want::Text(b"\x07\x07\x07\x07\x07\x07\x07"),
+    ),
+    ((MAKE_STRING, THREE_SEVENS), COUNT),
+    // Their count is told before they are looked at.
+    ((DATA_TYPE, THREE_STALE), COUNT),
+    ((TO_STRING, THREE_STALE), COUNT),
+    ((TO_INTEGER, THREE_STALE), COUNT),
+    ((MAKE_STRING, THREE_STALE), COUNT),
+];
 
 #[test]
 fn arguments_are_counted(rt: HostRuntime) -> Result<(), Fail> {
     let alloc = rt.alloc();
     let pools = pools(alloc)?;
-    let args = [Holder::Int(7), Holder::Int(7), Holder::Int(7)];
-    // Without an argument, and with one, two and three.
-    let rows = [
-        (DATA_TYPE, [COUNT, SEVEN, COUNT, COUNT]),
-        (TO_STRING, [COUNT, Want::Text(b"7"), COUNT, COUNT]),
-        (TO_INTEGER, [COUNT, SEVEN, COUNT, COUNT]),
-        (MAX, [COUNT, SEVEN, SEVEN, SEVEN]),
-        (MIN, [COUNT, SEVEN, SEVEN, SEVEN]),
-        (
-            MAKE_STRING,
-            [
-                COUNT,
-                Want::Text(b"\x07"),
-                Want::Text(b"\x07\x07\x07\x07\x07\x07\x07"),
-                COUNT,
-            ],
-        ),
-    ];
-    for (index, wants) in &rows {
-        for (count, want) in wants.iter().enumerate() {
-            let mut store = store(alloc)?;
-            let answer = call(alloc, *index, &args[..count.min(3)], &mut store, &pools)?;
-            assert!(rt;
-                is_wanted(want, answer, &store),
-                "{index} {count} {answer:?}"
-            );
-        }
-    }
-    // Their count is told before they are looked at.
-    let gone = [STALE, STALE, STALE];
-    for index in [DATA_TYPE, TO_STRING, TO_INTEGER, MAKE_STRING] {
-        let mut store = store(alloc)?;
-        let answer = call(alloc, index, &gone, &mut store, &pools)?;
-        assert!(rt; is_wanted(&COUNT, answer, &store), "{index} {answer:?}");
-    }
+    assert_eq!(rt; first_unlike(alloc, &pools, &COUNT_ROWS)?, None);
     Ok(())
 }
+
+/// The first of the fixture's values with which alone a function doesn't answer what is wanted.
+fn first_unlike_value(
+    alloc: Global,
+    index: u8,
+    pools: &Pools,
+    rows: &[WantRow],
+    others: Want,
+) -> Result<Option<Holder>, Fail> {
+    for value in &VALUES {
+        let want = want_with(*value, rows, others);
+        if !is_like(alloc, index, &[*value], want, pools)? {
+            return Ok(Some(*value));
+        }
+    }
+    Ok(None)
+}
+
+/// The types of the fixture's values.
+const TYPES: [WantRow; 18] = [
+    (Holder::Nil, Want::Value(Holder::Int(1))),
+    (Holder::True, Want::Value(Holder::Int(2))),
+    (Holder::Int(7), Want::Value(Holder::Int(7))),
+    (Holder::Enum(7), Want::Value(Holder::Int(15))),
+    (Holder::Prop(7), Want::Value(Holder::Int(6))),
+    (Holder::Shown(0), Want::Value(Holder::Int(9))),
+    (Holder::Code(7), Want::Value(Holder::Int(11))),
+    (Holder::Func(7), Want::Value(Holder::Int(12))),
+    (TEXT, Want::Value(Holder::Int(8))),
+    (BAD_TEXT, Want::Value(Holder::Int(8))),
+    (LIVE_TEXT, Want::Value(Holder::Int(5))),
+    (LIST, Want::Value(Holder::Int(10))),
+    (BAD_LIST, Want::Value(Holder::Int(10))),
+    (LIVE_LIST, Want::Value(Holder::Int(5))),
+    (VECTOR, Want::Value(Holder::Int(5))),
+    (TABLE, Want::Value(Holder::Int(5))),
+    (TADS, Want::Value(Holder::Int(5))),
+    (STALE, Want::Value(Holder::Int(5))),
+];
+
+/// What has a string.
+const STRINGS: [WantRow; 7] = [
+    (Holder::Nil, Want::Text(b"nil")),
+    (Holder::True, Want::Text(b"true")),
+    (Holder::Int(7), Want::Text(b"7")),
+    (TEXT, Want::Text(b"ab")),
+    (BAD_TEXT, BAD),
+    (LIVE_TEXT, Want::Text(b"cd")),
+    (STALE, GONE),
+];
+
+/// What has an integer.
+const INTEGERS: [WantRow; 7] = [
+    (Holder::Nil, Want::Value(Holder::Int(0))),
+    (Holder::True, Want::Value(Holder::Int(1))),
+    (Holder::Int(7), SEVEN),
+    (TEXT, Want::Value(Holder::Int(0))),
+    (BAD_TEXT, BAD),
+    (LIVE_TEXT, Want::Value(Holder::Int(0))),
+    (STALE, GONE),
+];
+
+/// What is the greatest and the least alone. One text alone isn't read.
+const BEST: [WantRow; 5] = [
+    (Holder::Int(7), SEVEN),
+    (TEXT, Want::Value(TEXT)),
+    (BAD_TEXT, Want::Value(BAD_TEXT)),
+    (LIVE_TEXT, Want::Value(LIVE_TEXT)),
+    (STALE, GONE),
+];
+
+/// What can be copied.
+const COPIES: [WantRow; 5] = [
+    (Holder::Int(7), Want::Text(b"\x07")),
+    (TEXT, Want::Text(b"ab")),
+    (BAD_TEXT, BAD),
+    (LIVE_TEXT, Want::Text(b"cd")),
+    (STALE, GONE),
+];
 
 #[test]
 fn a_value_of_each_kind(rt: HostRuntime) -> Result<(), Fail> {
     let alloc = rt.alloc();
     let pools = pools(alloc)?;
-    // By the value: nil, true, 7, an enum, a property, a string to be said, a method, a function,
-    // `ab`, a constant that can't be read, `cd`, the lists, the vector, the table, the tads-object,
-    // one that is gone.
-    let tags = [1, 2, 7, 15, 6, 9, 11, 12, 8, 8, 5, 10, 10, 5, 5, 5, 5, 5];
-    for (value, tag) in VALUES.iter().zip(&tags) {
-        let mut store = store(alloc)?;
-        let answer = call(alloc, DATA_TYPE, &[*value], &mut store, &pools)?;
-        let want = Want::Value(Holder::Int(*tag));
-        assert!(rt; is_wanted(&want, answer, &store), "{value:?} {answer:?}");
-    }
-    let ab = Want::Text(b"ab");
-    let cd = Want::Text(b"cd");
-    let zero = Want::Value(Holder::Int(0));
-    let strings = [
-        Want::Text(b"nil"),
-        Want::Text(b"true"),
-        Want::Text(b"7"),
-        KIND,
-        KIND,
-        KIND,
-        KIND,
-        KIND,
-        ab,
-        BAD,
-        cd,
-        KIND,
-        KIND,
-        KIND,
-        KIND,
-        KIND,
-        KIND,
-        GONE,
+    let functions: [(u8, &[WantRow]); 6] = [
+        (DATA_TYPE, &TYPES),
+        (TO_STRING, &STRINGS),
+        (TO_INTEGER, &INTEGERS),
+        (MAX, &BEST),
+        (MIN, &BEST),
+        (MAKE_STRING, &COPIES),
     ];
-    let integers = [
-        zero,
-        Want::Value(Holder::Int(1)),
-        SEVEN,
-        KIND,
-        KIND,
-        KIND,
-        KIND,
-        KIND,
-        zero,
-        BAD,
-        zero,
-        KIND,
-        KIND,
-        KIND,
-        KIND,
-        KIND,
-        KIND,
-        GONE,
-    ];
-    // One text alone isn't read.
-    let best = [
-        KIND,
-        KIND,
-        SEVEN,
-        KIND,
-        KIND,
-        KIND,
-        KIND,
-        KIND,
-        Want::Value(TEXT),
-        Want::Value(BAD_TEXT),
-        Want::Value(LIVE_TEXT),
-        KIND,
-        KIND,
-        KIND,
-        KIND,
-        KIND,
-        KIND,
-        GONE,
-    ];
-    let copies = [
-        KIND,
-        KIND,
-        Want::Text(b"\x07"),
-        KIND,
-        KIND,
-        KIND,
-        KIND,
-        KIND,
-        ab,
-        BAD,
-        cd,
-        KIND,
-        KIND,
-        KIND,
-        KIND,
-        KIND,
-        KIND,
-        GONE,
-    ];
-    for (index, wants) in [
-        (TO_STRING, &strings),
-        (TO_INTEGER, &integers),
-        (MAX, &best),
-        (MIN, &best),
-        (MAKE_STRING, &copies),
-    ] {
-        for (value, want) in VALUES.iter().zip(wants) {
-            let mut store = store(alloc)?;
-            let answer = call(alloc, index, &[*value], &mut store, &pools)?;
-            assert!(rt;
-                is_wanted(want, answer, &store),
-                "{index} {value:?} {answer:?}"
-            );
-        }
+    for (index, rows) in &functions {
+        let unlike = first_unlike_value(alloc, *index, &pools, rows, KIND)?;
+        assert_eq!(rt; unlike, None, "{index}");
     }
     Ok(())
+}
+
+const OVERFLOW: Result<Holder, OpRefusal> = Err(OpRefusal::Fault(Fault::Overflow));
+
+/// The bytes of a text, and its integer.
+type IntegerRow = (&'static [u8], Result<Holder, OpRefusal>);
+
+const INTEGER_ROWS: [IntegerRow; 24] = [
+    (b"", Ok(Holder::Int(0))),
+    (b"   ", Ok(Holder::Int(0))),
+    (b"-", Ok(Holder::Int(0))),
+    (b"-0", Ok(Holder::Int(0))),
+    (b"  -12", Ok(Holder::Int(-12))),
+    (b"12abc", Ok(Holder::Int(12))),
+    (b"-12abc", Ok(Holder::Int(-12))),
+    (b"1 2", Ok(Holder::Int(1))),
+    (b"9:", Ok(Holder::Int(9))),
+    (b"/9", Ok(Holder::Int(0))),
+    (b"- 1", Ok(Holder::Int(0))),
+    (b"--1", Ok(Holder::Int(0))),
+    (b"+1", Ok(Holder::Int(0))),
+    (b"\t1", Ok(Holder::Int(0))),
+    (b"007", Ok(Holder::Int(7))),
+    (b"0000000000000000000000001", Ok(Holder::Int(1))),
+    (b"2147483647", Ok(Holder::Int(2_147_483_647))),
+    (b"2147483648", OVERFLOW),
+    (b"-2147483648", Ok(Holder::Int(-2_147_483_648))),
+    (b"-2147483649", OVERFLOW),
+    (b"4294967297", OVERFLOW),
+    (b"18446744073709551617", OVERFLOW),
+    (b"99999999999999999999999x", OVERFLOW),
+    (b"-99999999999999999999999", OVERFLOW),
+];
+
+/// The first row of whose text another integer comes.
+fn first_unlike_integer(
+    alloc: Global,
+    store: &mut Store,
+    pools: &Pools,
+    rows: &[IntegerRow],
+) -> Result<Option<IntegerRow>, Fail> {
+    for row in rows {
+        let (bytes, want) = *row;
+        let text = add_text(alloc, store, bytes)?;
+        if call(alloc, TO_INTEGER, &[text], store, pools)? != want {
+            return Ok(Some(*row));
+        }
+    }
+    Ok(None)
 }
 
 #[test]
 fn the_integer_of_a_text(rt: HostRuntime) -> Result<(), Fail> {
     let alloc = rt.alloc();
     let pools = pools(alloc)?;
-    let overflow = Err(OpRefusal::Fault(Fault::Overflow));
-    let rows: [(&[u8], Result<Holder, OpRefusal>); 24] = [
-        (b"", Ok(Holder::Int(0))),
-        (b"   ", Ok(Holder::Int(0))),
-        (b"-", Ok(Holder::Int(0))),
-        (b"-0", Ok(Holder::Int(0))),
-        (b"  -12", Ok(Holder::Int(-12))),
-        (b"12abc", Ok(Holder::Int(12))),
-        (b"-12abc", Ok(Holder::Int(-12))),
-        (b"1 2", Ok(Holder::Int(1))),
-        (b"9:", Ok(Holder::Int(9))),
-        (b"/9", Ok(Holder::Int(0))),
-        (b"- 1", Ok(Holder::Int(0))),
-        (b"--1", Ok(Holder::Int(0))),
-        (b"+1", Ok(Holder::Int(0))),
-        (b"\t1", Ok(Holder::Int(0))),
-        (b"007", Ok(Holder::Int(7))),
-        (b"0000000000000000000000001", Ok(Holder::Int(1))),
-        (b"2147483647", Ok(Holder::Int(2_147_483_647))),
-        (b"2147483648", overflow),
-        (b"-2147483648", Ok(Holder::Int(-2_147_483_648))),
-        (b"-2147483649", overflow),
-        (b"4294967297", overflow),
-        (b"18446744073709551617", overflow),
-        (b"99999999999999999999999x", overflow),
-        (b"-99999999999999999999999", overflow),
-    ];
     let mut store = store(alloc)?;
-    for (bytes, want) in rows {
-        let text = add_text(alloc, &mut store, bytes)?;
-        let answer = call(alloc, TO_INTEGER, &[text], &mut store, &pools)?;
-        assert_eq!(rt; answer, want, "{bytes:?}");
-    }
+    let unlike = first_unlike_integer(alloc, &mut store, &pools, &INTEGER_ROWS)?;
+    assert_eq!(rt; unlike, None);
     Ok(())
+}
+
+/// The string `ab` that is added to the fixture's store.
+const SAME: Holder = Holder::Obj(6);
+
+const ONE: Holder = Holder::Int(1);
+
+const TWO: Holder = Holder::Int(2);
+
+const LEAST: Holder = Holder::Int(i32::MIN);
+
+const KIND_FAULT: Result<Holder, OpRefusal> = Err(OpRefusal::Fault(Fault::Kind));
+
+const GONE_FAULT: Result<Holder, OpRefusal> = Err(OpRefusal::Fault(Fault::Stale));
+
+const BAD_FAULT: Result<Holder, OpRefusal> = Err(OpRefusal::Fault(Fault::BadConstant));
+
+/// Three values, the greatest of them, and the least.
+type BestRow = (
+    [Holder; 3],
+    Result<Holder, OpRefusal>,
+    Result<Holder, OpRefusal>,
+);
+
+const BEST_ROWS: [BestRow; 18] = [
+    ([ONE, TWO, ONE], Ok(TWO), Ok(ONE)),
+    ([TWO, ONE, LEAST], Ok(TWO), Ok(LEAST)),
+    ([LEAST, LEAST, ONE], Ok(ONE), Ok(LEAST)),
+    ([TEXT, LIVE_TEXT, EMPTY_TEXT], Ok(LIVE_TEXT), Ok(EMPTY_TEXT)),
+    // The first of equals.
+    ([TEXT, SAME, SAME], Ok(TEXT), Ok(TEXT)),
+    ([SAME, TEXT, SAME], Ok(SAME), Ok(SAME)),
+    ([EMPTY_TEXT, SAME, TEXT], Ok(SAME), Ok(EMPTY_TEXT)),
+    ([LIVE_TEXT, SAME, TEXT], Ok(LIVE_TEXT), Ok(SAME)),
+    // All are looked at before two are compared, and read as they are.
+    ([ONE, TEXT, ONE], KIND_FAULT, KIND_FAULT),
+    ([TEXT, TEXT, ONE], KIND_FAULT, KIND_FAULT),
+    ([TEXT, ONE, STALE], GONE_FAULT, GONE_FAULT),
+    ([STALE, ONE, ONE], GONE_FAULT, GONE_FAULT),
+    ([BAD_TEXT, BAD_TEXT, ONE], KIND_FAULT, KIND_FAULT),
+    ([BAD_TEXT, STALE, ONE], GONE_FAULT, GONE_FAULT),
+    ([TEXT, BAD_TEXT, TEXT], BAD_FAULT, BAD_FAULT),
+    ([BAD_TEXT, TEXT, TEXT], BAD_FAULT, BAD_FAULT),
+    ([TEXT, TEXT, BAD_TEXT], BAD_FAULT, BAD_FAULT),
+    (
+        [Holder::Nil, Holder::Nil, Holder::Nil],
+        KIND_FAULT,
+        KIND_FAULT,
+    ),
+];
+
+/// The first row of whose values another one is told.
+fn first_unlike_best(
+    alloc: Global,
+    store: &mut Store,
+    pools: &Pools,
+    rows: &[BestRow],
+) -> Result<Option<BestRow>, Fail> {
+    for row in rows {
+        let (args, max, min) = *row;
+        if call(alloc, MAX, &args, store, pools)? != max
+            || call(alloc, MIN, &args, store, pools)? != min
+        {
+            return Ok(Some(*row));
+        }
+    }
+    Ok(None)
 }
 
 #[test]
@@ -258,44 +370,8 @@ fn the_greatest_and_the_least(rt: HostRuntime) -> Result<(), Fail> {
     let alloc = rt.alloc();
     let pools = pools(alloc)?;
     let mut store = store(alloc)?;
-    let same = add_text(alloc, &mut store, b"ab")?;
-    let one = Holder::Int(1);
-    let two = Holder::Int(2);
-    let least = Holder::Int(i32::MIN);
-    let kind = Err(OpRefusal::Fault(Fault::Kind));
-    let gone = Err(OpRefusal::Fault(Fault::Stale));
-    let bad = Err(OpRefusal::Fault(Fault::BadConstant));
-    let rows: [(
-        [Holder; 3],
-        Result<Holder, OpRefusal>,
-        Result<Holder, OpRefusal>,
-    ); 18] = [
-        ([one, two, one], Ok(two), Ok(one)),
-        ([two, one, least], Ok(two), Ok(least)),
-        ([least, least, one], Ok(one), Ok(least)),
-        ([TEXT, LIVE_TEXT, EMPTY_TEXT], Ok(LIVE_TEXT), Ok(EMPTY_TEXT)),
-        // The first of equals.
-        ([TEXT, same, same], Ok(TEXT), Ok(TEXT)),
-        ([same, TEXT, same], Ok(same), Ok(same)),
-        ([EMPTY_TEXT, same, TEXT], Ok(same), Ok(EMPTY_TEXT)),
-        ([LIVE_TEXT, same, TEXT], Ok(LIVE_TEXT), Ok(same)),
-        // All are looked at before two are compared, and read as they are.
-        ([one, TEXT, one], kind, kind),
-        ([TEXT, TEXT, one], kind, kind),
-        ([TEXT, one, STALE], gone, gone),
-        ([STALE, one, one], gone, gone),
-        ([BAD_TEXT, BAD_TEXT, one], kind, kind),
-        ([BAD_TEXT, STALE, one], gone, gone),
-        ([TEXT, BAD_TEXT, TEXT], bad, bad),
-        ([BAD_TEXT, TEXT, TEXT], bad, bad),
-        ([TEXT, TEXT, BAD_TEXT], bad, bad),
-        ([Holder::Nil, Holder::Nil, Holder::Nil], kind, kind),
-    ];
-    for (args, max, min) in rows {
-        let answer = call(alloc, MAX, &args, &mut store, &pools)?;
-        assert_eq!(rt; answer, max, "{args:?}");
-        let answer = call(alloc, MIN, &args, &mut store, &pools)?;
-        assert_eq!(rt; answer, min, "{args:?}");
-    }
+    let _same = add_text(alloc, &mut store, b"ab")?;
+    let unlike = first_unlike_best(alloc, &mut store, &pools, &BEST_ROWS)?;
+    assert_eq!(rt; unlike, None);
     Ok(())
 }

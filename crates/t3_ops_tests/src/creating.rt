@@ -6,9 +6,11 @@ use crate::fixture::{
     BAD_LIST, BAD_TEXT, EMPTY_LIST, EMPTY_TEXT, LIST, LIVE_LIST, LIVE_TEXT, LONG_LIST, LONG_TEXT,
     STALE, TABLE, TADS, TEXT, VECTOR, empty_store, pools, store,
 };
+use std::alloc::Global;
 use std::test::Fail;
 use t3_holder::Holder;
 use t3_ops::{Fault, new_list, new_string, new_table, new_vector};
+use t3_pools::Pools;
 use t3_store::{Kind, NewObject, Store, StoreRefusal};
 use t3_undo::{Cell, Key};
 
@@ -29,101 +31,204 @@ fn create(
     }
 }
 
+/// Arguments, and the bytes of the string of them.
+type StringRow = (&'static [Holder], Result<&'static [u8], Fault>);
+
+const STRING_ROWS: [StringRow; 14] = [
+    (&[], Err(Fault::ArgCount)),
+    (&[TEXT], Ok(b"ab")),
+    (&[LIVE_TEXT], Ok(b"cd")),
+    (&[EMPTY_TEXT], Ok(b"")),
+    (&[BAD_TEXT], Err(Fault::BadConstant)),
+    (&[LONG_TEXT], Err(Fault::BadConstant)),
+    (&[Holder::Int(7)], Err(Fault::Kind)),
+    (&[Holder::Nil], Err(Fault::Kind)),
+    (&[LIST], Err(Fault::Kind)),
+    (&[TADS], Err(Fault::Kind)),
+    (&[STALE], Err(Fault::Stale)),
+    (&[TEXT, TEXT], Err(Fault::ArgCount)),
+    (&[STALE, STALE], Err(Fault::ArgCount)),
+    (&[TEXT, TEXT, TEXT], Err(Fault::ArgCount)),
+];
+
+/// Whether a string of these bytes is made, or there is this fault.
+fn is_string(
+    store: &mut Store,
+    made: Result<NewObject, Fault>,
+    want: Result<&[u8], Fault>,
+) -> Result<bool, StoreRefusal>
+    requires { IfOk made CanBeCreated }
+{
+    match create(store, made, false)? {
+        Ok(number) => {
+            Ok(matches!((store.text(number), want), (Some(bytes), Ok(want)) if bytes == want))
+        }
+        Err(fault) => Ok(matches!(want, Err(want) if want == fault)),
+    }
+}
+
+/// The arguments of the first row of which something else is made.
+fn first_unlike_string(
+    alloc: Global,
+    store: &mut Store,
+    pools: &Pools,
+    rows: &[StringRow],
+) -> Result<Option<&'static [Holder]>, Fail> {
+    for (args, want) in rows {
+        let made = new_string(alloc, args, store, pools)?;
+        if !is_string(store, made, *want)? {
+            return Ok(Some(*args));
+        }
+    }
+    Ok(None)
+}
+
 #[test]
 fn new_strings(rt: HostRuntime) -> Result<(), Fail> {
     let alloc = rt.alloc();
     let pools = pools(alloc)?;
     let mut store = store(alloc)?;
-    let rows: [(&[Holder], Result<&[u8], Fault>); 14] = [
-        (&[], Err(Fault::ArgCount)),
-        (&[TEXT], Ok(b"ab")),
-        (&[LIVE_TEXT], Ok(b"cd")),
-        (&[EMPTY_TEXT], Ok(b"")),
-        (&[BAD_TEXT], Err(Fault::BadConstant)),
-        (&[LONG_TEXT], Err(Fault::BadConstant)),
-        (&[Holder::Int(7)], Err(Fault::Kind)),
-        (&[Holder::Nil], Err(Fault::Kind)),
-        (&[LIST], Err(Fault::Kind)),
-        (&[TADS], Err(Fault::Kind)),
-        (&[STALE], Err(Fault::Stale)),
-        (&[TEXT, TEXT], Err(Fault::ArgCount)),
-        (&[STALE, STALE], Err(Fault::ArgCount)),
-        (&[TEXT, TEXT, TEXT], Err(Fault::ArgCount)),
-    ];
-    for (args, want) in rows {
-        let made = new_string(alloc, args, &store, &pools)?;
-        match create(&mut store, made, false)? {
-            Ok(number) => {
-                let bytes = store.text(number);
-                assert!(rt;
-                    matches!((bytes, want), (Some(x), Ok(y)) if x == y),
-                    "{args:?} {bytes:?}"
-                );
-            }
-            Err(fault) => assert!(rt;
-                matches!(want, Err(why) if why == fault),
-                "{args:?} {fault:?}"
-            ),
+    let unlike = first_unlike_string(alloc, &mut store, &pools, &STRING_ROWS)?;
+    assert_eq!(rt; unlike, None);
+    Ok(())
+}
+
+const LIST_ROWS: [&[Holder]; 3] = [&[], &[STALE], &[Holder::Int(1), BAD_TEXT, Holder::Nil]];
+
+/// The first arguments of which no list of just them is made.
+fn first_unlike_list(
+    alloc: Global,
+    store: &mut Store,
+    rows: &[&'static [Holder]],
+) -> Result<Option<&'static [Holder]>, Fail> {
+    for args in rows {
+        let made = new_list(alloc, args)?;
+        let number = create(store, made, false)??;
+        if !matches!(store.items(number), Some(items) if items == *args) {
+            return Ok(Some(*args));
         }
     }
-    Ok(())
+    Ok(None)
+}
+
+/// A list of so many nils.
+fn list_of_nils(alloc: Global, count: usize) -> Result<Result<NewObject, Fault>, Fail> {
+    let nils = [Holder::Nil].repeat(alloc, count)?;
+    Ok(new_list(alloc, &nils)?)
 }
 
 #[test]
 fn new_lists(rt: HostRuntime) -> Result<(), Fail> {
     let alloc = rt.alloc();
     let mut store = store(alloc)?;
-    let rows: [&[Holder]; 3] = [&[], &[STALE], &[Holder::Int(1), BAD_TEXT, Holder::Nil]];
-    for args in rows {
-        let made = new_list(alloc, args)?;
-        let number = create(&mut store, made, false)??;
-        let items = store.items(number);
-        assert!(rt; matches!(items, Some(items) if items == args), "{args:?}");
-    }
-    let most = [Holder::Nil].repeat(alloc, 65_535)?;
-    assert!(rt; new_list(alloc, &most)?.is_ok());
-    let more = [Holder::Nil].repeat(alloc, 65_536)?;
-    assert!(rt; matches!(new_list(alloc, &more)?, Err(Fault::ListLong)));
+    let unlike = first_unlike_list(alloc, &mut store, &LIST_ROWS)?;
+    assert_eq!(rt; unlike, None);
+    assert!(rt; list_of_nils(alloc, 65_535)?.is_ok());
+    assert!(rt; matches!(list_of_nils(alloc, 65_536)?, Err(Fault::ListLong)));
     Ok(())
+}
+
+const ONE: Holder = Holder::Int(1);
+
+/// Arguments, and why there is no table of them.
+type TableRow = (&'static [Holder], Option<Fault>);
+
+const TABLE_ROWS: [TableRow; 9] = [
+    (&[], None),
+    (&[ONE], Some(Fault::ArgCount)),
+    (&[STALE], Some(Fault::ArgCount)),
+    (&[ONE, ONE], None),
+    (&[Holder::Int(-1), Holder::Int(i32::MAX)], None),
+    (&[ONE, Holder::Nil], Some(Fault::Kind)),
+    (&[Holder::Nil, ONE], Some(Fault::Kind)),
+    (&[STALE, ONE], Some(Fault::Kind)),
+    (&[ONE, ONE, ONE], Some(Fault::ArgCount)),
+];
+
+/// Whether an object is a table without an entry whose default is nil.
+fn is_empty_table(store: &Store, number: u32) -> bool {
+    store.kind(number) == Some(Kind::Table)
+        && store.get(number, &Cell::Default) == Some(Holder::Nil)
+        && store.get(number, &Cell::Key(Key::Int(1))).is_none()
+}
+
+/// The first row of whose arguments no empty table is made, or another fault comes.
+fn first_unlike_table(store: &mut Store, rows: &[TableRow]) -> Result<Option<TableRow>, Fail> {
+    for row in rows {
+        let (args, want) = *row;
+        let is_like = match create(store, new_table(args), false)? {
+            Ok(number) => want.is_none() && is_empty_table(store, number),
+            Err(fault) => want == Some(fault),
+        };
+        if !is_like {
+            return Ok(Some(*row));
+        }
+    }
+    Ok(None)
 }
 
 #[test]
 fn new_tables(rt: HostRuntime) -> Result<(), Fail> {
-    let alloc = rt.alloc();
-    let mut store = store(alloc)?;
-    let one = Holder::Int(1);
-    let rows: [(&[Holder], Option<Fault>); 9] = [
-        (&[], None),
-        (&[one], Some(Fault::ArgCount)),
-        (&[STALE], Some(Fault::ArgCount)),
-        (&[one, one], None),
-        (&[Holder::Int(-1), Holder::Int(i32::MAX)], None),
-        (&[one, Holder::Nil], Some(Fault::Kind)),
-        (&[Holder::Nil, one], Some(Fault::Kind)),
-        (&[STALE, one], Some(Fault::Kind)),
-        (&[one, one, one], Some(Fault::ArgCount)),
-    ];
-    for (args, want) in rows {
-        match create(&mut store, new_table(args), false)? {
-            Ok(number) => {
-                assert_eq!(rt; want, None, "{args:?}");
-                assert_eq!(rt; store.kind(number), Some(Kind::Table), "{args:?}");
-                assert_eq!(rt;
-                    store.get(number, &Cell::Default),
-                    Some(Holder::Nil),
-                    "{args:?}"
-                );
-                assert_eq!(rt;
-                    store.get(number, &Cell::Key(Key::Int(1))),
-                    None,
-                    "{args:?}"
-                );
-            }
-            Err(fault) => assert_eq!(rt; want, Some(fault), "{args:?}"),
-        }
-    }
+    let mut store = store(rt.alloc())?;
+    assert_eq!(rt; first_unlike_table(&mut store, &TABLE_ROWS)?, None);
     Ok(())
 }
+
+const NIL: Holder = Holder::Nil;
+
+const TEN: Holder = Holder::Int(10);
+
+const LESS: Holder = Holder::Int(-1);
+
+const MANY: Holder = Holder::Int(65_536);
+
+/// Arguments, and the elements of the vector of them.
+type VectorRow = (&'static [Holder], Result<&'static [Holder], Fault>);
+
+const VECTOR_ROWS: [VectorRow; 38] = [
+    (&[], Err(Fault::ArgCount)),
+    (&[TEN, TEN, TEN], Err(Fault::ArgCount)),
+    (&[STALE, STALE, STALE], Err(Fault::ArgCount)),
+    // A size, which isn't used.
+    (&[Holder::Int(0)], Ok(&[])),
+    (&[TEN], Ok(&[])),
+    (&[Holder::Int(65_535)], Ok(&[])),
+    (&[MANY], Err(Fault::IndexRange)),
+    (&[LESS], Err(Fault::IndexRange)),
+    (&[NIL], Err(Fault::Kind)),
+    (&[TEXT], Err(Fault::Kind)),
+    (&[LIST], Err(Fault::Kind)),
+    (&[STALE], Err(Fault::Kind)),
+    // So many nils.
+    (&[TEN, Holder::Int(0)], Ok(&[])),
+    (&[TEN, Holder::Int(1)], Ok(&[NIL])),
+    (&[Holder::Int(0), Holder::Int(3)], Ok(&[NIL, NIL, NIL])),
+    (&[TEN, LESS], Err(Fault::IndexRange)),
+    (&[TEN, MANY], Err(Fault::IndexRange)),
+    (&[MANY, TEN], Err(Fault::IndexRange)),
+    // The elements of a list or a vector.
+    (&[TEN, LIST], Ok(&[Holder::Int(1), NIL])),
+    (&[TEN, EMPTY_LIST], Ok(&[])),
+    (&[TEN, LIVE_LIST], Ok(&[Holder::Int(3)])),
+    (&[TEN, VECTOR], Ok(&[Holder::Int(4), Holder::Int(5)])),
+    (&[LESS, LIST], Err(Fault::IndexRange)),
+    // What is gone, then kinds of both, then numbers of both, then a constant.
+    (&[TEN, STALE], Err(Fault::Stale)),
+    (&[NIL, STALE], Err(Fault::Stale)),
+    (&[LESS, STALE], Err(Fault::Stale)),
+    (&[TEN, TABLE], Err(Fault::Kind)),
+    (&[TEN, TADS], Err(Fault::Kind)),
+    (&[TEN, TEXT], Err(Fault::Kind)),
+    (&[TEN, LIVE_TEXT], Err(Fault::Kind)),
+    (&[TEN, NIL], Err(Fault::Kind)),
+    (&[LESS, TABLE], Err(Fault::Kind)),
+    (&[NIL, LESS], Err(Fault::Kind)),
+    (&[STALE, LESS], Err(Fault::Kind)),
+    (&[NIL, BAD_LIST], Err(Fault::Kind)),
+    (&[LESS, BAD_LIST], Err(Fault::IndexRange)),
+    (&[TEN, BAD_LIST], Err(Fault::BadConstant)),
+    (&[TEN, LONG_LIST], Err(Fault::BadConstant)),
+];
 
 /// Whether a vector has just these elements.
 fn has_elements(store: &Store, number: u32, items: &[Holder]) -> bool {
@@ -140,79 +245,70 @@ fn has_elements(store: &Store, number: u32, items: &[Holder]) -> bool {
     true
 }
 
+/// Whether a vector of these elements is made, or there is this fault.
+fn is_vector(
+    store: &mut Store,
+    made: Result<NewObject, Fault>,
+    want: Result<&[Holder], Fault>,
+) -> Result<bool, StoreRefusal>
+    requires { IfOk made CanBeCreated }
+{
+    match create(store, made, false)? {
+        Ok(number) => Ok(matches!(want, Ok(items) if has_elements(store, number, items))),
+        Err(fault) => Ok(matches!(want, Err(want) if want == fault)),
+    }
+}
+
+/// The arguments of the first row of which something else is made.
+fn first_unlike_vector(
+    alloc: Global,
+    store: &mut Store,
+    pools: &Pools,
+    rows: &[VectorRow],
+) -> Result<Option<&'static [Holder]>, Fail> {
+    for (args, want) in rows {
+        let made = new_vector(alloc, args, store, pools)?;
+        if !is_vector(store, made, *want)? {
+            return Ok(Some(*args));
+        }
+    }
+    Ok(None)
+}
+
+/// The number of a vector that is made of these arguments.
+fn add_made_vector(
+    alloc: Global,
+    args: &[Holder],
+    transient: bool,
+    store: &mut Store,
+    pools: &Pools,
+) -> Result<u32, Fail> {
+    let made = new_vector(alloc, args, store, pools)?;
+    Ok(create(store, made, transient)??)
+}
+
+/// The lengths of a transient vector of 65,535 nils and of one that is made of it, and the last element of
+/// the first.
+fn long_vectors(
+    alloc: Global,
+    store: &mut Store,
+    pools: &Pools,
+) -> Result<(Option<u32>, Option<u32>, Option<Holder>), Fail> {
+    let long = add_made_vector(alloc, &[TEN, Holder::Int(65_535)], true, store, pools)?;
+    let copy = add_made_vector(alloc, &[TEN, Holder::Obj(long)], false, store, pools)?;
+    let last = store.get(long, &Cell::Elem(65_535));
+    Ok((store.length(long), store.length(copy), last))
+}
+
 #[test]
 fn new_vectors(rt: HostRuntime) -> Result<(), Fail> {
     let alloc = rt.alloc();
     let pools = pools(alloc)?;
     let mut store = store(alloc)?;
-    let nil = Holder::Nil;
-    let ten = Holder::Int(10);
-    let less = Holder::Int(-1);
-    let many = Holder::Int(65_536);
-    let rows: [(&[Holder], Result<&[Holder], Fault>); 38] = [
-        (&[], Err(Fault::ArgCount)),
-        (&[ten, ten, ten], Err(Fault::ArgCount)),
-        (&[STALE, STALE, STALE], Err(Fault::ArgCount)),
-        // A size, which isn't used.
-        (&[Holder::Int(0)], Ok(&[])),
-        (&[ten], Ok(&[])),
-        (&[Holder::Int(65_535)], Ok(&[])),
-        (&[many], Err(Fault::IndexRange)),
-        (&[less], Err(Fault::IndexRange)),
-        (&[nil], Err(Fault::Kind)),
-        (&[TEXT], Err(Fault::Kind)),
-        (&[LIST], Err(Fault::Kind)),
-        (&[STALE], Err(Fault::Kind)),
-        // So many nils.
-        (&[ten, Holder::Int(0)], Ok(&[])),
-        (&[ten, Holder::Int(1)], Ok(&[nil])),
-        (&[Holder::Int(0), Holder::Int(3)], Ok(&[nil, nil, nil])),
-        (&[ten, less], Err(Fault::IndexRange)),
-        (&[ten, many], Err(Fault::IndexRange)),
-        (&[many, ten], Err(Fault::IndexRange)),
-        // The elements of a list or a vector.
-        (&[ten, LIST], Ok(&[Holder::Int(1), nil])),
-        (&[ten, EMPTY_LIST], Ok(&[])),
-        (&[ten, LIVE_LIST], Ok(&[Holder::Int(3)])),
-        (&[ten, VECTOR], Ok(&[Holder::Int(4), Holder::Int(5)])),
-        (&[less, LIST], Err(Fault::IndexRange)),
-        // What is gone, then kinds of both, then numbers of both, then a constant.
-        (&[ten, STALE], Err(Fault::Stale)),
-        (&[nil, STALE], Err(Fault::Stale)),
-        (&[less, STALE], Err(Fault::Stale)),
-        (&[ten, TABLE], Err(Fault::Kind)),
-        (&[ten, TADS], Err(Fault::Kind)),
-        (&[ten, TEXT], Err(Fault::Kind)),
-        (&[ten, LIVE_TEXT], Err(Fault::Kind)),
-        (&[ten, nil], Err(Fault::Kind)),
-        (&[less, TABLE], Err(Fault::Kind)),
-        (&[nil, less], Err(Fault::Kind)),
-        (&[STALE, less], Err(Fault::Kind)),
-        (&[nil, BAD_LIST], Err(Fault::Kind)),
-        (&[less, BAD_LIST], Err(Fault::IndexRange)),
-        (&[ten, BAD_LIST], Err(Fault::BadConstant)),
-        (&[ten, LONG_LIST], Err(Fault::BadConstant)),
-    ];
-    for (args, want) in rows {
-        let made = new_vector(alloc, args, &store, &pools)?;
-        match create(&mut store, made, false)? {
-            Ok(number) => {
-                let is = matches!(want, Ok(items) if has_elements(&store, number, items));
-                assert!(rt; is, "{args:?}");
-            }
-            Err(fault) => assert!(rt;
-                matches!(want, Err(why) if why == fault),
-                "{args:?} {fault:?}"
-            ),
-        }
-    }
-    let made = new_vector(alloc, &[ten, Holder::Int(65_535)], &store, &pools)?;
-    let number = create(&mut store, made, true)??;
-    assert_eq!(rt; store.length(number), Some(65_535));
-    assert_eq!(rt; store.get(number, &Cell::Elem(65_535)), Some(nil));
-    let made = new_vector(alloc, &[ten, Holder::Obj(number)], &store, &pools)?;
-    let copy = create(&mut store, made, false)??;
-    assert_eq!(rt; store.length(copy), Some(65_535));
+    let unlike = first_unlike_vector(alloc, &mut store, &pools, &VECTOR_ROWS)?;
+    assert_eq!(rt; unlike, None);
+    let long = long_vectors(alloc, &mut store, &pools)?;
+    assert_eq!(rt; long, (Some(65_535), Some(65_535), Some(NIL)));
     Ok(())
 }
 
@@ -223,18 +319,21 @@ fn is_full(store: &mut Store, made: Result<NewObject, Fault>) -> bool
     matches!(create(store, made, false), Err(StoreRefusal::Full))
 }
 
+/// Whether a store without a unit takes no string, no list and no vector that has some.
+fn takes_no_unit(alloc: Global, store: &mut Store, pools: &Pools) -> Result<bool, Fail> {
+    let text = new_string(alloc, &[TEXT], store, pools)?;
+    let list = new_list(alloc, &[NIL])?;
+    let vector = new_vector(alloc, &[Holder::Int(0), ONE], store, pools)?;
+    Ok(is_full(store, text) && is_full(store, list) && is_full(store, vector))
+}
+
 #[test]
 fn a_full_store_takes_no_object(rt: HostRuntime) -> Result<(), Fail> {
     let alloc = rt.alloc();
     let pools = pools(alloc)?;
     // Room for an object, but for no unit.
     let mut store = empty_store(alloc, 1, 0)?;
-    let text = new_string(alloc, &[TEXT], &store, &pools)?;
-    assert!(rt; is_full(&mut store, text));
-    let list = new_list(alloc, &[Holder::Nil])?;
-    assert!(rt; is_full(&mut store, list));
-    let vector = new_vector(alloc, &[Holder::Int(0), Holder::Int(1)], &store, &pools)?;
-    assert!(rt; is_full(&mut store, vector));
+    assert!(rt; takes_no_unit(alloc, &mut store, &pools)?);
     assert_eq!(rt; create(&mut store, new_table(&[]), false)?, Ok(1));
     // And now for no object.
     assert!(rt; is_full(&mut store, new_table(&[])));

@@ -81,8 +81,29 @@ const BAD: Result<bool, Fault> = Err(Fault::BadConstant);
 
 const LONG: Result<bool, Fault> = Err(Fault::CompareLong);
 
+/// The strings and lists of [`store_of_lists`]: `hallo`, and again, and one character past 7F.
+const LIVE: Holder = Holder::Obj(6);
+
+const LIVE_AGAIN: Holder = Holder::Obj(7);
+
+const LIVE_ACCENT: Holder = Holder::Obj(8);
+
+/// 1, 2
+const LIVE_LIST: Holder = Holder::Obj(9);
+
+/// The live text, in a list whose other element is the stale reference.
+const MIXED: Holder = Holder::Obj(10);
+
+/// The same with the constant text.
+const MIXED_AGAIN: Holder = Holder::Obj(11);
+
+const LIVE_OF_UNREAD: Holder = Holder::Obj(12);
+
+/// The elements of the fixture's vector.
+const NUMBERS: Holder = Holder::Obj(13);
+
 /// What is told of two values with some turns, and the turns that are left where it is.
-fn told(
+pub(crate) fn told(
     alloc: Global,
     left: Holder,
     right: Holder,
@@ -98,130 +119,195 @@ fn told(
     }
 }
 
+/// Two values, what is told of them, and the turns that it takes.
+type Row = (Holder, Holder, Result<bool, Fault>, u32);
+
+/// The first row of whose values something else is told with so many turns, or that takes others.
+fn first_unlike(
+    alloc: Global,
+    turns: u32,
+    store: &Store,
+    pools: &Pools,
+    rows: &[Row],
+) -> Result<Option<Row>, Fail> {
+    for row in rows {
+        let (left, right, want, takes) = *row;
+        let rest = if want.is_ok() {
+            turns.wrapping_sub(takes)
+        } else {
+            0
+        };
+        if told(alloc, left, right, store, pools, turns)? != (want, rest) {
+            return Ok(Some(*row));
+        }
+    }
+    Ok(None)
+}
+
+/// The same without objects, and with the constants on pages of several sizes.
+fn first_unlike_on_pages(
+    alloc: Global,
+    turns: u32,
+    rows: &[Row],
+) -> Result<Option<(u32, Row)>, Fail> {
+    let store = empty_store(alloc, 1, 1)?;
+    for size in &PAGE_SIZES {
+        let pools = paged(alloc, *size, LAID_OUT)?;
+        if let Some(row) = first_unlike(alloc, turns, &store, &pools, rows)? {
+            return Ok(Some((*size, row)));
+        }
+    }
+    Ok(None)
+}
+
+const PAGE_SIZES: [u32; 5] = [1, 4, 7, 61, 0x7FFF_FFFF];
+
+const CONSTANT_ROWS: [Row; 34] = [
+    (HALLO, HALLO, Ok(true), 1),
+    (HALLO, HALLO_AGAIN, Ok(true), 1),
+    (HALLO, HALL, Ok(false), 1),
+    (HALL, HALLO, Ok(false), 1),
+    (ACCENT, ACCENT, Ok(true), 1),
+    (ACCENT, HALL, Ok(false), 1),
+    (EMPTY, EMPTY, Ok(true), 1),
+    (EMPTY, HALLO, Ok(false), 1),
+    // A constant that can't be read is read where the other is a text too, itself as well.
+    (UNREAD, UNREAD, BAD, 0),
+    (UNREAD, HALLO, BAD, 0),
+    (HALLO, UNREAD, BAD, 0),
+    (HALLO, CUT, BAD, 0),
+    (CUT, UNREAD, BAD, 0),
+    // And isn't beside a list, or what is neither.
+    (UNREAD, PAIR, Ok(false), 1),
+    (UNREAD_LIST, HALLO, Ok(false), 1),
+    (UNREAD, UNREAD_LIST, Ok(false), 1),
+    (UNREAD, Holder::Nil, Ok(false), 1),
+    (UNREAD, STALE, Ok(false), 1),
+    (HALLO, Holder::Shown(0), Ok(false), 1),
+    (UNREAD_LIST, UNREAD_LIST, BAD, 0),
+    (PAIR, UNREAD_LIST, BAD, 0),
+    (UNREAD_LIST, PAIR, BAD, 0),
+    (PAIR, PAIR_AGAIN, Ok(true), 3),
+    // Of two lengths, whatever stands in them.
+    (PAIR, THREE, Ok(false), 1),
+    (THREE, PAIR, Ok(false), 1),
+    (EMPTY_LIST, EMPTY_LIST, Ok(true), 1),
+    (EMPTY_LIST, PAIR, Ok(false), 1),
+    (EMPTY, EMPTY_LIST, Ok(false), 1),
+    // The lists, the lists in them, the pairs, and then their elements.
+    (IN_TWO_LISTS, IN_TWO_LISTS_AGAIN, Ok(true), 5),
+    (IN_TWO_LISTS, IN_LIST, Ok(false), 2),
+    (OF_UNREAD, OF_UNREAD, BAD, 0),
+    // A list in itself has no last pair.
+    (ITSELF_LAST, ITSELF_LAST, LONG, 0),
+    (ITSELF_FIRST, ITSELF_FIRST, LONG, 0),
+    (ITSELF_LAST, ITSELF_FIRST, Ok(false), 2),
+];
+
+const ENDLESS_ROWS: [Row; 1] = [(ITSELF_LAST, ITSELF_LAST_AGAIN, LONG, 0)];
+
 #[test]
 fn constants_are_looked_into(rt: HostRuntime) -> Result<(), Fail> {
     let alloc = rt.alloc();
-    let store = empty_store(alloc, 1, 1)?;
-    // Two values, what is told of them with ten turns, and the turns that it takes.
-    let rows: [(Holder, Holder, Result<bool, Fault>, u32); 34] = [
-        (HALLO, HALLO, Ok(true), 1),
-        (HALLO, HALLO_AGAIN, Ok(true), 1),
-        (HALLO, HALL, Ok(false), 1),
-        (HALL, HALLO, Ok(false), 1),
-        (ACCENT, ACCENT, Ok(true), 1),
-        (ACCENT, HALL, Ok(false), 1),
-        (EMPTY, EMPTY, Ok(true), 1),
-        (EMPTY, HALLO, Ok(false), 1),
-        // A constant that can't be read is read where the other is a text too, itself as well.
-        (UNREAD, UNREAD, BAD, 0),
-        (UNREAD, HALLO, BAD, 0),
-        (HALLO, UNREAD, BAD, 0),
-        (HALLO, CUT, BAD, 0),
-        (CUT, UNREAD, BAD, 0),
-        // And isn't beside a list, or what is neither.
-        (UNREAD, PAIR, Ok(false), 1),
-        (UNREAD_LIST, HALLO, Ok(false), 1),
-        (UNREAD, UNREAD_LIST, Ok(false), 1),
-        (UNREAD, Holder::Nil, Ok(false), 1),
-        (UNREAD, STALE, Ok(false), 1),
-        (HALLO, Holder::Shown(0), Ok(false), 1),
-        (UNREAD_LIST, UNREAD_LIST, BAD, 0),
-        (PAIR, UNREAD_LIST, BAD, 0),
-        (UNREAD_LIST, PAIR, BAD, 0),
-        (PAIR, PAIR_AGAIN, Ok(true), 3),
-        // Of two lengths, whatever stands in them.
-        (PAIR, THREE, Ok(false), 1),
-        (THREE, PAIR, Ok(false), 1),
-        (EMPTY_LIST, EMPTY_LIST, Ok(true), 1),
-        (EMPTY_LIST, PAIR, Ok(false), 1),
-        (EMPTY, EMPTY_LIST, Ok(false), 1),
-        // The lists, the lists in them, the pairs, and then their elements.
-        (IN_TWO_LISTS, IN_TWO_LISTS_AGAIN, Ok(true), 5),
-        (IN_TWO_LISTS, IN_LIST, Ok(false), 2),
-        (OF_UNREAD, OF_UNREAD, BAD, 0),
-        // A list in itself has no last pair.
-        (ITSELF_LAST, ITSELF_LAST, LONG, 0),
-        (ITSELF_FIRST, ITSELF_FIRST, LONG, 0),
-        (ITSELF_LAST, ITSELF_FIRST, Ok(false), 2),
-    ];
-    for size in [1u32, 4, 7, 61, 0x7FFF_FFFF] {
-        let pools = paged(alloc, size, LAID_OUT)?;
-        for (left, right, want, takes) in rows {
-            let told = told(alloc, left, right, &store, &pools, 10)?;
-            let turns = if want.is_ok() {
-                10u32.wrapping_sub(takes)
-            } else {
-                0
-            };
-            assert_eq!(rt; told, (want, turns), "{left:?} and {right:?} on {size}");
-        }
-        let long = told(
-            alloc,
-            ITSELF_LAST,
-            ITSELF_LAST_AGAIN,
-            &store,
-            &pools,
-            65_536,
-        )?;
-        assert_eq!(rt; long, (LONG, 0));
-    }
+    assert_eq!(rt; first_unlike_on_pages(alloc, 10, &CONSTANT_ROWS)?, None);
+    assert_eq!(rt; first_unlike_on_pages(alloc, 65_536, &ENDLESS_ROWS)?, None);
     Ok(())
 }
+
+/// The fixture's store with three strings and five lists more.
+fn store_of_lists(alloc: Global) -> Result<Store, Fail> {
+    let mut store = store_of_texts(alloc)?;
+    let _list = add_list(alloc, &mut store, &[Holder::Int(1), Holder::Int(2)])?;
+    let _mixed = add_list(alloc, &mut store, &[LIVE, STALE])?;
+    let _mixed_again = add_list(alloc, &mut store, &[HALLO, STALE])?;
+    let _of_unread = add_list(alloc, &mut store, &[UNREAD])?;
+    let _numbers = add_list(alloc, &mut store, &[Holder::Int(4), Holder::Int(5)])?;
+    Ok(store)
+}
+
+/// The fixture's store with the three strings.
+fn store_of_texts(alloc: Global) -> Result<Store, Fail> {
+    let mut store = store(alloc)?;
+    for bytes in &[b"hallo".as_slice(), b"hallo", b"\xC3\xA9"] {
+        let _text = add_text(alloc, &mut store, bytes)?;
+    }
+    Ok(store)
+}
+
+const OBJECT_ROWS: [Row; 28] = [
+    (LIVE, LIVE, Ok(true), 1),
+    (LIVE, LIVE_AGAIN, Ok(true), 1),
+    (LIVE, HALLO, Ok(true), 1),
+    (HALLO, LIVE, Ok(true), 1),
+    (LIVE, HALL, Ok(false), 1),
+    (LIVE_ACCENT, ACCENT, Ok(true), 1),
+    (LIVE, UNREAD, BAD, 0),
+    (UNREAD, LIVE, BAD, 0),
+    (LIVE_LIST, PAIR, Ok(true), 3),
+    (PAIR, LIVE_LIST, Ok(true), 3),
+    (LIVE_LIST, THREE, Ok(false), 1),
+    (LIVE_LIST, UNREAD_LIST, BAD, 0),
+    (MIXED, MIXED_AGAIN, Ok(true), 3),
+    (LIVE_OF_UNREAD, MIXED, Ok(false), 1),
+    (LIVE_OF_UNREAD, OF_UNREAD, BAD, 0),
+    // What is no text and no list is the same holder, or another.
+    (STALE, STALE, Ok(true), 1),
+    (STALE, Holder::Obj(98), Ok(false), 1),
+    (STALE, LIVE, Ok(false), 1),
+    (TADS, TADS, Ok(true), 1),
+    (TADS, TABLE, Ok(false), 1),
+    (TABLE, TABLE, Ok(true), 1),
+    (VECTOR, VECTOR, Ok(true), 1),
+    (VECTOR, NUMBERS, Ok(false), 1),
+    (NUMBERS, NUMBERS, Ok(true), 3),
+    (LIVE, LIVE_LIST, Ok(false), 1),
+    (Holder::Nil, Holder::Nil, Ok(true), 1),
+    (Holder::Int(1), Holder::Enum(1), Ok(false), 1),
+    (Holder::Int(-1), Holder::Int(-1), Ok(true), 1),
+];
 
 #[test]
 fn objects_are_looked_into_where_they_are_texts_or_lists(rt: HostRuntime) -> Result<(), Fail> {
     let alloc = rt.alloc();
     let pools = paged(alloc, 16, LAID_OUT)?;
-    let mut store = store(alloc)?;
-    let text = add_text(alloc, &mut store, b"hallo")?;
-    let again = add_text(alloc, &mut store, b"hallo")?;
-    let accent = add_text(alloc, &mut store, b"\xC3\xA9")?;
-    let list = add_list(alloc, &mut store, &[Holder::Int(1), Holder::Int(2)])?;
-    // The text, in a list whose other element is the stale reference.
-    let mixed = add_list(alloc, &mut store, &[text, STALE])?;
-    let mixed_again = add_list(alloc, &mut store, &[HALLO, STALE])?;
-    let of_bad = add_list(alloc, &mut store, &[UNREAD])?;
-    let numbers = add_list(alloc, &mut store, &[Holder::Int(4), Holder::Int(5)])?;
-    let rows: [(Holder, Holder, Result<bool, Fault>, u32); 27] = [
-        (text, text, Ok(true), 1),
-        (text, again, Ok(true), 1),
-        (text, HALLO, Ok(true), 1),
-        (HALLO, text, Ok(true), 1),
-        (text, HALL, Ok(false), 1),
-        (accent, ACCENT, Ok(true), 1),
-        (text, UNREAD, BAD, 0),
-        (UNREAD, text, BAD, 0),
-        (list, PAIR, Ok(true), 3),
-        (PAIR, list, Ok(true), 3),
-        (list, THREE, Ok(false), 1),
-        (list, UNREAD_LIST, BAD, 0),
-        (mixed, mixed_again, Ok(true), 3),
-        (of_bad, mixed, Ok(false), 1),
-        (of_bad, OF_UNREAD, BAD, 0),
-        // What is no text and no list is the same holder, or another.
-        (STALE, STALE, Ok(true), 1),
-        (STALE, Holder::Obj(98), Ok(false), 1),
-        (STALE, text, Ok(false), 1),
-        (TADS, TADS, Ok(true), 1),
-        (TADS, TABLE, Ok(false), 1),
-        (TABLE, TABLE, Ok(true), 1),
-        (VECTOR, VECTOR, Ok(true), 1),
-        (VECTOR, numbers, Ok(false), 1),
-        (text, list, Ok(false), 1),
-        (Holder::Nil, Holder::Nil, Ok(true), 1),
-        (Holder::Int(1), Holder::Enum(1), Ok(false), 1),
-        (Holder::Int(-1), Holder::Int(-1), Ok(true), 1),
-    ];
-    for (left, right, want, takes) in rows {
-        let told = told(alloc, left, right, &store, &pools, 10)?;
-        let turns = if want.is_ok() {
-            10u32.wrapping_sub(takes)
-        } else {
-            0
-        };
-        assert_eq!(rt; told, (want, turns), "{left:?} and {right:?}");
-    }
+    let store = store_of_lists(alloc)?;
+    assert_eq!(rt;
+        first_unlike(alloc, 10, &store, &pools, &OBJECT_ROWS)?,
+        None
+    );
     Ok(())
+}
+
+/// Two values, what is told of them, and the turns that are left for the next row.
+type RowInTurn = (Holder, Holder, Result<bool, EqualRefusal>, u32);
+
+const REFUSED: Result<bool, EqualRefusal> = Err(EqualRefusal::Fault(Fault::CompareLong));
+
+/// With seven turns.
+const ROWS_IN_TURN: [RowInTurn; 4] = [
+    (PAIR, PAIR_AGAIN, Ok(true), 4),
+    (PAIR, THREE, Ok(false), 3),
+    (PAIR, PAIR_AGAIN, Ok(true), 0),
+    // Not even two integers are looked at without a turn.
+    (Holder::Int(1), Holder::Int(1), REFUSED, 0),
+];
+
+/// The first row of whose values something else is told with the turns that the rows before it left.
+fn first_unlike_in_turn(
+    alloc: Global,
+    turns: u32,
+    store: &Store,
+    pools: &Pools,
+    rows: &[RowInTurn],
+) -> Option<RowInTurn> {
+    let mut turns = turns;
+    for row in rows {
+        let (left, right, want, rest) = *row;
+        if equal(alloc, left, right, store, pools, &mut turns) != want || turns != rest {
+            return Some(*row);
+        }
+    }
+    None
 }
 
 #[test]
@@ -229,78 +315,68 @@ fn turns_go_on_from_one_comparison_to_the_next(rt: HostRuntime) -> Result<(), Fa
     let alloc = rt.alloc();
     let pools = paged(alloc, 64, LAID_OUT)?;
     let store = empty_store(alloc, 1, 1)?;
-    let mut turns = 7;
-    let refused = Err(EqualRefusal::Fault(Fault::CompareLong));
     assert_eq!(rt;
-        equal(alloc, PAIR, PAIR_AGAIN, &store, &pools, &mut turns),
-        Ok(true)
-    );
-    assert_eq!(rt; turns, 4);
-    assert_eq!(rt;
-        equal(alloc, PAIR, THREE, &store, &pools, &mut turns),
-        Ok(false)
-    );
-    assert_eq!(rt; turns, 3);
-    assert_eq!(rt;
-        equal(alloc, PAIR, PAIR_AGAIN, &store, &pools, &mut turns),
-        Ok(true)
-    );
-    assert_eq!(rt; turns, 0);
-    // Not even two integers are looked at without a turn.
-    assert_eq!(rt;
-        equal(
-            alloc,
-            Holder::Int(1),
-            Holder::Int(1),
-            &store,
-            &pools,
-            &mut turns
-        ),
-        refused
+        first_unlike_in_turn(alloc, 7, &store, &pools, &ROWS_IN_TURN),
+        None
     );
     let mut two = 2;
     assert_eq!(rt;
         equal(alloc, PAIR, PAIR_AGAIN, &store, &pools, &mut two),
-        refused
+        REFUSED
     );
     Ok(())
 }
+
+/// The lists of [`store_of_long_lists`]: two of 65,534 nils and true.
+const LEFT: Holder = Holder::Obj(2);
+
+const RIGHT: Holder = Holder::Obj(3);
+
+/// The same with a list of nil in the place of true.
+const LONGER: Holder = Holder::Obj(4);
+
+/// A store with a list of nil and the long ones.
+fn store_of_long_lists(alloc: Global) -> Result<Store, Fail> {
+    let mut store = empty_store(alloc, 8, 300_000)?;
+    let one = add_list(alloc, &mut store, &[Holder::Nil])?;
+    add_long_list(alloc, &mut store, Holder::True)?;
+    add_long_list(alloc, &mut store, Holder::True)?;
+    add_long_list(alloc, &mut store, one)?;
+    Ok(store)
+}
+
+/// Adds a list of 65,534 nils and this element.
+fn add_long_list(alloc: Global, store: &mut Store, last: Holder) -> Result<(), Fail> {
+    let mut items = [Holder::Nil].repeat(alloc, 65_534)?;
+    items.push(last)?;
+    let _list = add_list(alloc, store, &items)?;
+    Ok(())
+}
+
+/// With 65,536 turns: the lists, and 65,535 pairs.
+const LAST_TURN_ROWS: [Row; 3] = [
+    (LEFT, RIGHT, Ok(true), 65_536),
+    // And one pair more in a list in them, so that the last pair isn't looked at.
+    (LONGER, LONGER, LONG, 0),
+    (LEFT, LONGER, Ok(false), 65_536),
+];
+
+/// With one turn less.
+const TURN_LESS_ROWS: [Row; 1] = [(LEFT, RIGHT, LONG, 0)];
+
+/// With one turn more.
+const TURN_MORE_ROWS: [Row; 1] = [(LONGER, LONGER, Ok(true), 65_537)];
 
 #[test]
 fn the_last_turn_and_one_more(rt: HostRuntime) -> Result<(), Fail> {
     let alloc = rt.alloc();
     let pools = paged(alloc, 64, LAID_OUT)?;
-    let mut store = empty_store(alloc, 8, 300_000)?;
-    let one = add_list(alloc, &mut store, &[Holder::Nil])?;
-    let mut items = Vec::new(alloc);
-    items.resize(65_534, Holder::Nil)?;
-    items.push(Holder::True)?;
-    let left = add_list(alloc, &mut store, &items)?;
-    let right = add_list(alloc, &mut store, &items)?;
-    // The lists, and 65,535 pairs.
-    assert_eq!(rt;
-        told(alloc, left, right, &store, &pools, 65_536)?,
-        (Ok(true), 0)
-    );
-    assert_eq!(rt;
-        told(alloc, left, right, &store, &pools, 65_535)?,
-        (LONG, 0)
-    );
-    // And one pair more in a list in them, so that the last pair isn't looked at.
-    let _ = items.pop();
-    items.push(one)?;
-    let longer = add_list(alloc, &mut store, &items)?;
-    assert_eq!(rt;
-        told(alloc, longer, longer, &store, &pools, 65_536)?,
-        (LONG, 0)
-    );
-    assert_eq!(rt;
-        told(alloc, longer, longer, &store, &pools, 65_537)?,
-        (Ok(true), 0)
-    );
-    assert_eq!(rt;
-        told(alloc, left, longer, &store, &pools, 65_536)?,
-        (Ok(false), 0)
-    );
+    let store = store_of_long_lists(alloc)?;
+    let last = first_unlike(alloc, 65_536, &store, &pools, &LAST_TURN_ROWS)?;
+    assert_eq!(rt; last, None);
+    let less = first_unlike(alloc, 65_535, &store, &pools, &TURN_LESS_ROWS)?;
+    assert_eq!(rt; less, None);
+    let more = first_unlike(alloc, 65_537, &store, &pools, &TURN_MORE_ROWS)?;
+    assert_eq!(rt; more, None);
     Ok(())
 }

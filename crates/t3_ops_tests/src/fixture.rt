@@ -161,20 +161,32 @@ pub(crate) fn empty_store(alloc: Global, objects: u32, units: u32) -> Result<Sto
 /// A store with the objects above, and ample room.
 pub(crate) fn store(alloc: Global) -> Result<Store, Fail> {
     let mut store = empty_store(alloc, 1_000, 1_000_000)?;
+    add_tads(alloc, &mut store)?;
+    let _text = add_text(alloc, &mut store, b"cd")?;
+    let _list = add_list(alloc, &mut store, &[Holder::Int(3)])?;
+    let _vector = add_vector(alloc, &mut store, &[Holder::Int(4), Holder::Int(5)])?;
+    add_table(alloc, &mut store)?;
+    Ok(store)
+}
+
+/// Adds a tads-object without a property.
+fn add_tads(alloc: Global, store: &mut Store) -> Result<(), Fail> {
     let tads = NewObject::Tads {
         supers: Numbers(Vec::new(alloc)),
         class: false,
         props: Props(Vec::new(alloc)),
     };
     let _tads = store.create(tads, false)?;
-    let _text = add_text(alloc, &mut store, b"cd")?;
-    let _list = add_list(alloc, &mut store, &[Holder::Int(3)])?;
-    let _vector = add_vector(alloc, &mut store, &[Holder::Int(4), Holder::Int(5)])?;
+    Ok(())
+}
+
+/// Adds the table with its two entries.
+fn add_table(alloc: Global, store: &mut Store) -> Result<(), Fail> {
     let table = store.create(NewObject::Table, false)?;
     let key = Key::Text(Bytes(Vec::from_slice(alloc, b"ab")?));
-    set_key(&mut store, table, key, Holder::True)?;
-    set_key(&mut store, table, Key::Int(7), Holder::Int(8))?;
-    Ok(store)
+    set_key(store, table, key, Holder::True)?;
+    set_key(store, table, Key::Int(7), Holder::Int(8))?;
+    Ok(())
 }
 
 /// A new string.
@@ -229,28 +241,40 @@ pub(crate) fn set_key(store: &mut Store, number: u32, key: Key, value: Holder) -
 
 /// What is wanted of an operation. A new object is the next one of [`store`].
 #[derive(Clone, Copy, Debug)]
-pub(crate) enum Want<'w> {
+pub(crate) enum Want {
     Value(Holder),
     /// A new string of these bytes.
-    Text(&'w [u8]),
+    Text(&'static [u8]),
     /// A new list of these elements.
-    List(&'w [Holder]),
+    List(&'static [Holder]),
     Fault(Fault),
-    Full,
 }
 
+pub(crate) const KIND: Want = Want::Fault(Fault::Kind);
+
+pub(crate) const GONE: Want = Want::Fault(Fault::Stale);
+
+pub(crate) const BAD: Want = Want::Fault(Fault::BadConstant);
+
 /// Whether an operation answered what is wanted, and made what is wanted and nothing else.
-pub(crate) fn is_wanted(want: &Want<'_>, answer: Result<Holder, OpRefusal>, store: &Store) -> bool {
-    match (want, answer) {
-        (Want::Value(want), Ok(value)) => *want == value && store.next() == NEXT,
-        (Want::Text(want), Ok(Holder::Obj(NEXT))) => {
-            matches!(store.text(NEXT), Some(bytes) if bytes == *want)
-        }
-        (Want::List(want), Ok(Holder::Obj(NEXT))) => {
-            matches!(store.items(NEXT), Some(items) if items == *want)
-        }
-        (Want::Fault(want), Err(OpRefusal::Fault(fault))) => *want == fault && store.next() == NEXT,
-        (Want::Full, Err(OpRefusal::Full)) => store.next() == NEXT,
-        _ => false,
+pub(crate) fn is_wanted(want: Want, answer: Result<Holder, OpRefusal>, store: &Store) -> bool {
+    match want {
+        Want::Value(value) => answer == Ok(value) && store.next() == NEXT,
+        Want::Text(bytes) => answer == Ok(Holder::Obj(NEXT)) && store.text(NEXT) == Some(bytes),
+        Want::List(items) => answer == Ok(Holder::Obj(NEXT)) && store.items(NEXT) == Some(items),
+        Want::Fault(fault) => { answer == Err(OpRefusal::Fault(fault)) && store.next() == NEXT }
     }
+}
+
+/// A value, and what is wanted of an operation with it.
+pub(crate) type WantRow = (Holder, Want);
+
+/// What is wanted with a value: what its row says, and of each that has no row the same.
+pub(crate) fn want_with(value: Holder, rows: &[WantRow], others: Want) -> Want {
+    for (of, want) in rows {
+        if *of == value {
+            return *want;
+        }
+    }
+    others
 }

@@ -3,48 +3,71 @@ use crate::fixture::{
     BAD_LIST, BAD_TEXT, LIST, LIVE_LIST, LIVE_TEXT, LONG_TEXT, STALE, TABLE, TADS, TEXT, VECTOR,
     pools, store,
 };
+use std::alloc::Global;
 use std::test::Fail;
 use t3_holder::{Bytes, Holder};
 use t3_ops::{Fault, key};
+use t3_pools::Pools;
+use t3_store::Store;
 use t3_undo::Key;
+
+/// A value, and its key.
+type Row = (Holder, Result<Key, Fault>);
+
+const ROWS: [Row; 17] = [
+    (Holder::Nil, Ok(Key::Nil)),
+    (Holder::True, Ok(Key::True)),
+    (Holder::Int(-7), Ok(Key::Int(-7))),
+    (Holder::Enum(7), Ok(Key::Enum(7))),
+    (Holder::Prop(7), Ok(Key::Prop(7))),
+    (Holder::Func(7), Ok(Key::Func(7))),
+    (Holder::Shown(0), Err(Fault::KeyKind)),
+    (Holder::Code(7), Err(Fault::KeyKind)),
+    (LIST, Err(Fault::KeyKind)),
+    (BAD_LIST, Err(Fault::KeyKind)),
+    (LIVE_LIST, Err(Fault::KeyKind)),
+    (TADS, Ok(Key::Obj(1))),
+    (VECTOR, Ok(Key::Obj(4))),
+    (TABLE, Ok(Key::Obj(5))),
+    (STALE, Err(Fault::Stale)),
+    (BAD_TEXT, Err(Fault::BadConstant)),
+    (LONG_TEXT, Err(Fault::BadConstant)),
+];
+
+/// The first value that has another key.
+fn first_unlike(
+    alloc: Global,
+    store: &Store,
+    pools: &Pools,
+    rows: &[Row],
+) -> Result<Option<Holder>, Fail> {
+    for (value, want) in rows {
+        if key(alloc, *value, store, pools)? != *want {
+            return Ok(Some(*value));
+        }
+    }
+    Ok(None)
+}
+
+/// Whether the key of a value is the text of these bytes.
+fn has_text_key(
+    alloc: Global,
+    value: Holder,
+    store: &Store,
+    pools: &Pools,
+    bytes: &[u8],
+) -> Result<bool, Fail> {
+    let want = Key::Text(Bytes(Vec::from_slice(alloc, bytes)?));
+    Ok(key(alloc, value, store, pools)? == Ok(want))
+}
 
 #[test]
 fn a_key_of_each_kind(rt: HostRuntime) -> Result<(), Fail> {
     let alloc = rt.alloc();
     let pools = pools(alloc)?;
     let store = store(alloc)?;
-    let rows = [
-        (Holder::Nil, Ok(Key::Nil)),
-        (Holder::True, Ok(Key::True)),
-        (Holder::Int(-7), Ok(Key::Int(-7))),
-        (Holder::Enum(7), Ok(Key::Enum(7))),
-        (Holder::Prop(7), Ok(Key::Prop(7))),
-        (Holder::Func(7), Ok(Key::Func(7))),
-        (Holder::Shown(0), Err(Fault::KeyKind)),
-        (Holder::Code(7), Err(Fault::KeyKind)),
-        (LIST, Err(Fault::KeyKind)),
-        (BAD_LIST, Err(Fault::KeyKind)),
-        (LIVE_LIST, Err(Fault::KeyKind)),
-        (TADS, Ok(Key::Obj(1))),
-        (VECTOR, Ok(Key::Obj(4))),
-        (TABLE, Ok(Key::Obj(5))),
-        (STALE, Err(Fault::Stale)),
-        (BAD_TEXT, Err(Fault::BadConstant)),
-        (LONG_TEXT, Err(Fault::BadConstant)),
-    ];
-    for (value, want) in &rows {
-        let got = key(alloc, *value, &store, &pools)?;
-        assert!(rt; got == *want, "{value:?} {got:?}");
-    }
-    let constant = key(alloc, TEXT, &store, &pools)??;
-    assert!(rt;
-        constant == Key::Text(Bytes(Vec::from_slice(alloc, b"ab")?)),
-        "{constant:?}"
-    );
-    let live = key(alloc, LIVE_TEXT, &store, &pools)??;
-    assert!(rt;
-        live == Key::Text(Bytes(Vec::from_slice(alloc, b"cd")?)),
-        "{live:?}"
-    );
+    assert_eq!(rt; first_unlike(alloc, &store, &pools, &ROWS)?, None);
+    assert!(rt; has_text_key(alloc, TEXT, &store, &pools, b"ab")?);
+    assert!(rt; has_text_key(alloc, LIVE_TEXT, &store, &pools, b"cd")?);
     Ok(())
 }

@@ -1,9 +1,12 @@
 //! The order of two values.
 use crate::fixture::{STALE, TABLE, TADS, add_list, add_text, paged, store};
+use std::alloc::Global;
 use std::cmp::Ordering;
 use std::test::Fail;
 use t3_holder::Holder;
 use t3_ops::{Fault, kind_fault, order, same_holder};
+use t3_pools::Pools;
+use t3_store::Store;
 
 /// `b`, `ab`, `abc`, a byte past 7F, nothing, and what isn't UTF-8.
 const LAID_OUT: &[u8] = b"\
@@ -38,74 +41,143 @@ const GONE: Result<Ordering, Fault> = Err(Fault::Stale);
 
 const BAD: Result<Ordering, Fault> = Err(Fault::BadConstant);
 
+/// The string `abd` of [`store_of_two`].
+const LIVE: Holder = Holder::Obj(6);
+
+/// Its list of nil.
+const LIVE_LIST: Holder = Holder::Obj(7);
+
+/// The fixture's store with a string and a list more.
+fn store_of_two(alloc: Global) -> Result<Store, Fail> {
+    let mut store = store(alloc)?;
+    let _text = add_text(alloc, &mut store, b"abd")?;
+    let _list = add_list(alloc, &mut store, &[Holder::Nil])?;
+    Ok(store)
+}
+
+/// Two values, and what is told of them.
+type Row = (Holder, Holder, Result<Ordering, Fault>);
+
+const ROWS: [Row; 31] = [
+    (Holder::Int(1), Holder::Int(2), LESS),
+    (Holder::Int(-1), Holder::Int(-1), EQUAL),
+    (Holder::Int(i32::MAX), Holder::Int(i32::MIN), GREATER),
+    (AB, ABC, LESS),
+    (ABC, AB, GREATER),
+    (B, ABC, GREATER),
+    (ABC, ABC, EQUAL),
+    (ABC, LIVE, LESS),
+    (LIVE, ABC, GREATER),
+    (LIVE, LIVE, EQUAL),
+    // Bytes have no sign.
+    (ACCENT, B, GREATER),
+    (EMPTY, AB, LESS),
+    (EMPTY, EMPTY, EQUAL),
+    (UNREAD, AB, BAD),
+    (AB, UNREAD, BAD),
+    (UNREAD, UNREAD, BAD),
+    // No constant is read where the kinds don't fit.
+    (UNREAD, Holder::Int(1), KIND),
+    (Holder::Nil, Holder::Nil, KIND),
+    (Holder::Int(1), AB, KIND),
+    (AB, Holder::Int(1), KIND),
+    (Holder::Enum(1), Holder::Enum(2), KIND),
+    (LIVE_LIST, LIVE_LIST, KIND),
+    (AB, LIVE_LIST, KIND),
+    (TADS, TABLE, KIND),
+    (Holder::Shown(0), AB, KIND),
+    // A stale reference comes first, on either side.
+    (STALE, STALE, GONE),
+    (STALE, AB, GONE),
+    (AB, STALE, GONE),
+    (UNREAD, STALE, GONE),
+    (Holder::Int(1), STALE, GONE),
+    (STALE, LIVE_LIST, GONE),
+];
+
+/// The first row of whose values something else is told.
+fn first_unlike(store: &Store, pools: &Pools, rows: &[Row]) -> Option<Row> {
+    for row in rows {
+        let (left, right, want) = *row;
+        if order(left, right, store, pools) != want {
+            return Some(*row);
+        }
+    }
+    None
+}
+
+/// The same with the constants on pages of each size.
+fn first_unlike_on_pages(
+    alloc: Global,
+    sizes: &[u32],
+    store: &Store,
+    rows: &[Row],
+) -> Result<Option<(u32, Row)>, Fail> {
+    for size in sizes {
+        let pools = paged(alloc, *size, LAID_OUT)?;
+        if let Some(row) = first_unlike(store, &pools, rows) {
+            return Ok(Some((*size, row)));
+        }
+    }
+    Ok(None)
+}
+
 #[test]
 fn integers_and_texts_are_in_order(rt: HostRuntime) -> Result<(), Fail> {
     let alloc = rt.alloc();
-    let mut store = store(alloc)?;
-    let text = add_text(alloc, &mut store, b"abd")?;
-    let list = add_list(alloc, &mut store, &[Holder::Nil])?;
-    let rows: [(Holder, Holder, Result<Ordering, Fault>); 31] = [
-        (Holder::Int(1), Holder::Int(2), LESS),
-        (Holder::Int(-1), Holder::Int(-1), EQUAL),
-        (Holder::Int(i32::MAX), Holder::Int(i32::MIN), GREATER),
-        (AB, ABC, LESS),
-        (ABC, AB, GREATER),
-        (B, ABC, GREATER),
-        (ABC, ABC, EQUAL),
-        (ABC, text, LESS),
-        (text, ABC, GREATER),
-        (text, text, EQUAL),
-        // Bytes have no sign.
-        (ACCENT, B, GREATER),
-        (EMPTY, AB, LESS),
-        (EMPTY, EMPTY, EQUAL),
-        (UNREAD, AB, BAD),
-        (AB, UNREAD, BAD),
-        (UNREAD, UNREAD, BAD),
-        // No constant is read where the kinds don't fit.
-        (UNREAD, Holder::Int(1), KIND),
-        (Holder::Nil, Holder::Nil, KIND),
-        (Holder::Int(1), AB, KIND),
-        (AB, Holder::Int(1), KIND),
-        (Holder::Enum(1), Holder::Enum(2), KIND),
-        (list, list, KIND),
-        (AB, list, KIND),
-        (TADS, TABLE, KIND),
-        (Holder::Shown(0), AB, KIND),
-        // A stale reference comes first, on either side.
-        (STALE, STALE, GONE),
-        (STALE, AB, GONE),
-        (AB, STALE, GONE),
-        (UNREAD, STALE, GONE),
-        (Holder::Int(1), STALE, GONE),
-        (STALE, list, GONE),
-    ];
-    for size in [1u32, 2, 5, 0x7FFF_FFFF] {
-        let pools = paged(alloc, size, LAID_OUT)?;
-        for (left, right, want) in rows {
-            let told = order(left, right, &store, &pools);
-            assert_eq!(rt; told, want, "{left:?} and {right:?} on {size}");
+    let store = store_of_two(alloc)?;
+    let sizes = [1, 2, 5, 0x7FFF_FFFF];
+    assert_eq!(rt; first_unlike_on_pages(alloc, &sizes, &store, &ROWS)?, None);
+    Ok(())
+}
+
+/// Values, and the fault that is told of them.
+type FaultRow = (&'static [Holder], Fault);
+
+const FAULT_ROWS: [FaultRow; 4] = [
+    (&[], Fault::Kind),
+    (&[Holder::Nil, TADS], Fault::Kind),
+    (&[STALE], Fault::Stale),
+    (&[Holder::Nil, TADS, STALE], Fault::Stale),
+];
+
+/// The first row of whose values another fault is told.
+fn first_unlike_fault(store: &Store, rows: &[FaultRow]) -> Option<FaultRow> {
+    for row in rows {
+        let (values, want) = *row;
+        if kind_fault(store, values) != want {
+            return Some(*row);
         }
     }
-    Ok(())
+    None
+}
+
+/// Two values, and whether they are the same holder. Two texts of the same bytes are two holders, and so are
+/// two types of the same bits.
+type SameRow = (Holder, Holder, bool);
+
+const SAME_ROWS: [SameRow; 4] = [
+    (AB, AB, true),
+    (AB, ABC, false),
+    (AB, Holder::Shown(3), false),
+    (Holder::Nil, Holder::Int(0), false),
+];
+
+/// The first row of whose values the opposite is told.
+fn first_unlike_same(rows: &[SameRow]) -> Option<SameRow> {
+    for row in rows {
+        let (left, right, want) = *row;
+        if same_holder(left, right) != want {
+            return Some(*row);
+        }
+    }
+    None
 }
 
 #[test]
 fn a_stale_reference_is_told_before_a_kind(rt: HostRuntime) -> Result<(), Fail> {
     let store = store(rt.alloc())?;
-    let rows: [(&[Holder], Fault); 4] = [
-        (&[], Fault::Kind),
-        (&[Holder::Nil, TADS], Fault::Kind),
-        (&[STALE], Fault::Stale),
-        (&[Holder::Nil, TADS, STALE], Fault::Stale),
-    ];
-    for (values, want) in rows {
-        assert_eq!(rt; kind_fault(&store, values), want, "{values:?}");
-    }
-    // Two texts of the same bytes are two holders, and so are two types of the same bits.
-    assert!(rt; same_holder(AB, AB));
-    assert!(rt; !same_holder(AB, ABC));
-    assert!(rt; !same_holder(AB, Holder::Shown(3)));
-    assert!(rt; !same_holder(Holder::Nil, Holder::Int(0)));
+    assert_eq!(rt; first_unlike_fault(&store, &FAULT_ROWS), None);
+    assert_eq!(rt; first_unlike_same(&SAME_ROWS), None);
     Ok(())
 }

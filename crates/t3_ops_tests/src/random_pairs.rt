@@ -1,9 +1,10 @@
 //! Random values compared by `equal`, and beside it by a plain program that makes the whole list of pairs.
+use crate::equality::told;
 use crate::fixture::{add_list, add_text, empty_store, paged};
 use std::alloc::{AllocError, Global};
 use std::test::Fail;
 use t3_holder::Holder;
-use t3_ops::{EqualRefusal, Fault, equal};
+use t3_ops::Fault;
 use t3_pools::Pools;
 use t3_store::Store;
 
@@ -205,59 +206,98 @@ fn told_plainly(
     }
 }
 
-/// The same by `equal`.
-fn told(
+/// The constants of a world, in their slots.
+fn slots(alloc: Global, dice: &mut Dice) -> Result<Vec<u8>, AllocError> {
+    let mut bytes = Vec::new(alloc);
+    for _ in 0..CONSTANTS {
+        bytes.extend_from_slice(&slot(alloc, dice)?)?;
+    }
+    Ok(bytes)
+}
+
+/// The objects of a world.
+fn objects(alloc: Global, dice: &mut Dice) -> Result<Store, Fail> {
+    let mut store = empty_store(alloc, OBJECTS, 1_000)?;
+    for _ in 0..OBJECTS / 2 {
+        let _ = add_text(alloc, &mut store, &dice.text(alloc)?)?;
+        let _ = add_list(alloc, &mut store, &dice.values(alloc)?)?;
+    }
+    Ok(store)
+}
+
+/// Two values, and the turns that there are to compare them.
+type Pair = (Holder, Holder, u32);
+
+/// One in four is a value and itself.
+fn pair(dice: &mut Dice) -> Pair {
+    let left = dice.value();
+    let right = if dice.roll(4) == 0 {
+        left
+    } else {
+        dice.value()
+    };
+    (left, right, dice.roll(40))
+}
+
+/// Whether `equal` tells of two values what the plain program tells, and whether that is that they are equal.
+fn is_told_alike(
     alloc: Global,
-    left: Holder,
-    right: Holder,
+    pair: Pair,
     store: &Store,
     pools: &Pools,
-    turns: u32,
-) -> Result<(Result<bool, Fault>, u32), Fail> {
-    let mut rest = turns;
-    match equal(alloc, left, right, store, pools, &mut rest) {
-        Ok(is) => Ok((Ok(is), rest)),
-        Err(EqualRefusal::Fault(fault)) => Ok((Err(fault), 0)),
-        Err(EqualRefusal::NoMemory) => Err(Fail::from("memory")),
+) -> Result<(bool, bool), Fail> {
+    let (left, right, turns) = pair;
+    let want = told_plainly(alloc, left, right, store, pools, turns)?;
+    let told = told(alloc, left, right, store, pools, turns)?;
+    Ok((told == want, want.0 == Ok(true)))
+}
+
+/// The first of 250 pairs that isn't told alike. The equal ones are counted.
+fn first_unlike(
+    alloc: Global,
+    dice: &mut Dice,
+    store: &Store,
+    pools: &Pools,
+    equals: &mut u32,
+) -> Result<Option<Pair>, Fail> {
+    for _ in 0..250 {
+        let pair = pair(dice);
+        let (is_alike, is_equal) = is_told_alike(alloc, pair, store, pools)?;
+        if !is_alike {
+            return Ok(Some(pair));
+        }
+        *equals = equals.wrapping_add(u32::from(is_equal));
     }
+    Ok(None)
+}
+
+/// The same of a new world.
+fn first_unlike_in_world(
+    alloc: Global,
+    dice: &mut Dice,
+    equals: &mut u32,
+) -> Result<Option<Pair>, Fail> {
+    let bytes = slots(alloc, dice)?;
+    let pools = paged(alloc, dice.roll(40).wrapping_add(1), &bytes)?;
+    let store = objects(alloc, dice)?;
+    first_unlike(alloc, dice, &store, &pools, equals)
+}
+
+/// The same of 20 worlds, with the number of its world.
+fn first_unlike_in_worlds(alloc: Global, equals: &mut u32) -> Result<Option<(u32, Pair)>, Fail> {
+    let mut dice = Dice(1);
+    for world in 0..20 {
+        if let Some(pair) = first_unlike_in_world(alloc, &mut dice, equals)? {
+            return Ok(Some((world, pair)));
+        }
+    }
+    Ok(None)
 }
 
 #[test]
 fn thousands_of_pairs_are_told_as_a_plain_program_tells_them(rt: HostRuntime) -> Result<(), Fail> {
-    let alloc = rt.alloc();
-    let mut dice = Dice(1);
-    let mut equals = 0u32;
-    for world in 0..20u32 {
-        let mut bytes = Vec::new(alloc);
-        for _ in 0..CONSTANTS {
-            bytes.extend_from_slice(&slot(alloc, &mut dice)?)?;
-        }
-        let pools = paged(alloc, dice.roll(40).wrapping_add(1), &bytes)?;
-        let mut store = empty_store(alloc, OBJECTS, 1_000)?;
-        for _ in 0..OBJECTS / 2 {
-            let _ = add_text(alloc, &mut store, &dice.text(alloc)?)?;
-            let _ = add_list(alloc, &mut store, &dice.values(alloc)?)?;
-        }
-        for _ in 0..250 {
-            let left = dice.value();
-            let right = if dice.roll(4) == 0 {
-                left
-            } else {
-                dice.value()
-            };
-            let turns = dice.roll(40);
-            let want = told_plainly(alloc, left, right, &store, &pools, turns)?;
-            let told = told(alloc, left, right, &store, &pools, turns)?;
-            assert_eq!(rt;
-                told,
-                want,
-                "{left:?} and {right:?} with {turns} in world {world}"
-            );
-            if want.0 == Ok(true) {
-                equals = equals.wrapping_add(1);
-            }
-        }
-    }
+    let mut equals = 0;
+    assert_eq!(rt; first_unlike_in_worlds(rt.alloc(), &mut equals)?, None);
     assert!(rt; equals > 0 && equals < 5_000, "{equals} of 5,000 are equal");
     Ok(())
 }

@@ -1,8 +1,8 @@
 //! Sums of each pair of kinds, and at the greatest lengths.
 use crate::fixture::{
-    BAD_LIST, BAD_TEXT, EMPTY_LIST, EMPTY_TEXT, LIST, LIVE_LIST, LIVE_TEXT, LONG_LIST, LONG_TEXT,
-    STALE, TABLE, TADS, TEXT, VALUES, VECTOR, Want, add_list, add_text, empty_store, is_wanted,
-    paged, pools, store,
+    BAD, BAD_LIST, BAD_TEXT, EMPTY_LIST, EMPTY_TEXT, GONE, KIND, LIST, LIVE_LIST, LIVE_TEXT,
+    LONG_LIST, LONG_TEXT, STALE, TABLE, TADS, TEXT, VALUES, VECTOR, Want, WantRow, add_list,
+    add_text, empty_store, is_wanted, paged, pools, store, want_with,
 };
 use std::alloc::Global;
 use std::test::Fail;
@@ -11,217 +11,244 @@ use t3_ops::{Fault, OpRefusal, sum};
 use t3_pools::Pools;
 use t3_store::Store;
 
-const KIND: Want<'static> = Want::Fault(Fault::Kind);
+const NIL: Holder = Holder::Nil;
 
-const GONE: Want<'static> = Want::Fault(Fault::Stale);
+const ONE: Holder = Holder::Int(1);
 
-const BAD: Want<'static> = Want::Fault(Fault::BadConstant);
+const TWO: Holder = Holder::Int(2);
+
+const THREE: Holder = Holder::Int(3);
+
+/// Whether a sum in a store of its own is as wanted.
+fn is_like(
+    alloc: Global,
+    left: Holder,
+    right: Holder,
+    want: Want,
+    pools: &Pools,
+) -> Result<bool, Fail> {
+    let mut store = store(alloc)?;
+    let answer = sum(alloc, left, right, &mut store, pools);
+    Ok(is_wanted(want, answer, &store))
+}
 
 /// The first of the fixture's values whose sum with this one isn't what is wanted.
 fn wrong_sum(
     alloc: Global,
     pools: &Pools,
     left: Holder,
-    wants: &[Want<'_>; 18],
+    rows: &[WantRow],
+    others: Want,
 ) -> Result<Option<Holder>, Fail> {
-    for (right, want) in VALUES.iter().zip(wants) {
-        let mut store = store(alloc)?;
-        let answer = sum(alloc, left, *right, &mut store, pools);
-        if !is_wanted(want, answer, &store) {
+    for right in &VALUES {
+        let want = want_with(*right, rows, others);
+        if !is_like(alloc, left, *right, want, pools)? {
             return Ok(Some(*right));
         }
     }
     Ok(None)
 }
 
+/// The first of these values, and the first of the fixture's, whose sum isn't what is wanted.
+fn wrong_sum_of(
+    alloc: Global,
+    pools: &Pools,
+    lefts: &[Holder],
+    rows: &[WantRow],
+    others: Want,
+) -> Result<Option<(Holder, Holder)>, Fail> {
+    for left in lefts {
+        if let Some(right) = wrong_sum(alloc, pools, *left, rows, others)? {
+            return Ok(Some((*left, right)));
+        }
+    }
+    Ok(None)
+}
+
+/// What can be added to the constant string.
+const TO_TEXT: [WantRow; 7] = [
+    (Holder::Nil, Want::Text(b"ab")),
+    (Holder::True, Want::Text(b"abtrue")),
+    (Holder::Int(7), Want::Text(b"ab7")),
+    (TEXT, Want::Text(b"abab")),
+    (BAD_TEXT, BAD),
+    (LIVE_TEXT, Want::Text(b"abcd")),
+    (STALE, GONE),
+];
+
+/// What can be added to the live one.
+const TO_LIVE_TEXT: [WantRow; 7] = [
+    (Holder::Nil, Want::Text(b"cd")),
+    (Holder::True, Want::Text(b"cdtrue")),
+    (Holder::Int(7), Want::Text(b"cd7")),
+    (TEXT, Want::Text(b"cdab")),
+    (BAD_TEXT, BAD),
+    (LIVE_TEXT, Want::Text(b"cdcd")),
+    (STALE, GONE),
+];
+
+/// What can be added to a string, where that can't be read.
+const TO_BAD_TEXT: [WantRow; 7] = [
+    (Holder::Nil, BAD),
+    (Holder::True, BAD),
+    (Holder::Int(7), BAD),
+    (TEXT, BAD),
+    (BAD_TEXT, BAD),
+    (LIVE_TEXT, BAD),
+    (STALE, GONE),
+];
+
 #[test]
 fn a_value_is_added_to_a_text(rt: HostRuntime) -> Result<(), Fail> {
     let alloc = rt.alloc();
     let pools = pools(alloc)?;
-    // By the right value: nil, true, 7, an enum, a property, a string to be said, a method, a
-    // function, `ab`, a constant that can't be read, `cd`, the lists, the vector, the table, the
-    // tads-object, one that is gone.
-    let to_constant = [
-        Want::Text(b"ab"),
-        Want::Text(b"abtrue"),
-        Want::Text(b"ab7"),
-        KIND,
-        KIND,
-        KIND,
-        KIND,
-        KIND,
-        Want::Text(b"abab"),
-        BAD,
-        Want::Text(b"abcd"),
-        KIND,
-        KIND,
-        KIND,
-        KIND,
-        KIND,
-        KIND,
-        GONE,
-    ];
-    let to_live = [
-        Want::Text(b"cd"),
-        Want::Text(b"cdtrue"),
-        Want::Text(b"cd7"),
-        KIND,
-        KIND,
-        KIND,
-        KIND,
-        KIND,
-        Want::Text(b"cdab"),
-        BAD,
-        Want::Text(b"cdcd"),
-        KIND,
-        KIND,
-        KIND,
-        KIND,
-        KIND,
-        KIND,
-        GONE,
-    ];
-    let to_unread = [
-        BAD, BAD, BAD, KIND, KIND, KIND, KIND, KIND, BAD, BAD, BAD, KIND, KIND, KIND, KIND, KIND,
-        KIND, GONE,
-    ];
-    for (left, wants) in [
-        (TEXT, &to_constant),
-        (LIVE_TEXT, &to_live),
-        (BAD_TEXT, &to_unread),
-        (LONG_TEXT, &to_unread),
-    ] {
-        assert_eq!(rt; wrong_sum(alloc, &pools, left, wants)?, None, "{left:?}");
-    }
+    let unlike = wrong_sum_of(alloc, &pools, &[TEXT], &TO_TEXT, KIND)?;
+    assert_eq!(rt; unlike, None);
+    let unlike = wrong_sum_of(alloc, &pools, &[LIVE_TEXT], &TO_LIVE_TEXT, KIND)?;
+    assert_eq!(rt; unlike, None);
+    let unlike = wrong_sum_of(alloc, &pools, &[BAD_TEXT, LONG_TEXT], &TO_BAD_TEXT, KIND)?;
+    assert_eq!(rt; unlike, None);
     Ok(())
 }
+
+/// The constant list and each value.
+const TO_LIST: [WantRow; 18] = [
+    (Holder::Nil, Want::List(&[ONE, NIL, NIL])),
+    (Holder::True, Want::List(&[ONE, NIL, Holder::True])),
+    (Holder::Int(7), Want::List(&[ONE, NIL, Holder::Int(7)])),
+    (Holder::Enum(7), Want::List(&[ONE, NIL, Holder::Enum(7)])),
+    (Holder::Prop(7), Want::List(&[ONE, NIL, Holder::Prop(7)])),
+    (Holder::Shown(0), Want::List(&[ONE, NIL, Holder::Shown(0)])),
+    (Holder::Code(7), Want::List(&[ONE, NIL, Holder::Code(7)])),
+    (Holder::Func(7), Want::List(&[ONE, NIL, Holder::Func(7)])),
+    (TEXT, Want::List(&[ONE, NIL, TEXT])),
+    (BAD_TEXT, Want::List(&[ONE, NIL, BAD_TEXT])),
+    (LIVE_TEXT, Want::List(&[ONE, NIL, LIVE_TEXT])),
+    (LIST, Want::List(&[ONE, NIL, ONE, NIL])),
+    (BAD_LIST, BAD),
+    (LIVE_LIST, Want::List(&[ONE, NIL, Holder::Int(3)])),
+    (
+        VECTOR,
+        Want::List(&[ONE, NIL, Holder::Int(4), Holder::Int(5)]),
+    ),
+    (TABLE, Want::List(&[ONE, NIL, TABLE])),
+    (TADS, Want::List(&[ONE, NIL, TADS])),
+    (STALE, Want::List(&[ONE, NIL, STALE])),
+];
+
+/// The live list and each value.
+const TO_LIVE_LIST: [WantRow; 18] = [
+    (Holder::Nil, Want::List(&[THREE, NIL])),
+    (Holder::True, Want::List(&[THREE, Holder::True])),
+    (Holder::Int(7), Want::List(&[THREE, Holder::Int(7)])),
+    (Holder::Enum(7), Want::List(&[THREE, Holder::Enum(7)])),
+    (Holder::Prop(7), Want::List(&[THREE, Holder::Prop(7)])),
+    (Holder::Shown(0), Want::List(&[THREE, Holder::Shown(0)])),
+    (Holder::Code(7), Want::List(&[THREE, Holder::Code(7)])),
+    (Holder::Func(7), Want::List(&[THREE, Holder::Func(7)])),
+    (TEXT, Want::List(&[THREE, TEXT])),
+    (BAD_TEXT, Want::List(&[THREE, BAD_TEXT])),
+    (LIVE_TEXT, Want::List(&[THREE, LIVE_TEXT])),
+    (LIST, Want::List(&[THREE, ONE, NIL])),
+    (BAD_LIST, BAD),
+    (LIVE_LIST, Want::List(&[THREE, THREE])),
+    (VECTOR, Want::List(&[THREE, Holder::Int(4), Holder::Int(5)])),
+    (TABLE, Want::List(&[THREE, TABLE])),
+    (TADS, Want::List(&[THREE, TADS])),
+    (STALE, Want::List(&[THREE, STALE])),
+];
 
 #[test]
 fn a_value_is_added_to_a_list(rt: HostRuntime) -> Result<(), Fail> {
     let alloc = rt.alloc();
     let pools = pools(alloc)?;
-    let one = Holder::Int(1);
-    let nil = Holder::Nil;
-    let to_constant = [
-        Want::List(&[one, nil, nil]),
-        Want::List(&[one, nil, Holder::True]),
-        Want::List(&[one, nil, Holder::Int(7)]),
-        Want::List(&[one, nil, Holder::Enum(7)]),
-        Want::List(&[one, nil, Holder::Prop(7)]),
-        Want::List(&[one, nil, Holder::Shown(0)]),
-        Want::List(&[one, nil, Holder::Code(7)]),
-        Want::List(&[one, nil, Holder::Func(7)]),
-        Want::List(&[one, nil, TEXT]),
-        Want::List(&[one, nil, BAD_TEXT]),
-        Want::List(&[one, nil, LIVE_TEXT]),
-        Want::List(&[one, nil, one, nil]),
-        BAD,
-        Want::List(&[one, nil, Holder::Int(3)]),
-        Want::List(&[one, nil, Holder::Int(4), Holder::Int(5)]),
-        Want::List(&[one, nil, TABLE]),
-        Want::List(&[one, nil, TADS]),
-        Want::List(&[one, nil, STALE]),
-    ];
-    assert_eq!(rt; wrong_sum(alloc, &pools, LIST, &to_constant)?, None);
-    let three = Holder::Int(3);
-    let to_live = [
-        Want::List(&[three, nil]),
-        Want::List(&[three, Holder::True]),
-        Want::List(&[three, Holder::Int(7)]),
-        Want::List(&[three, Holder::Enum(7)]),
-        Want::List(&[three, Holder::Prop(7)]),
-        Want::List(&[three, Holder::Shown(0)]),
-        Want::List(&[three, Holder::Code(7)]),
-        Want::List(&[three, Holder::Func(7)]),
-        Want::List(&[three, TEXT]),
-        Want::List(&[three, BAD_TEXT]),
-        Want::List(&[three, LIVE_TEXT]),
-        Want::List(&[three, one, nil]),
-        BAD,
-        Want::List(&[three, three]),
-        Want::List(&[three, Holder::Int(4), Holder::Int(5)]),
-        Want::List(&[three, TABLE]),
-        Want::List(&[three, TADS]),
-        Want::List(&[three, STALE]),
-    ];
-    assert_eq!(rt; wrong_sum(alloc, &pools, LIVE_LIST, &to_live)?, None);
-    for left in [BAD_LIST, LONG_LIST] {
-        assert_eq!(rt;
-            wrong_sum(alloc, &pools, left, &[BAD; 18])?,
-            None,
-            "{left:?}"
-        );
-    }
+    let unlike = wrong_sum_of(alloc, &pools, &[LIST], &TO_LIST, KIND)?;
+    assert_eq!(rt; unlike, None);
+    let unlike = wrong_sum_of(alloc, &pools, &[LIVE_LIST], &TO_LIVE_LIST, KIND)?;
+    assert_eq!(rt; unlike, None);
+    let unlike = wrong_sum_of(alloc, &pools, &[BAD_LIST, LONG_LIST], &[], BAD)?;
+    assert_eq!(rt; unlike, None);
     Ok(())
 }
+
+/// What can be added to the integer 7.
+const TO_INTEGER: [WantRow; 1] = [(Holder::Int(7), Want::Value(Holder::Int(14)))];
+
+/// What nothing is added to.
+const OTHERS: [Holder; 10] = [
+    Holder::Nil,
+    Holder::True,
+    Holder::Enum(7),
+    Holder::Prop(7),
+    Holder::Shown(0),
+    Holder::Code(7),
+    Holder::Func(7),
+    VECTOR,
+    TABLE,
+    TADS,
+];
 
 #[test]
 fn a_value_is_added_to_any_other(rt: HostRuntime) -> Result<(), Fail> {
     let alloc = rt.alloc();
     let pools = pools(alloc)?;
-    let mut to_integer = [KIND; 18];
-    to_integer[2] = Want::Value(Holder::Int(14));
-    assert_eq!(rt;
-        wrong_sum(alloc, &pools, Holder::Int(7), &to_integer)?,
-        None
-    );
-    for left in [
-        Holder::Nil,
-        Holder::True,
-        Holder::Enum(7),
-        Holder::Prop(7),
-        Holder::Shown(0),
-        Holder::Code(7),
-        Holder::Func(7),
-        VECTOR,
-        TABLE,
-        TADS,
-    ] {
-        assert_eq!(rt;
-            wrong_sum(alloc, &pools, left, &[KIND; 18])?,
-            None,
-            "{left:?}"
-        );
-    }
-    assert_eq!(rt; wrong_sum(alloc, &pools, STALE, &[GONE; 18])?, None);
+    let unlike = wrong_sum_of(alloc, &pools, &[Holder::Int(7)], &TO_INTEGER, KIND)?;
+    assert_eq!(rt; unlike, None);
+    let unlike = wrong_sum_of(alloc, &pools, &OTHERS, &[], KIND)?;
+    assert_eq!(rt; unlike, None);
+    let unlike = wrong_sum_of(alloc, &pools, &[STALE], &[], GONE)?;
+    assert_eq!(rt; unlike, None);
     Ok(())
+}
+
+const OVERFLOW: Want = Want::Fault(Fault::Overflow);
+
+/// Two values, and what is wanted of their sum.
+type Row = ((Holder, Holder), Want);
+
+const END_ROWS: [Row; 12] = [
+    (
+        (Holder::Int(i32::MAX), Holder::Int(0)),
+        Want::Value(Holder::Int(i32::MAX)),
+    ),
+    ((Holder::Int(i32::MAX), Holder::Int(1)), OVERFLOW),
+    ((Holder::Int(i32::MIN), Holder::Int(-1)), OVERFLOW),
+    ((EMPTY_TEXT, Holder::Nil), Want::Text(b"")),
+    ((EMPTY_TEXT, EMPTY_TEXT), Want::Text(b"")),
+    ((EMPTY_TEXT, Holder::Int(0)), Want::Text(b"0")),
+    (
+        (EMPTY_TEXT, Holder::Int(i32::MIN)),
+        Want::Text(b"-2147483648"),
+    ),
+    (
+        (EMPTY_TEXT, Holder::Int(i32::MAX)),
+        Want::Text(b"2147483647"),
+    ),
+    ((TEXT, LONG_TEXT), BAD),
+    ((EMPTY_LIST, EMPTY_LIST), Want::List(&[])),
+    ((EMPTY_LIST, Holder::Nil), Want::List(&[Holder::Nil])),
+    ((LIST, LONG_LIST), BAD),
+];
+
+/// The first two values whose sum isn't what is wanted.
+fn first_unlike(
+    alloc: Global,
+    pools: &Pools,
+    rows: &[Row],
+) -> Result<Option<(Holder, Holder)>, Fail> {
+    for (pair, want) in rows {
+        if !is_like(alloc, pair.0, pair.1, *want, pools)? {
+            return Ok(Some(*pair));
+        }
+    }
+    Ok(None)
 }
 
 #[test]
 fn sums_at_their_ends(rt: HostRuntime) -> Result<(), Fail> {
     let alloc = rt.alloc();
     let pools = pools(alloc)?;
-    let overflow = Want::Fault(Fault::Overflow);
-    let rows = [
-        (
-            Holder::Int(i32::MAX),
-            Holder::Int(0),
-            Want::Value(Holder::Int(i32::MAX)),
-        ),
-        (Holder::Int(i32::MAX), Holder::Int(1), overflow),
-        (Holder::Int(i32::MIN), Holder::Int(-1), overflow),
-        (EMPTY_TEXT, Holder::Nil, Want::Text(b"")),
-        (EMPTY_TEXT, EMPTY_TEXT, Want::Text(b"")),
-        (EMPTY_TEXT, Holder::Int(0), Want::Text(b"0")),
-        (
-            EMPTY_TEXT,
-            Holder::Int(i32::MIN),
-            Want::Text(b"-2147483648"),
-        ),
-        (EMPTY_TEXT, Holder::Int(i32::MAX), Want::Text(b"2147483647")),
-        (TEXT, LONG_TEXT, BAD),
-        (EMPTY_LIST, EMPTY_LIST, Want::List(&[])),
-        (EMPTY_LIST, Holder::Nil, Want::List(&[Holder::Nil])),
-        (LIST, LONG_LIST, BAD),
-    ];
-    for (left, right, want) in &rows {
-        let mut store = store(alloc)?;
-        let answer = sum(alloc, *left, *right, &mut store, &pools);
-        assert!(rt;
-            is_wanted(want, answer, &store),
-            "{left:?} {right:?} {answer:?}"
-        );
-    }
+    assert_eq!(rt; first_unlike(alloc, &pools, &END_ROWS)?, None);
     Ok(())
 }
 
@@ -242,105 +269,139 @@ fn length_of_sum(
     }
 }
 
+/// The string of 65,534 bytes of [`store_of_long`].
+const LONG_BYTES: Holder = Holder::Obj(1);
+
+/// Its list of 65,533 elements.
+const LONG_ITEMS: Holder = Holder::Obj(2);
+
+/// The list of 65,534 elements that the last row but one made which made any.
+const FULL_ITEMS: Holder = Holder::Obj(6);
+
+const TEXT_LONG: Result<usize, OpRefusal> = Err(OpRefusal::Fault(Fault::TextLong));
+
+const LIST_LONG: Result<usize, OpRefusal> = Err(OpRefusal::Fault(Fault::ListLong));
+
+/// Two values, and the length of their sum.
+type LongRow = (Holder, Holder, Result<usize, OpRefusal>);
+
+/// 65,534 bytes and one more, and two more; 65,533 elements and two more, and more.
+const LONG_ROWS: [LongRow; 10] = [
+    (LONG_BYTES, ONE, Ok(65_535)),
+    (LONG_BYTES, TEXT, TEXT_LONG),
+    (TEXT, LONG_BYTES, TEXT_LONG),
+    (LONG_BYTES, LONG_BYTES, TEXT_LONG),
+    (LONG_ITEMS, LIST, Ok(65_535)),
+    (LIST, LONG_ITEMS, Ok(65_535)),
+    (LONG_ITEMS, Holder::Nil, Ok(65_534)),
+    (LONG_ITEMS, LONG_ITEMS, LIST_LONG),
+    (FULL_ITEMS, ONE, Ok(65_535)),
+    (FULL_ITEMS, LIST, LIST_LONG),
+];
+
+/// A store with a string and a list that have nearly no room.
+fn store_of_long(alloc: Global) -> Result<Store, Fail> {
+    let mut store = empty_store(alloc, 1_000, 4_000_000)?;
+    let bytes = b"x".repeat(alloc, 65_534)?;
+    let _text = add_text(alloc, &mut store, &bytes)?;
+    let items = [ONE].repeat(alloc, 65_533)?;
+    let _list = add_list(alloc, &mut store, &items)?;
+    Ok(store)
+}
+
+/// The first row whose sum has another length, one after the other in one store.
+fn first_unlike_long(
+    alloc: Global,
+    store: &mut Store,
+    pools: &Pools,
+    rows: &[LongRow],
+) -> Option<LongRow> {
+    for row in rows {
+        let (left, right, want) = *row;
+        if length_of_sum(alloc, left, right, store, pools) != want {
+            return Some(*row);
+        }
+    }
+    None
+}
+
 #[test]
 fn sums_have_65535_bytes_or_elements(rt: HostRuntime) -> Result<(), Fail> {
     let alloc = rt.alloc();
     let pools = pools(alloc)?;
-    let mut store = empty_store(alloc, 1_000, 4_000_000)?;
-    let bytes = b"x".repeat(alloc, 65_534)?;
-    let text = add_text(alloc, &mut store, &bytes)?;
-    let one = Holder::Int(1);
-    let items = [one].repeat(alloc, 65_533)?;
-    let list = add_list(alloc, &mut store, &items)?;
-    let long_text = Err(OpRefusal::Fault(Fault::TextLong));
-    let long_list = Err(OpRefusal::Fault(Fault::ListLong));
-    // 65,534 bytes and one more, and two more; 65,533 elements and two more, and more.
-    let rows = [
-        (text, one, Ok(65_535)),
-        (text, TEXT, long_text),
-        (TEXT, text, long_text),
-        (text, text, long_text),
-        (list, LIST, Ok(65_535)),
-        (LIST, list, Ok(65_535)),
-        (list, Holder::Nil, Ok(65_534)),
-        (list, list, long_list),
-    ];
-    for (left, right, want) in rows {
-        let got = length_of_sum(alloc, left, right, &mut store, &pools);
-        assert_eq!(rt; got, want, "{left:?} {right:?}");
-    }
-    // The list of 65,534 elements is the last one made but that the last row made none.
-    let full = Holder::Obj(store.next().wrapping_sub(1));
-    assert_eq!(rt;
-        length_of_sum(alloc, full, one, &mut store, &pools),
-        Ok(65_535)
-    );
-    assert_eq!(rt;
-        length_of_sum(alloc, full, LIST, &mut store, &pools),
-        long_list
-    );
+    let mut store = store_of_long(alloc)?;
+    let unlike = first_unlike_long(alloc, &mut store, &pools, &LONG_ROWS);
+    assert_eq!(rt; unlike, None);
     Ok(())
 }
+
+/// The text `abcde` at 1, over pages of three bytes, and a list of 1 and 2 at 8.
+const PAGED: &[u8] = b"\x00\x05\x00abcde\x02\x00\x07\x01\x00\x00\x00\x07\x02\x00\x00\x00";
+
+const PAGED_TEXT: Holder = Holder::Text(1);
+
+const PAGED_LIST: Holder = Holder::List(8);
+
+const PAGED_ROWS: [Row; 4] = [
+    ((PAGED_TEXT, PAGED_TEXT), Want::Text(b"abcdeabcde")),
+    ((LIVE_TEXT, PAGED_TEXT), Want::Text(b"cdabcde")),
+    ((PAGED_LIST, PAGED_LIST), Want::List(&[ONE, TWO, ONE, TWO])),
+    (
+        (LIVE_LIST, PAGED_LIST),
+        Want::List(&[Holder::Int(3), ONE, TWO]),
+    ),
+];
 
 #[test]
 fn constants_stand_across_pages(rt: HostRuntime) -> Result<(), Fail> {
     let alloc = rt.alloc();
-    // The text `abcde` at 1, over pages of three bytes, and a list of 1 and 2 at 8.
-    let constants = b"\x00\x05\x00abcde\x02\x00\x07\x01\x00\x00\x00\x07\x02\x00\x00\x00";
-    let pools = paged(alloc, 3, constants)?;
-    let text = Holder::Text(1);
-    let list = Holder::List(8);
-    let one = Holder::Int(1);
-    let two = Holder::Int(2);
-    let rows = [
-        (text, text, Want::Text(b"abcdeabcde")),
-        (LIVE_TEXT, text, Want::Text(b"cdabcde")),
-        (list, list, Want::List(&[one, two, one, two])),
-        (LIVE_LIST, list, Want::List(&[Holder::Int(3), one, two])),
-    ];
-    for (left, right, want) in &rows {
-        let mut store = store(alloc)?;
-        let answer = sum(alloc, *left, *right, &mut store, &pools);
-        assert!(rt;
-            is_wanted(want, answer, &store),
-            "{left:?} {right:?} {answer:?}"
-        );
-    }
+    let pools = paged(alloc, 3, PAGED)?;
+    assert_eq!(rt; first_unlike(alloc, &pools, &PAGED_ROWS)?, None);
     Ok(())
+}
+
+/// Two values, and their sum.
+type SumRow = (Holder, Holder, Result<Holder, OpRefusal>);
+
+const FULL: Result<Holder, OpRefusal> = Err(OpRefusal::Full);
+
+/// In a store with room for two objects, but for one unit alone: `abab` counts one, a list of three elements
+/// three.
+const FULL_ROWS: [SumRow; 7] = [
+    (LIST, NIL, FULL),
+    (TEXT, TEXT, Ok(Holder::Obj(1))),
+    // Room for a second one without a unit, and then for none.
+    (TEXT, TEXT, FULL),
+    (EMPTY_TEXT, NIL, Ok(Holder::Obj(2))),
+    (EMPTY_TEXT, NIL, FULL),
+    // A sum of integers makes nothing, and a fault comes before it.
+    (ONE, TWO, Ok(THREE)),
+    (TEXT, BAD_TEXT, Err(OpRefusal::Fault(Fault::BadConstant))),
+];
+
+/// The first row that has another sum, one after the other in one store.
+fn first_unlike_sum(
+    alloc: Global,
+    store: &mut Store,
+    pools: &Pools,
+    rows: &[SumRow],
+) -> Option<SumRow> {
+    for row in rows {
+        let (left, right, want) = *row;
+        if sum(alloc, left, right, store, pools) != want {
+            return Some(*row);
+        }
+    }
+    None
 }
 
 #[test]
 fn a_full_store_takes_no_sum(rt: HostRuntime) -> Result<(), Fail> {
     let alloc = rt.alloc();
     let pools = pools(alloc)?;
-    let full = Err(OpRefusal::Full);
-    // Room for an object, but for one unit alone: `abab` counts one, a list of three elements
-    // three.
     let mut store = empty_store(alloc, 2, 1)?;
-    assert_eq!(rt; sum(alloc, LIST, Holder::Nil, &mut store, &pools), full);
-    assert_eq!(rt;
-        sum(alloc, TEXT, TEXT, &mut store, &pools),
-        Ok(Holder::Obj(1))
-    );
-    // Room for a second one without a unit, and then for none.
-    assert_eq!(rt; sum(alloc, TEXT, TEXT, &mut store, &pools), full);
-    assert_eq!(rt;
-        sum(alloc, EMPTY_TEXT, Holder::Nil, &mut store, &pools),
-        Ok(Holder::Obj(2))
-    );
-    assert_eq!(rt;
-        sum(alloc, EMPTY_TEXT, Holder::Nil, &mut store, &pools),
-        full
-    );
-    // A sum of integers makes nothing, and a fault comes before it.
-    assert_eq!(rt;
-        sum(alloc, Holder::Int(1), Holder::Int(2), &mut store, &pools),
-        Ok(Holder::Int(3))
-    );
-    assert_eq!(rt;
-        sum(alloc, TEXT, BAD_TEXT, &mut store, &pools),
-        Err(OpRefusal::Fault(Fault::BadConstant))
-    );
+    let unlike = first_unlike_sum(alloc, &mut store, &pools, &FULL_ROWS);
+    assert_eq!(rt; unlike, None);
     assert_eq!(rt; store.next(), 3);
     Ok(())
 }
