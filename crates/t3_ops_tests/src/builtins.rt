@@ -147,10 +147,9 @@ fn first_unlike_value(
     index: u8,
     pools: &Pools,
     rows: &[WantRow],
-    others: Want,
 ) -> Result<Option<Holder>, Fail> {
     for value in &VALUES {
-        let want = want_with(*value, rows, others);
+        let want = want_with(*value, rows, KIND);
         if !is_like(alloc, index, &[*value], want, pools)? {
             return Ok(Some(*value));
         }
@@ -220,22 +219,37 @@ const COPIES: [WantRow; 5] = [
     (STALE, GONE),
 ];
 
+/// A function, and what is wanted of it with one of the fixture's values; with all others a fault.
+type FunctionRow = (u8, &'static [WantRow]);
+
+const FUNCTION_ROWS: [FunctionRow; 6] = [
+    (DATA_TYPE, &TYPES),
+    (TO_STRING, &STRINGS),
+    (TO_INTEGER, &INTEGERS),
+    (MAX, &BEST),
+    (MIN, &BEST),
+    (MAKE_STRING, &COPIES),
+];
+
+/// The first function, and the first of the fixture's values, whose answer isn't what is wanted.
+fn first_unlike_function(
+    alloc: Global,
+    pools: &Pools,
+    rows: &[FunctionRow],
+) -> Result<Option<(u8, Holder)>, Fail> {
+    for (index, wants) in rows {
+        if let Some(value) = first_unlike_value(alloc, *index, pools, wants)? {
+            return Ok(Some((*index, value)));
+        }
+    }
+    Ok(None)
+}
+
 #[test]
 fn a_value_of_each_kind(rt: HostRuntime) -> Result<(), Fail> {
     let alloc = rt.alloc();
     let pools = pools(alloc)?;
-    let functions: [(u8, &[WantRow]); 6] = [
-        (DATA_TYPE, &TYPES),
-        (TO_STRING, &STRINGS),
-        (TO_INTEGER, &INTEGERS),
-        (MAX, &BEST),
-        (MIN, &BEST),
-        (MAKE_STRING, &COPIES),
-    ];
-    for (index, rows) in &functions {
-        let unlike = first_unlike_value(alloc, *index, &pools, rows, KIND)?;
-        assert_eq!(rt; unlike, None, "{index}");
-    }
+    assert_eq!(rt; first_unlike_function(alloc, &pools, &FUNCTION_ROWS)?, None);
     Ok(())
 }
 

@@ -49,16 +49,17 @@ fn wrong_sum(
     Ok(None)
 }
 
-/// The first of these values, and the first of the fixture's, whose sum isn't what is wanted.
+/// A value, what is wanted of its sums by the right value, and what of all other sums.
+type LeftRow = (Holder, &'static [WantRow], Want);
+
+/// The first row, and the first of the fixture's values, whose sum isn't what is wanted.
 fn wrong_sum_of(
     alloc: Global,
     pools: &Pools,
-    lefts: &[Holder],
-    rows: &[WantRow],
-    others: Want,
+    rows: &[LeftRow],
 ) -> Result<Option<(Holder, Holder)>, Fail> {
-    for left in lefts {
-        if let Some(right) = wrong_sum(alloc, pools, *left, rows, others)? {
+    for (left, wants, others) in rows {
+        if let Some(right) = wrong_sum(alloc, pools, *left, wants, *others)? {
             return Ok(Some((*left, right)));
         }
     }
@@ -87,7 +88,7 @@ const TO_LIVE_TEXT: [WantRow; 7] = [
     (STALE, GONE),
 ];
 
-/// What can be added to a string, where that can't be read.
+/// What could be added to a string, where that can't be read.
 const TO_BAD_TEXT: [WantRow; 7] = [
     (Holder::Nil, BAD),
     (Holder::True, BAD),
@@ -98,16 +99,18 @@ const TO_BAD_TEXT: [WantRow; 7] = [
     (STALE, GONE),
 ];
 
+const TEXT_ROWS: [LeftRow; 4] = [
+    (TEXT, &TO_TEXT, KIND),
+    (LIVE_TEXT, &TO_LIVE_TEXT, KIND),
+    (BAD_TEXT, &TO_BAD_TEXT, KIND),
+    (LONG_TEXT, &TO_BAD_TEXT, KIND),
+];
+
 #[test]
 fn a_value_is_added_to_a_text(rt: HostRuntime) -> Result<(), Fail> {
     let alloc = rt.alloc();
     let pools = pools(alloc)?;
-    let unlike = wrong_sum_of(alloc, &pools, &[TEXT], &TO_TEXT, KIND)?;
-    assert_eq!(rt; unlike, None);
-    let unlike = wrong_sum_of(alloc, &pools, &[LIVE_TEXT], &TO_LIVE_TEXT, KIND)?;
-    assert_eq!(rt; unlike, None);
-    let unlike = wrong_sum_of(alloc, &pools, &[BAD_TEXT, LONG_TEXT], &TO_BAD_TEXT, KIND)?;
-    assert_eq!(rt; unlike, None);
+    assert_eq!(rt; wrong_sum_of(alloc, &pools, &TEXT_ROWS)?, None);
     Ok(())
 }
 
@@ -126,7 +129,7 @@ const TO_LIST: [WantRow; 18] = [
     (LIVE_TEXT, Want::List(&[ONE, NIL, LIVE_TEXT])),
     (LIST, Want::List(&[ONE, NIL, ONE, NIL])),
     (BAD_LIST, BAD),
-    (LIVE_LIST, Want::List(&[ONE, NIL, Holder::Int(3)])),
+    (LIVE_LIST, Want::List(&[ONE, NIL, THREE])),
     (
         VECTOR,
         Want::List(&[ONE, NIL, Holder::Int(4), Holder::Int(5)]),
@@ -158,75 +161,66 @@ const TO_LIVE_LIST: [WantRow; 18] = [
     (STALE, Want::List(&[THREE, STALE])),
 ];
 
+const LIST_ROWS: [LeftRow; 4] = [
+    (LIST, &TO_LIST, KIND),
+    (LIVE_LIST, &TO_LIVE_LIST, KIND),
+    (BAD_LIST, &[], BAD),
+    (LONG_LIST, &[], BAD),
+];
+
 #[test]
 fn a_value_is_added_to_a_list(rt: HostRuntime) -> Result<(), Fail> {
     let alloc = rt.alloc();
     let pools = pools(alloc)?;
-    let unlike = wrong_sum_of(alloc, &pools, &[LIST], &TO_LIST, KIND)?;
-    assert_eq!(rt; unlike, None);
-    let unlike = wrong_sum_of(alloc, &pools, &[LIVE_LIST], &TO_LIVE_LIST, KIND)?;
-    assert_eq!(rt; unlike, None);
-    let unlike = wrong_sum_of(alloc, &pools, &[BAD_LIST, LONG_LIST], &[], BAD)?;
-    assert_eq!(rt; unlike, None);
+    assert_eq!(rt; wrong_sum_of(alloc, &pools, &LIST_ROWS)?, None);
     Ok(())
 }
 
 /// What can be added to the integer 7.
 const TO_INTEGER: [WantRow; 1] = [(Holder::Int(7), Want::Value(Holder::Int(14)))];
 
-/// What nothing is added to.
-const OTHERS: [Holder; 10] = [
-    Holder::Nil,
-    Holder::True,
-    Holder::Enum(7),
-    Holder::Prop(7),
-    Holder::Shown(0),
-    Holder::Code(7),
-    Holder::Func(7),
-    VECTOR,
-    TABLE,
-    TADS,
+const OTHER_ROWS: [LeftRow; 12] = [
+    (Holder::Int(7), &TO_INTEGER, KIND),
+    (Holder::Nil, &[], KIND),
+    (Holder::True, &[], KIND),
+    (Holder::Enum(7), &[], KIND),
+    (Holder::Prop(7), &[], KIND),
+    (Holder::Shown(0), &[], KIND),
+    (Holder::Code(7), &[], KIND),
+    (Holder::Func(7), &[], KIND),
+    (VECTOR, &[], KIND),
+    (TABLE, &[], KIND),
+    (TADS, &[], KIND),
+    (STALE, &[], GONE),
 ];
 
 #[test]
 fn a_value_is_added_to_any_other(rt: HostRuntime) -> Result<(), Fail> {
     let alloc = rt.alloc();
     let pools = pools(alloc)?;
-    let unlike = wrong_sum_of(alloc, &pools, &[Holder::Int(7)], &TO_INTEGER, KIND)?;
-    assert_eq!(rt; unlike, None);
-    let unlike = wrong_sum_of(alloc, &pools, &OTHERS, &[], KIND)?;
-    assert_eq!(rt; unlike, None);
-    let unlike = wrong_sum_of(alloc, &pools, &[STALE], &[], GONE)?;
-    assert_eq!(rt; unlike, None);
+    assert_eq!(rt; wrong_sum_of(alloc, &pools, &OTHER_ROWS)?, None);
     Ok(())
 }
-
-const OVERFLOW: Want = Want::Fault(Fault::Overflow);
 
 /// Two values, and what is wanted of their sum.
 type Row = ((Holder, Holder), Want);
 
+const MOST: Holder = Holder::Int(i32::MAX);
+
+const LEAST: Holder = Holder::Int(i32::MIN);
+
 const END_ROWS: [Row; 12] = [
-    (
-        (Holder::Int(i32::MAX), Holder::Int(0)),
-        Want::Value(Holder::Int(i32::MAX)),
-    ),
-    ((Holder::Int(i32::MAX), Holder::Int(1)), OVERFLOW),
-    ((Holder::Int(i32::MIN), Holder::Int(-1)), OVERFLOW),
-    ((EMPTY_TEXT, Holder::Nil), Want::Text(b"")),
+    ((MOST, Holder::Int(0)), Want::Value(MOST)),
+    ((MOST, ONE), Want::Fault(Fault::Overflow)),
+    ((LEAST, Holder::Int(-1)), Want::Fault(Fault::Overflow)),
+    ((EMPTY_TEXT, NIL), Want::Text(b"")),
     ((EMPTY_TEXT, EMPTY_TEXT), Want::Text(b"")),
     ((EMPTY_TEXT, Holder::Int(0)), Want::Text(b"0")),
-    (
-        (EMPTY_TEXT, Holder::Int(i32::MIN)),
-        Want::Text(b"-2147483648"),
-    ),
-    (
-        (EMPTY_TEXT, Holder::Int(i32::MAX)),
-        Want::Text(b"2147483647"),
-    ),
+    ((EMPTY_TEXT, LEAST), Want::Text(b"-2147483648")),
+    ((EMPTY_TEXT, MOST), Want::Text(b"2147483647")),
     ((TEXT, LONG_TEXT), BAD),
     ((EMPTY_LIST, EMPTY_LIST), Want::List(&[])),
-    ((EMPTY_LIST, Holder::Nil), Want::List(&[Holder::Nil])),
+    ((EMPTY_LIST, NIL), Want::List(&[NIL])),
     ((LIST, LONG_LIST), BAD),
 ];
 
@@ -275,7 +269,7 @@ const LONG_BYTES: Holder = Holder::Obj(1);
 /// Its list of 65,533 elements.
 const LONG_ITEMS: Holder = Holder::Obj(2);
 
-/// The list of 65,534 elements that the last row but one made which made any.
+/// The list of 65,534 elements that a row of [`LONG_ROWS`] makes.
 const FULL_ITEMS: Holder = Holder::Obj(6);
 
 const TEXT_LONG: Result<usize, OpRefusal> = Err(OpRefusal::Fault(Fault::TextLong));
@@ -293,7 +287,7 @@ const LONG_ROWS: [LongRow; 10] = [
     (LONG_BYTES, LONG_BYTES, TEXT_LONG),
     (LONG_ITEMS, LIST, Ok(65_535)),
     (LIST, LONG_ITEMS, Ok(65_535)),
-    (LONG_ITEMS, Holder::Nil, Ok(65_534)),
+    (LONG_ITEMS, NIL, Ok(65_534)),
     (LONG_ITEMS, LONG_ITEMS, LIST_LONG),
     (FULL_ITEMS, ONE, Ok(65_535)),
     (FULL_ITEMS, LIST, LIST_LONG),
@@ -346,10 +340,7 @@ const PAGED_ROWS: [Row; 4] = [
     ((PAGED_TEXT, PAGED_TEXT), Want::Text(b"abcdeabcde")),
     ((LIVE_TEXT, PAGED_TEXT), Want::Text(b"cdabcde")),
     ((PAGED_LIST, PAGED_LIST), Want::List(&[ONE, TWO, ONE, TWO])),
-    (
-        (LIVE_LIST, PAGED_LIST),
-        Want::List(&[Holder::Int(3), ONE, TWO]),
-    ),
+    ((LIVE_LIST, PAGED_LIST), Want::List(&[THREE, ONE, TWO])),
 ];
 
 #[test]
