@@ -95,6 +95,20 @@ fn new_strings(rt: HostRuntime) -> Result<(), Fail> {
 
 const LIST_ROWS: [&[Holder]; 3] = [&[], &[STALE], &[Holder::Int(1), BAD_TEXT, Holder::Nil]];
 
+/// Whether a list of these elements is made.
+fn is_list(
+    store: &mut Store,
+    made: Result<NewObject, Fault>,
+    want: &[Holder],
+) -> Result<bool, StoreRefusal>
+    requires { IfOk made CanBeCreated }
+{
+    match create(store, made, false)? {
+        Ok(number) => Ok(matches!(store.items(number), Some(items) if items == want)),
+        Err(_) => Ok(false),
+    }
+}
+
 /// The first arguments of which no list of just them is made.
 fn first_unlike_list(
     alloc: Global,
@@ -103,8 +117,7 @@ fn first_unlike_list(
 ) -> Result<Option<&'static [Holder]>, Fail> {
     for args in rows {
         let made = new_list(alloc, args)?;
-        let number = create(store, made, false)??;
-        if !matches!(store.items(number), Some(items) if items == *args) {
+        if !is_list(store, made, args)? {
             return Ok(Some(*args));
         }
     }
@@ -319,12 +332,16 @@ fn is_full(store: &mut Store, made: Result<NewObject, Fault>) -> bool
     matches!(create(store, made, false), Err(StoreRefusal::Full))
 }
 
-/// Whether a store without a unit takes no string, no list and no vector that has some.
-fn takes_no_unit(alloc: Global, store: &mut Store, pools: &Pools) -> Result<bool, Fail> {
+/// Whether a store has no room for a string, for a list and for a vector that have some unit.
+fn have_no_room(alloc: Global, store: &mut Store, pools: &Pools) -> Result<[bool; 3], Fail> {
     let text = new_string(alloc, &[TEXT], store, pools)?;
     let list = new_list(alloc, &[NIL])?;
     let vector = new_vector(alloc, &[Holder::Int(0), ONE], store, pools)?;
-    Ok(is_full(store, text) && is_full(store, list) && is_full(store, vector))
+    Ok([
+        is_full(store, text),
+        is_full(store, list),
+        is_full(store, vector),
+    ])
 }
 
 #[test]
@@ -333,7 +350,7 @@ fn a_full_store_takes_no_object(rt: HostRuntime) -> Result<(), Fail> {
     let pools = pools(alloc)?;
     // Room for an object, but for no unit.
     let mut store = empty_store(alloc, 1, 0)?;
-    assert!(rt; takes_no_unit(alloc, &mut store, &pools)?);
+    assert_eq!(rt; have_no_room(alloc, &mut store, &pools)?, [true; 3]);
     assert_eq!(rt; create(&mut store, new_table(&[]), false)?, Ok(1));
     // And now for no object.
     assert!(rt; is_full(&mut store, new_table(&[])));

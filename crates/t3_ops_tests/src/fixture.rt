@@ -154,8 +154,9 @@ pub(crate) fn empty_store(alloc: Global, objects: u32, units: u32) -> Result<Sto
         records: 16,
         savepoints: 2,
     };
-    let none = Persistent::new(alloc);
-    Ok(Store::start(alloc, limits, none, Persistent::new(alloc), 1)?)
+    let first = Persistent::new(alloc);
+    let passing = Persistent::new(alloc);
+    Ok(Store::start(alloc, limits, first, passing, 1)?)
 }
 
 /// A store with the objects above, and ample room.
@@ -169,12 +170,17 @@ pub(crate) fn store(alloc: Global) -> Result<Store, Fail> {
     Ok(store)
 }
 
+/// No properties.
+fn no_props(alloc: Global) -> Props {
+    Props(Vec::new(alloc))
+}
+
 /// Adds a tads-object without a property.
 fn add_tads(alloc: Global, store: &mut Store) -> Result<(), Fail> {
     let tads = NewObject::Tads {
         supers: Numbers(Vec::new(alloc)),
         class: false,
-        props: Props(Vec::new(alloc)),
+        props: no_props(alloc),
     };
     let _tads = store.create(tads, false)?;
     Ok(())
