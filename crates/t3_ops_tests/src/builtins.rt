@@ -329,33 +329,37 @@ const BAD_FAULT: Result<Holder, OpRefusal> = Err(OpRefusal::Fault(Fault::BadCons
 
 /// Three values, the greatest of them, and the least.
 type BestRow = (
-    [Holder; 3],
+    &'static [Holder],
     Result<Holder, OpRefusal>,
     Result<Holder, OpRefusal>,
 );
 
 const BEST_ROWS: [BestRow; 18] = [
-    ([ONE, TWO, ONE], Ok(TWO), Ok(ONE)),
-    ([TWO, ONE, LEAST], Ok(TWO), Ok(LEAST)),
-    ([LEAST, LEAST, ONE], Ok(ONE), Ok(LEAST)),
-    ([TEXT, LIVE_TEXT, EMPTY_TEXT], Ok(LIVE_TEXT), Ok(EMPTY_TEXT)),
-    // The first of equals.
-    ([TEXT, SAME, SAME], Ok(TEXT), Ok(TEXT)),
-    ([SAME, TEXT, SAME], Ok(SAME), Ok(SAME)),
-    ([EMPTY_TEXT, SAME, TEXT], Ok(SAME), Ok(EMPTY_TEXT)),
-    ([LIVE_TEXT, SAME, TEXT], Ok(LIVE_TEXT), Ok(SAME)),
-    // All are looked at before two are compared, and read as they are.
-    ([ONE, TEXT, ONE], KIND_FAULT, KIND_FAULT),
-    ([TEXT, TEXT, ONE], KIND_FAULT, KIND_FAULT),
-    ([TEXT, ONE, STALE], GONE_FAULT, GONE_FAULT),
-    ([STALE, ONE, ONE], GONE_FAULT, GONE_FAULT),
-    ([BAD_TEXT, BAD_TEXT, ONE], KIND_FAULT, KIND_FAULT),
-    ([BAD_TEXT, STALE, ONE], GONE_FAULT, GONE_FAULT),
-    ([TEXT, BAD_TEXT, TEXT], BAD_FAULT, BAD_FAULT),
-    ([BAD_TEXT, TEXT, TEXT], BAD_FAULT, BAD_FAULT),
-    ([TEXT, TEXT, BAD_TEXT], BAD_FAULT, BAD_FAULT),
+    (&[ONE, TWO, ONE], Ok(TWO), Ok(ONE)),
+    (&[TWO, ONE, LEAST], Ok(TWO), Ok(LEAST)),
+    (&[LEAST, LEAST, ONE], Ok(ONE), Ok(LEAST)),
     (
-        [Holder::Nil, Holder::Nil, Holder::Nil],
+        &[TEXT, LIVE_TEXT, EMPTY_TEXT],
+        Ok(LIVE_TEXT),
+        Ok(EMPTY_TEXT),
+    ),
+    // The first of equals.
+    (&[TEXT, SAME, SAME], Ok(TEXT), Ok(TEXT)),
+    (&[SAME, TEXT, SAME], Ok(SAME), Ok(SAME)),
+    (&[EMPTY_TEXT, SAME, TEXT], Ok(SAME), Ok(EMPTY_TEXT)),
+    (&[LIVE_TEXT, SAME, TEXT], Ok(LIVE_TEXT), Ok(SAME)),
+    // All are looked at before two are compared, and read as they are.
+    (&[ONE, TEXT, ONE], KIND_FAULT, KIND_FAULT),
+    (&[TEXT, TEXT, ONE], KIND_FAULT, KIND_FAULT),
+    (&[TEXT, ONE, STALE], GONE_FAULT, GONE_FAULT),
+    (&[STALE, ONE, ONE], GONE_FAULT, GONE_FAULT),
+    (&[BAD_TEXT, BAD_TEXT, ONE], KIND_FAULT, KIND_FAULT),
+    (&[BAD_TEXT, STALE, ONE], GONE_FAULT, GONE_FAULT),
+    (&[TEXT, BAD_TEXT, TEXT], BAD_FAULT, BAD_FAULT),
+    (&[BAD_TEXT, TEXT, TEXT], BAD_FAULT, BAD_FAULT),
+    (&[TEXT, TEXT, BAD_TEXT], BAD_FAULT, BAD_FAULT),
+    (
+        &[Holder::Nil, Holder::Nil, Holder::Nil],
         KIND_FAULT,
         KIND_FAULT,
     ),
@@ -370,8 +374,8 @@ fn first_unlike_best(
 ) -> Result<Option<BestRow>, Fail> {
     for row in rows {
         let (args, max, min) = *row;
-        if call(alloc, MAX, &args, store, pools)? != max
-            || call(alloc, MIN, &args, store, pools)? != min
+        if call(alloc, MAX, args, store, pools)? != max
+            || call(alloc, MIN, args, store, pools)? != min
         {
             return Ok(Some(*row));
         }
