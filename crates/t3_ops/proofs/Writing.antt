@@ -1,7 +1,8 @@
 -- What elements that are written leave.
-use Rattle.std.proofs.Common.{◌≡◌, ℕ, suc, ◌+◌, ◌-◌, ◌<◌, ◌≤◌, Bool, true, false, cond, List, [], ◌∷◌, ◌++◌, length, length-append, Option, Some, None, refl, sym, ap, subst, ◌∙◌, arith}
+use Rattle.std.proofs.Common.{◌≡◌, ℕ, zero, suc, ◌+◌, ◌-◌, ◌<◌, ◌≤◌, Bool, true, false, cond, List, [], ◌∷◌, ◌++◌, length, length-append, take, Option, Some, None, refl, sym, ap, subst, ◌∙◌, arith}
 use Rattle.std.specs.Prelude.{IsSome, is_none, not, ◌&&◌, option_map, nat_lt}
 use Rattle.std.specs.List.{slice_set}
+use Rattle.std.proofs.lemmas.Bool.{false≢true}
 use Rattle.std.proofs.lemmas.Option.{same_Some, none-some}
 use Rattle.t3_holder.specs.declared.holder.Holder.{Holder}
 use Rattle.t3_holder.specs.declared.holder.Holder.TheVariants.{Nil}
@@ -11,7 +12,7 @@ use Rattle.t3_store.specs.Value.{Value, Tads, Text, Items, Vector, Table, with_c
 use Rattle.t3_store.specs.Store.{StoreValue, value_at, set_cell, written, is_full_with}
 use Rattle.t3_store.proofs.SetCells.{value_at-set_cell}
 use Rattle.t3_ops.specs.Inner.Outcomes.{IsWritten}
-use Rattle.t3_ops.specs.Elements.{IsVectorOf, after_writes, write_and_then, element_writes, nil_writes}
+use Rattle.t3_ops.specs.Elements.{IsVectorOf, IsFrontWritten, after_writes, write_and_then, element_writes, nil_writes}
 
 -- ---- the writes by which an element is set
 
@@ -41,6 +42,62 @@ after-none number cell value writes s is = ap (λ o. write_and_then o s (λ next
 pub after-end : (number : ℕ) (s : StoreValue) → after_writes number [] s ≡ (true, s)
 unfolding after_writes
 after-end number s = refl
+
+-- where there was room for each of the writes before, those after them go on from the store that they leave
+writes-then : (number : ℕ) (writes more : List (Cell × Holder)) (s t : StoreValue) → after_writes number writes s ≡ (true, t)
+    → after_writes number (writes ++ more) s ≡ after_writes number more t
+unfolding after_writes
+writes-then number [] more s t is = ap (λ (r : Bool × StoreValue). after_writes number more r.1) is
+writes-then number (write ∷ writes) more s t is =
+    let on : (next : StoreValue) → after_writes number writes next ≡ (true, t)
+    → after_writes number (writes ++ more) next ≡ after_writes number more t = λ next. writes-then number writes more next t in
+    let by : (o : Option StoreValue) → write_and_then o s (λ next. after_writes number writes next) ≡ (true, t)
+    → write_and_then o s (λ next. after_writes number (writes ++ more) next) ≡ after_writes number more t
+    = λ o. elim o as (λ o. write_and_then o s (λ next. after_writes number writes next) ≡ (true, t)
+    → write_and_then o s (λ next. after_writes number (writes ++ more) next) ≡ after_writes number more t) [
+      | None ↦ λ e. absurd (false≢true (ap (λ (r : Bool × StoreValue). r.0) e))
+      | Some next ↦ λ e. on next e
+    ] in by (written number write.0 write.1 s) is
+
+nils-more : (count first : ℕ) → nil_writes count first ++ (Elem (first + count), Nil) ∷ [] ≡ nil_writes (suc count) first
+nils-more zero first =
+    let same : first + 0 ≡ first = omega arith in
+    ap (λ n. (Elem n, Nil) ∷ []) same
+nils-more (suc count) first =
+    let same : first + suc count ≡ first + 1 + count = omega arith in
+    ap (λ n. (Elem first, Nil) ∷ nil_writes count (first + 1) ++ (Elem n, Nil) ∷ []) same
+    ∙ ap (λ w. (Elem first, Nil) ∷ w) (nils-more count (first + 1))
+
+-- one more element is nil
+pub nils-next : (number count first : ℕ) (s t next : StoreValue) → after_writes number (nil_writes count first) s ≡ (true, t)
+    → written number (Elem (first + count)) Nil t ≡ Some next → after_writes number (nil_writes (suc count) first) s ≡ (true, next)
+nils-next number count first s t next is some =
+    ap (λ (w : List (Cell × Holder)). after_writes number w s) (sym (nils-more count first))
+    ∙ writes-then number (nil_writes count first) ((Elem (first + count), Nil) ∷ []) s t is
+    ∙ after-some number (Elem (first + count)) Nil [] t next some ∙ after-end number next
+
+take-nils : (made count first : ℕ) (more : List (Cell × Holder)) → made ≤ count
+    → take made (nil_writes count first ++ more) ≡ nil_writes made first
+take-nils zero count first more within = refl
+take-nils (suc made) zero first more within = absurd (omega arith)
+take-nils (suc made) (suc count) first more within = ap (λ w. (Elem first, Nil) ∷ w) (take-nils made count (first + 1) more (omega arith))
+
+long-nils : (count first : ℕ) (write : Cell × Holder) → length (nil_writes count first ++ write ∷ []) ≡ count + 1
+long-nils zero first write = refl
+long-nils (suc count) first write =
+    let one : suc (count + 1) ≡ suc count + 1 = omega arith in
+    ap suc (long-nils count (first + 1) write) ∙ one
+
+-- elements that were set to nil are the first of the writes
+pub front-written : (number made count index : ℕ) (value : Holder) (s t : StoreValue) → made ≤ index - (count + 1)
+    → after_writes number (nil_writes made (count + 1)) s ≡ (true, t)
+    → IsFrontWritten number (element_writes count index value) s t
+unfolding element_writes
+front-written number made count index value s t within is =
+    let missing = index - (count + 1) in
+    let last : List (Cell × Holder) = (Elem index, value) ∷ [] in
+    let long = long-nils missing (count + 1) (Elem index, value) in
+    (made, omega arith, ap (λ (w : List (Cell × Holder)). after_writes number w s) (take-nils made missing (count + 1) last within) ∙ is)
 
 -- the last write, with what it answers
 pub last-write : (number : ℕ) (cell : Cell) (value : Holder) (s next : StoreValue) (all : Bool)

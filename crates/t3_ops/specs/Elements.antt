@@ -1,5 +1,5 @@
 -- Writes to one object, one after the other, and those by which an element of a vector is set.
-use Rattle.std.specs.Prelude.{◌≡◌, ℕ, zero, suc, ◌+◌, ◌-◌, Bool, true, false, List, [], ◌∷◌, ◌++◌, Option, Some, None}
+use Rattle.std.specs.Prelude.{◌≡◌, ◌<◌, ℕ, zero, suc, ◌+◌, ◌-◌, Bool, true, false, List, [], ◌∷◌, ◌++◌, length, take, Option, Some, None}
 use Rattle.std.specs.Option.{option_and_then}
 use Rattle.t3_holder.specs.declared.holder.Holder.{Holder}
 use Rattle.t3_holder.specs.declared.holder.Holder.TheVariants.{Nil}
@@ -22,6 +22,10 @@ unfoldable pub after_writes : (object : ℕ) → List (Cell × Holder) → Store
 after_writes object [] store = (true, store)
 after_writes object (write ∷ writes) store =
     write_and_then (written object write.0 write.1 store) store (λ next. after_writes object writes next)
+
+-- the first of those cells are set, and nothing else is done: not all of them, and there was room for each
+abbrev pub IsFrontWritten : (object : ℕ) → List (Cell × Holder) → (old new : StoreValue) → Type 0
+IsFrontWritten object writes old new = (count : ℕ) × (count < length writes) × (after_writes object (take count writes) old ≡ (true, new))
 
 -- elements are set to nil, of that count, from a position on, which counts from 1
 abbrev pub nil_writes : ℕ → ℕ → List (Cell × Holder)

@@ -1,8 +1,8 @@
 //! Setting elements of vectors.
-ghost use Rattle.std.specs.Prelude.{◌≡◌, ◌+◌, ◌<◌, ◌≤◌, ◌^◌, IfOk, IsOk, IsTrue};
+ghost use Rattle.std.specs.Prelude.{◌≡◌, ◌+◌, ◌<◌, ◌≤◌, ◌^◌, IfOk, IsOk, IsTrue, OnErr};
 ghost use Rattle.t3_store.specs.Value.{can_have_at};
 ghost use Rattle.t3_store.specs.Store.{value_at, written};
-ghost use Rattle.t3_ops.specs.Elements.{after_writes, element_writes, IsVectorOf};
+ghost use Rattle.t3_ops.specs.Elements.{after_writes, element_writes, IsFrontWritten, IsVectorOf};
 ghost use Rattle.t3_ops.specs.Inner.Outcomes.{IsWritten};
 
 use t3_holder::{Holder, NoMemory};
@@ -12,7 +12,8 @@ use t3_undo::Cell;
 /// Sets the element of an index, from 1 to 65,535, of the vector of a number, which has that
 /// length. Elements that are missing below it are written as nil first, in rising order. Answers
 /// whether the store had room for all of them; where it hadn't, those before are written. Want of
-/// memory may come after some of them, but not where the element is present.
+/// memory may come after the first of them, which then are written and nothing else, but not where
+/// the element is present.
 pub fn set_element(
     store: &mut Store,
     object: u32,
@@ -26,6 +27,8 @@ pub fn set_element(
     ensures made { IfOk result (λ all.
         after_writes object (element_writes length index value) store.old.store
         ≡ (all, store.new.store)) }
+    ensures front { OnErr result (IsFrontWritten object
+        (element_writes length index value) store.old.store store.new.store) }
     ensures present { index ≤ length → IsOk result }
     ensures writes { store.new.writes ≤ store.old.writes + 65535 }
     ensures savepoints { store.new.savepoints ≡ store.old.savepoints }
@@ -51,6 +54,7 @@ fn write(store: &mut Store, object: u32, index: u32, value: Holder) -> Result<bo
     requires few { store.old.writes < 2 ^ 63 }
     ensures written { IfOk result (λ all. IsWritten store.old.store
         (written object (Cell.Elem index) value store.old.store) all store.new.store) }
+    ensures err { OnErr result (store.new.store ≡ store.old.store) }
     ensures writes { store.new.writes ≤ store.old.writes + 1 }
     ensures savepoints { store.new.savepoints ≡ store.old.savepoints }
 {

@@ -1,13 +1,14 @@
-use Rattle.std.proofs.Common.{◌≡◌, ◌≤◌, ◌+◌, ◌-◌, [], Bool, true, false, List, Some, sym, ap, subst, ◌∙◌, arith}
+use Rattle.std.proofs.Common.{◌≡◌, suc, ◌≤◌, ◌+◌, ◌-◌, [], Bool, true, false, List, Some, refl, sym, ap, subst, ◌∙◌, arith}
+use Rattle.std.proofs.lemmas.Result.{on_err_weaker}
 use Rattle.t3_holder.specs.declared.holder.Holder.{Holder}
 use Rattle.t3_holder.specs.declared.holder.Holder.TheVariants.{Nil}
 use Rattle.t3_undo.specs.declared.cell.Cell.{Cell}
 use Rattle.t3_undo.specs.declared.cell.Cell.TheVariants.{Elem}
 use Rattle.t3_store.specs.Store.{StoreValue, CountedStore, value_at, set_cell, written}
-use Rattle.t3_ops.specs.Elements.{after_writes, element_writes}
+use Rattle.t3_ops.specs.Elements.{after_writes, element_writes, nil_writes, IsFrontWritten}
 use Rattle.t3_ops.specs.Inner.Outcomes.{IsWritten}
-use Rattle.t3_ops.proofs.Appending.{if_ok, vector-present}
-use Rattle.t3_ops.proofs.Writing.{writes-first, writes-last, after-some, after-none, after-end, last-write, written-present, vector-next}
+use Rattle.t3_ops.proofs.Appending.{if_ok, on_err, vector-present}
+use Rattle.t3_ops.proofs.Writing.{writes-first, writes-last, after-some, after-none, after-end, last-write, nils-next, front-written, written-present, vector-next}
 use Rattle.t3_ops.proofs.elements.set_element.Goals as goal
 
 pub returns-then-index-length-clause-made : goal.returns-then-index-length-clause-made
@@ -26,6 +27,23 @@ returns-then-index-length-clause-made c =
     ∙ after-end n next
     ∙ ap (λ (t : StoreValue). (true, t)) (sym stored)
 
+pub loop-count-init : goal.loop-count-init
+loop-count-init c =
+    let n = c.args.object in
+    let s = c.args.store.now.store in
+    let long = c.args.length in
+    let behind = c.if-index-length.false in
+    let none : long - long ≡ 0 = omega arith in
+    record {
+      told = refl;
+      nils = ap (λ k. after_writes n (nil_writes k (long + 1)) s) none ∙ after-end n s;
+      vector = c.requires.vector;
+      writes = omega arith;
+      savepoints = refl;
+      from = omega arith;
+      to = omega arith;
+    }
+
 pub loop-count-preserved : goal.loop-count-preserved
 loop-count-preserved c =
     let n = c.args.object in
@@ -41,10 +59,16 @@ loop-count-preserved c =
     let same = c.loop-count.invariant.savepoints in
     let from = c.loop-count.invariant.from in
     let to = c.loop-count.invariant.to in
+    let long = c.args.length in
+    let more : count + 1 - long ≡ suc (count - long) = omega arith in
+    let at : count + 1 ≡ long + 1 + (count - long) = omega arith in
+    let some-at = subst (λ k. written n (Elem k) Nil s ≡ Some next) at some in
     record {
       told = sym (after-some n (Elem (count + 1)) Nil (element_writes (count + 1) c.args.index c.args.value) s next some)
           ∙ ap (λ (w : List (Cell × Holder)). after_writes n w s) (sym (writes-first count c.args.index c.args.value below))
           ∙ c.loop-count.invariant.told;
+      nils = ap (λ k. after_writes n (nil_writes k (long + 1)) c.args.store.now.store) more
+          ∙ nils-next n (count - long) (long + 1) c.args.store.now.store s next c.loop-count.invariant.nils some-at;
       vector = vector-next s next n count Nil c.loop-count.invariant.vector some;
       writes = omega arith;
       savepoints = saved ∙ same;
@@ -78,3 +102,28 @@ returns-clause-made c =
     (writes-last c.loop-count.count c.args.index c.args.value c.loop-count-test.false)
     ∙ last-write n (Elem c.args.index) c.args.value s next all is)
     c.write-2.ensures.written
+
+pub returns-clause-front : goal.returns-clause-front
+returns-clause-front c =
+    let n = c.args.object in
+    let s = c.args.store.now.store in
+    let made = c.loop-count.count - c.args.length in
+    let writes = element_writes c.args.length c.args.index c.args.value in
+    let from = c.loop-count.invariant.from in
+    let to = c.loop-count.invariant.to in
+    let past = c.loop-count-test.false in
+    let within : made ≤ c.args.index - (c.args.length + 1) = omega arith in
+    let front = front-written n made c.args.length c.args.index c.args.value s c.loop-count.store.store within c.loop-count.invariant.nils in
+    on_err_weaker c.write-2.result (λ same. subst (λ t. IsFrontWritten n writes s t) (sym same) front) c.write-2.ensures.err
+
+pub returns-in_err-write-clause-front : goal.returns-in_err-write-clause-front
+returns-in_err-write-clause-front c =
+    let n = c.args.object in
+    let s = c.args.store.now.store in
+    let made = c.loop-count.count - c.args.length in
+    let writes = element_writes c.args.length c.args.index c.args.value in
+    let from = c.loop-count.invariant.from in
+    let to = c.loop-count.invariant.to in
+    let within : made ≤ c.args.index - (c.args.length + 1) = omega arith in
+    let front = front-written n made c.args.length c.args.index c.args.value s c.loop-count.store.store within c.loop-count.invariant.nils in
+    on_err c.from_residual.result (subst (λ t. IsFrontWritten n writes s t) (sym c.in_err-write.ensures.err) front)
