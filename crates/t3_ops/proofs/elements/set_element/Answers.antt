@@ -113,7 +113,8 @@ returns-clause-front c =
     let to = c.loop-count.invariant.to in
     let past = c.loop-count-test.false in
     let within : made ≤ c.args.index - (c.args.length + 1) = omega arith in
-    let front = front-written n made c.args.length c.args.index c.args.value s c.loop-count.store.store within c.loop-count.invariant.nils in
+    let front = front-written n made c.args.length c.args.index c.args.value s c.loop-count.store.store within
+    c.loop-count.invariant.nils in
     on_err_weaker c.write-2.result (λ same. subst (λ t. IsFrontWritten n writes s t) (sym same) front) c.write-2.ensures.err
 
 pub returns-in_err-write-clause-front : goal.returns-in_err-write-clause-front
@@ -125,5 +126,6 @@ returns-in_err-write-clause-front c =
     let from = c.loop-count.invariant.from in
     let to = c.loop-count.invariant.to in
     let within : made ≤ c.args.index - (c.args.length + 1) = omega arith in
-    let front = front-written n made c.args.length c.args.index c.args.value s c.loop-count.store.store within c.loop-count.invariant.nils in
+    let front = front-written n made c.args.length c.args.index c.args.value s c.loop-count.store.store within
+    c.loop-count.invariant.nils in
     on_err c.from_residual.result (subst (λ t. IsFrontWritten n writes s t) (sym c.in_err-write.ensures.err) front)
