@@ -1,15 +1,16 @@
 -- Values on one stack, from the topmost on, as those of frames.
-use Rattle.std.proofs.Common.{◌≡◌, ℕ, zero, suc, ◌+◌, ◌-◌, ◌<◌, ◌≤◌, min, List, [], ◌∷◌, ◌++◌, reverse, length, take, drop, set, replicate, get_or, append_assoc, Option, Some, None, IsSome, refl, sym, ap, ◌∙◌, arith}
+use Rattle.std.proofs.Common.{◌≡◌, ℕ, zero, suc, ◌+◌, ◌-◌, ◌<◌, ◌≤◌, min, List, [], ◌∷◌, ◌++◌, reverse, length, take, drop, set, replicate, get_or, append_assoc, append-nil, Option, Some, None, IsSome, refl, sym, ap, ◌∙◌, arith}
 use Rattle.std.specs.Option.{option_to_list}
-use Rattle.std.proofs.lemmas.List.{reverse-append, length-reverse, length-take, length-drop, length-replicate, set_split, set-get_or, take-append-drop, take-set-le, drop-set-lt, drop-set-add, take_all, drop_all, drop_at, get_or-reverse, get_or-take, get_or-drop}
+use Rattle.std.proofs.lemmas.List.{reverse-append, length-append, length-reverse, length-take, length-drop, length-replicate, set_split, set-get_or, take-append-drop, take-set-le, drop-set-lt, drop-set-add, take_all, drop_all, drop_at, get_or-reverse, get_or-take, get_or-drop}
 use Rattle.std.proofs.lemmas.Option.{slice_get-get_or}
 use Rattle.std.specs.List.{slice_get}
-use Rattle.std.proofs.Math.Seq.{take-set-lt, take-append_seam, set-append_seam}
+use Rattle.std.proofs.Math.Seq.{take-set-lt, take-append_seam, take-append-add, drop-append-add, set-append_seam}
+use borrow.Rule.Slice.PartMut.{put_mid}
 use Rattle.t3_holder.specs.declared.holder.Holder.{Holder}
 use Rattle.t3_holder.specs.declared.holder.Holder.TheVariants.{Nil}
 use Rattle.t3_frames.specs.declared.mark.FrameMark.{FrameMark}
 use Rattle.t3_frames.specs.declared.mark.OlderMark.{OlderMark}
-use Rattle.t3_frames.specs.Frame.{FramesValue, values_of, all_values, values, of_newest, with_operands, with_local, with_argument, begun, Pops, HasTop}
+use Rattle.t3_frames.specs.Frame.{FramesValue, values_of, all_values, values, of_newest, with_operands, turned, with_local, with_argument, begun, Pops, HasTop}
 use Rattle.t3_frames.specs.Inner.Marks.{count_of, counts, frame_of, below, older_of, frames_of}
 
 -- ---- a stack turned over
@@ -250,6 +251,57 @@ drops tops o left mark older count is =
           };
       older = older_of (drop mark.arguments (drop mark.locals (inner i))) older;
     }
+
+-- ---- turning operands over
+
+-- where the values behind a place are turned over, those that are topmost are
+reverse-turned : (xs ys : List Holder) (i k m : ℕ) → i + k ≡ length xs → m ≡ k → ys ≡ reverse (take m (drop i xs))
+    → reverse (put_mid i m xs ys) ≡ turned k (reverse xs)
+reverse-turned xs ys i k m sum same is =
+    let long = length-drop i xs in
+    let all : take m (drop i xs) ≡ drop i xs = take_all m (drop i xs) (omega (arith, sum, same, long)) in
+    let none : drop m (drop i xs) ≡ [] = drop_all m (drop i xs) (omega (arith, sum, same, long)) in
+    let mid : ys ++ drop m (drop i xs) ≡ take k (reverse xs) =
+    (λ j. (is ∙ ap reverse all) j ++ none j) ∙ append-nil (reverse (drop i xs)) ∙ reverse-drop xs i k sum in
+    reverse-append (take i xs) (ys ++ drop m (drop i xs)) ∙ (λ j. reverse (mid j) ++ reverse-take xs i k sum j)
+
+-- and there are as many
+pub length-turned : (xs ys : List Holder) (i k m : ℕ) → i + k ≡ length xs → m ≡ k → ys ≡ reverse (take m (drop i xs))
+    → length (put_mid i m xs ys) ≡ length xs
+length-turned xs ys i k m sum same is =
+    let long = length-drop i xs in
+    let all = length-append (take i xs) (ys ++ drop m (drop i xs)) in
+    let behind = length-append ys (drop m (drop i xs)) in
+    let mine = ap length is ∙ length-reverse (take m (drop i xs)) in
+    omega (arith, sum, same, long, all, behind, mine, length-take i xs, length-take m (drop i xs), length-drop m (drop i xs))
+
+pub turns : (xs ys : List Holder) (i k m o count : ℕ) (mark : FrameMark) (older : List OlderMark) → i + k ≡ length xs → m ≡ k
+    → ys ≡ reverse (take m (drop i xs)) → k ≡ min count o → o ≤ length xs
+    → frames_of (reverse (put_mid i m xs ys)) o mark older
+    ≡ of_newest (with_operands (turned count (take o (reverse xs)))) (frames_of (reverse xs) o mark older)
+turns xs ys i k m o count mark older sum same is few le =
+    let tops = reverse xs in
+    let front = reverse (take k tops) in
+    let long : length front ≡ k = length-reverse (take k tops) ∙ length-take k tops ∙ omega (arith, sum, length-reverse xs) in
+    let split : o ≡ length front + (o - k) = omega (arith, long, few) in
+    let shown : take k tops ≡ take count (take o tops) = ap (λ n. take n tops) few ∙ takes tops count o in
+    let rest : take (o - k) (drop k tops) ≡ drop count (take o tops) =
+    sym (drop-take k o tops) ∙ ap (λ n. drop n (take o tops)) few ∙ drop-min count o (take o tops) (omega (arith, length-take o tops)) in
+    let operands : take o (turned k tops) ≡ turned count (take o tops) =
+    ap (λ n. take n (turned k tops)) split ∙ take-append-add front (drop k tops) (o - k) ∙ (λ j. reverse (shown j) ++ rest j) in
+    let behind : drop o (turned k tops) ≡ drop o tops =
+    ap (λ n. drop n (turned k tops)) split ∙ drop-append-add front (drop k tops) (o - k) ∙ drop-drop (o - k) k tops
+    ∙ ap (λ n. drop n tops) (omega (arith, few)) in
+    (λ j. frames_of (reverse-turned xs ys i k m sum same is j) o mark older)
+    ∙ (λ j. record {
+      newest =
+          record (frame_of tops o mark) {
+            operands = operands j;
+            locals = take mark.locals (behind j);
+            arguments = take mark.arguments (drop mark.locals (behind j));
+          };
+      older = older_of (drop mark.arguments (drop mark.locals (behind j))) older;
+    })
 
 -- ---- the first frame
 

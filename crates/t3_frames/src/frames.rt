@@ -2,7 +2,7 @@
 ghost use Rattle.std.specs.Prelude.{◌≡◌, ◌+◌, ◌≤◌, ◌<◌, ◌^◌, [], ◌∷◌, length, reverse, take, drop, IfOk, IsSome, nat_le};
 ghost use Rattle.std.specs.List.{slice_get};
 ghost use Rattle.t3_holder.specs.declared.holder.Holder.TheVariants.{Nil};
-ghost use Rattle.t3_frames.specs.Frame.{values, value_limit, room, of_newest, begun, goes_to, carries_out, with_operands, with_local, with_argument, Pops, HasTop};
+ghost use Rattle.t3_frames.specs.Frame.{values, value_limit, room, of_newest, begun, goes_to, carries_out, with_operands, turned, with_local, with_argument, Pops, PopsTwo, HasTop};
 
 use crate::mark::{FrameMark, OlderMark};
 use crate::stack::push_nils;
@@ -118,6 +118,21 @@ impl Frames {
         self.values.pop()
     }
 
+    /// Takes the two topmost operands off, and gives the topmost first. `None` exactly where there are fewer, and
+    /// then all stay.
+    #[inline(always)]
+    pub fn pop_two(&mut self) -> Option<(Holder, Holder)>
+        ensures pops { PopsTwo self.old result self.new }
+        ensures room { IsSome result → values self.new + 1 < room }
+    {
+        if !self.has_operands(2) {
+            return None;
+        }
+        let upper = self.pop()?;
+        let lower = self.pop()?;
+        Some((upper, lower))
+    }
+
     /// Puts an operand on top, where there is room for a value more.
     #[inline(always)]
     pub fn push(&mut self, value: Holder)
@@ -135,8 +150,18 @@ impl Frames {
         self.values.truncate(self.values.len() - dropped);
     }
 
+    /// Turns the topmost operands over, so many, or as many as there are: the topmost goes below the others. It
+    /// takes no memory.
+    pub fn turn_operands(&mut self, count: u16)
+        ensures { self.new ≡ of_newest (with_operands (turned count self.old.newest.operands)) self.old }
+    {
+        let count = usize::from(count).min(self.values.len() - self.base);
+        let at = self.values.len() - count;
+        self.values[at..].reverse();
+    }
+
     /// The topmost operands, so many, or as many as there are. The topmost stands last.
-    pub fn topmost(&self, count: u8) -> &[Holder]
+    pub fn topmost(&self, count: u16) -> &[Holder]
         ensures { reverse result.now ≡ take count self.now.newest.operands }
     {
         let shown = usize::from(count).min(self.values.len() - self.base);

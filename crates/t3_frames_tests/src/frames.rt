@@ -11,11 +11,32 @@ struct Plain {
     operands: Vec<Holder>,
 }
 
+impl Plain {
+    fn pop_two(&mut self) -> Option<(Holder, Holder)> {
+        if self.operands.len() < 2 {
+            return None;
+        }
+        let upper = self.operands.pop()?;
+        let lower = self.operands.pop()?;
+        Some((upper, lower))
+    }
+
+    fn turn_operands(&mut self, count: usize) {
+        let at = self.operands.len().saturating_sub(count);
+        self.operands[at..].reverse();
+    }
+
+    fn topmost(&self, count: usize) -> &[Holder] {
+        let at = self.operands.len().saturating_sub(count);
+        &self.operands[at..]
+    }
+}
+
 /// Does to both what a number says, and tells whether they answer the same.
 fn does_the_same(frames: &mut Frames, plain: &mut Plain, number: u32) -> Result<bool, Fail> {
     let n = (number >> 8 & 3) as u16;
     let value = Holder::Int((number >> 12).cast_signed());
-    let same = match number % 8 {
+    let same = match number % 10 {
         0..=3 => {
             if !frames.is_full() {
                 frames.push(value);
@@ -34,7 +55,13 @@ fn does_the_same(frames: &mut Frames, plain: &mut Plain, number: u32) -> Result<
             }
             frames.top() == plain.operands.last().copied()
         }
-        _ => frames.local(n) == plain.locals.get(usize::from(n)).copied(),
+        7 => frames.local(n) == plain.locals.get(usize::from(n)).copied(),
+        8 => frames.pop_two() == plain.pop_two(),
+        _ => {
+            frames.turn_operands(n);
+            plain.turn_operands(usize::from(n));
+            frames.topmost(n) == plain.topmost(usize::from(n))
+        }
     };
     Ok(same)
 }
@@ -70,6 +97,24 @@ fn holds_as_many_values_as_it_may(rt: HostRuntime) -> Result<(), Fail> {
     frames.drop_operands(9);
     assert_eq!(rt; frames.pop(), None);
     assert_eq!(rt; frames.argument(0), None);
+    Ok(())
+}
+
+#[test]
+fn turns_operands_over(rt: HostRuntime) -> Result<(), Fail> {
+    let mut frames = Frames::new(rt.alloc())?;
+    frames.begin(0, 1);
+    for number in 1..4 {
+        frames.push(Holder::Int(number));
+    }
+    frames.turn_operands(2);
+    assert_eq!(rt; frames.pop_two(), Some((Holder::Int(2), Holder::Int(3))));
+    frames.push(Holder::Nil);
+    // As many as there are.
+    frames.turn_operands(9);
+    assert_eq!(rt; frames.pop(), Some(Holder::Int(1)));
+    assert_eq!(rt; frames.pop_two(), None);
+    assert_eq!(rt; frames.pop(), Some(Holder::Nil));
     Ok(())
 }
 
