@@ -3,6 +3,7 @@ pub mod Contents
 pub mod Fronts
 pub mod Walking
 pub mod Appending
+pub mod SaidTexts
 pub mod Containing
 pub mod TextForms
 pub mod Bests

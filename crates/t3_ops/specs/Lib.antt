@@ -12,4 +12,5 @@ pub mod Keys
 pub mod Indexing
 pub mod Elements
 pub mod Creating
+pub mod Saying
 pub mod Inner

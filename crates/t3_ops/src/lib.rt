@@ -26,6 +26,7 @@ mod indexing;
 mod keys;
 mod ordering;
 mod outcome;
+mod saying;
 mod truth_value;
 mod values;
 
@@ -40,5 +41,6 @@ pub use indexing::{index, list_with_element, vector_index};
 pub use keys::key;
 pub use ordering::{kind_fault, order};
 pub use outcome::OpRefusal;
+pub use saying::said_text;
 pub use truth_value::truth;
 pub use values::same_holder;

@@ -19,7 +19,7 @@ CanBeMade (outcomes.Value value) = Unit {0}
 CanBeMade (outcomes.Fault fault) = Unit {0}
 
 -- the items were appended, and the answer is true; or they can't be read, and it is false
-abbrev pub Appends : List Holder → Option (List Holder) → Bool → List Holder → Type 0
+abbrev pub Appends : {A : Type 0} → List A → Option (List A) → Bool → List A → Type 0
 Appends old None read new = read ≡ false
 Appends old (Some items) read new = (read ≡ true) × (new ≡ old ++ items)
 
