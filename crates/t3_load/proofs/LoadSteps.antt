@@ -1,7 +1,6 @@
 -- How the rules that are kept one after the other make a program of an image, or its refusal.
-use Rattle.std.proofs.Common.{◌≡◌, ℕ, zero, suc, ◌<◌, ◌^◌, ◌⊎◌, ◌||◌, Bool, true, false, List, [], ◌∷◌, Option, Some, Result, Ok, Err, nat_eq, nat_lt, length, map, refl, sym, ap, ◌∙◌, subst, inl, inr, arith}
-use Rattle.std.specs.Prelude.{IsTrue, None, Contains, option_map}
-use Rattle.std.proofs.lemmas.List.{length-map}
+use Rattle.std.proofs.Common.{◌≡◌, ℕ, zero, suc, ◌<◌, ◌^◌, ◌⊎◌, ◌||◌, Bool, true, false, List, [], ◌∷◌, Option, Result, Ok, Err, nat_eq, refl, sym, ap, ◌∙◌, subst, inl, inr, arith}
+use Rattle.std.specs.Prelude.{IsTrue, None, Contains}
 use Rattle.std.specs.Result.{IsErrAnd}
 use Rattle.std.specs.List.{IsDistinct, list_any}
 use Rattle.std.proofs.lemmas.List.Elements.{All-map}
@@ -15,14 +14,10 @@ use Rattle.t3_load.specs.declared.objects.ImageObject.{ImageObject}
 use Rattle.t3_load.specs.declared.kinds.MetaKind.{MetaKind}
 use Rattle.t3_load.specs.declared.refusal.LoadRefusal.{LoadRefusal}
 use Rattle.t3_load.specs.declared.refusal.LoadRefusal.TheVariants.{NoMemory}
-use Rattle.t3_blocks.specs.declared.items.Meta.{Meta}
-use Rattle.t3_blocks.specs.declared.items.PropEntry.{PropEntry}
 use Rattle.t3_pools.specs.Pool.{pool_in}
 use Rattle.t3_load.specs.declared.basis.Basis.{Basis}
-use Rattle.t3_load.specs.declared.kinds.KindEntry.{KindEntry}
 use Rattle.t3_load.specs.Entries.{entries}
-use Rattle.t3_load.specs.Kinds.{kind_named, kind_entry_of, numbers_of}
-use Rattle.t3_load.specs.Unbuilt.{has_methods, has_contents, is_later_method, is_unbuilt}
+use Rattle.t3_load.specs.Unbuilt.{is_later_method, is_unbuilt}
 use Rattle.t3_load.specs.Inner.Deciding.{IsBasis}
 use Rattle.t3_load.specs.Names.{metas_in}
 use Rattle.t3_load.specs.Statics.{StaticValue, statics_in, kind_at, AreObjectsOf}
@@ -62,52 +57,19 @@ room_kept blocks objects limits are fits =
     of_these blocks objects (λ os. IsTrue (is_past limits os)) are (subst (λ w. Breaks blocks limits w) of broken) in absurd cc)
 
 -- rule 14 is kept
-pub built_kept : (blocks : List PlacedBlock) (objects : List ImageObject) (limits : StoreLimits) → AreObjectsIn blocks objects
-    → is_unbuilt blocks objects ≡ false → KeepsRules blocks limits 14 15
-built_kept blocks objects limits are built =
+pub built_kept : (blocks : List PlacedBlock) (limits : StoreLimits) → is_unbuilt blocks ≡ false → KeepsRules blocks limits 14 15
+built_kept blocks limits built =
     kept_one blocks limits 14 (λ why of broken.
-    let unbuilt : IsTrue (is_unbuilt blocks objects) =
-    of_these blocks objects (λ os. IsTrue (is_unbuilt blocks os)) are (subst (λ w. Breaks blocks limits w) of broken) in absurd cc)
+    let unbuilt : IsTrue (is_unbuilt blocks) = subst (λ w. Breaks blocks limits w) of broken in absurd cc)
 
--- a metaclass with methods is one with property numbers
-same_methods : (meta : Meta) (entry : KindEntry) → kind_entry_of meta ≡ Some entry → has_methods meta ≡ nat_lt 0 (length entry.props)
-same_methods meta entry is = by_kind (kind_named meta.name) refl
-  where
-    entry_by : MetaKind → KindEntry
-    entry_by kind = record { kind = kind; props = numbers_of meta.props }
-
-    by_kind : (kind : Option MetaKind) → kind_named meta.name ≡ kind → has_methods meta ≡ nat_lt 0 (length entry.props)
-    by_kind None none =
-        let clash : None ≡ Some entry = sym (ap (option_map entry_by) none) ∙ is in
-        absurd cc
-    by_kind (Some kind) named =
-        let same : Some (entry_by kind) ≡ Some entry = sym (ap (option_map entry_by) named) ∙ is in
-        let one : entry_by kind ≡ entry = cc in
-        let props : numbers_of meta.props ≡ entry.props = ap (λ (e : KindEntry). e.props) one in
-        let long : length (numbers_of meta.props) ≡ length meta.props = length-map meta.props (λ (p : PropEntry). p.number) in
-        ap (nat_lt 0) (sym long ∙ ap (λ (ns : List ℕ). length ns) props)
-
-any_methods : (metas : List Meta) (kinds : List KindEntry) → map kind_entry_of metas ≡ map Some kinds
-    → list_any has_methods metas ≡ list_any (λ kind. nat_lt 0 (length kind.props)) kinds
-any_methods [] [] are = refl
-any_methods [] (kind ∷ kinds) are = absurd cc
-any_methods (meta ∷ metas) [] are = absurd cc
-any_methods (meta ∷ metas) (kind ∷ kinds) are =
-    let first : kind_entry_of meta ≡ Some kind = cc in
-    let rest : map kind_entry_of metas ≡ map Some kinds = cc in
-    λ i. same_methods meta kind first i || any_methods metas kinds rest i
-
--- what is asked of the objects, the metaclasses and the entry method that were found is asked of the image
-pub same_unbuilt : (blocks : List PlacedBlock) (basis : Basis) (objects : List ImageObject) → IsBasis blocks basis
-    → is_unbuilt blocks objects ≡ (list_any (λ object. has_contents object.object) objects
-    || list_any (λ kind. nat_lt 0 (length kind.props)) basis.kinds || is_later_method basis.pools.code basis.entry)
-same_unbuilt blocks basis objects is =
-    let methods = any_methods (metas_in blocks) basis.kinds is.kinds in
+-- what is asked of the entry method that was found is asked of the image
+pub same_unbuilt : (blocks : List PlacedBlock) (basis : Basis) → IsBasis blocks basis
+    → is_unbuilt blocks ≡ is_later_method basis.pools.code basis.entry
+same_unbuilt blocks basis is =
     let entry : list_any (λ e. is_later_method (pool_in 1 blocks) e.code) (entries blocks) ≡ is_later_method (pool_in 1 blocks) basis.entry =
     ap (list_any (λ e. is_later_method (pool_in 1 blocks) e.code)) is.entry ∙ or_false _ in
     let code : pool_in 1 blocks ≡ basis.pools.code = sym (ap (λ p. p.code) is.pools) in
-    let method = entry ∙ ap (λ c. is_later_method c basis.entry) code in
-    λ i. list_any (λ object. has_contents object.object) objects || methods i || method i
+    entry ∙ ap (λ c. is_later_method c basis.entry) code
   where
     or_false : (b : Bool) → (b || false) ≡ b
     or_false true = refl

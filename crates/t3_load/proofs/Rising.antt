@@ -1,5 +1,5 @@
 -- Numbers that rise are distinct, and a look at each two neighbours tells whether they rise.
-use Rattle.std.proofs.Common.{◌≡◌, ℕ, suc, ◌+◌, ◌<◌, Bool, true, false, List, [], ◌∷◌, length, map, get_or, nat_eq, nat_lt, IsTrue, ◌↔◌, ltb-true, ltb-false, add-one, refl, sym, ap, arith}
+use Rattle.std.proofs.Common.{◌≡◌, ℕ, suc, ◌+◌, ◌<◌, Bool, true, false, List, [], ◌∷◌, length, map, get_or, nat_eq, nat_lt, IsTrue, ◌↔◌, ltb-true, ltb-false, add-one, refl, sym, arith}
 use native.Mathlib.Numerals.{unary_clauses}
 use Rattle.std.specs.List.{IsDistinct, AllByRecursion, IsAllAdjacentAnswer}
 use Rattle.std.specs.List.Sorted.{IsStrictlyIncreasing}

@@ -35,7 +35,7 @@ use Rattle.t3_load.proofs.FirstSymbols.{raw_of-firsts}
 use Rattle.t3_pools.proofs.Firsts.{none_first}
 use Rattle.t3_load.proofs.Firsts.{not_twice}
 use Rattle.t3_load.proofs.Halving.{fresh, no_halves, transient_more, persistent_more}
-use Rattle.t3_load.proofs.LoadSteps.{room_kept}
+use Rattle.t3_load.proofs.LoadSteps.{room_kept, built_kept}
 use Rattle.t3_load.proofs.NameRules.{kinds_kept, sets_kept}
 use Rattle.t3_load.proofs.ObjectRules.{numbers_kept, distinct_kept, objects_kept, same_numbers}
 use Rattle.t3_load.proofs.RuleSteps.{kept_one, kept_both, kept_none}
@@ -161,17 +161,11 @@ module _ (blocks : List PlacedBlock) (fingerprint : List ℕ) (limits : StoreLim
   further from until kept more = kept_both blocks limits 1 from until kept more
 
   rule_14 : (parts : Parts blocks) → KeepsRules blocks limits 1 14 → Answer blocks fingerprint limits
-  rule_14 parts kept = by_test (is_unbuilt blocks parts.objects) refl
+  rule_14 parts kept = by_test (is_unbuilt blocks) refl
     where
-      by_test : (b : Bool) → is_unbuilt blocks parts.objects ≡ b → Answer blocks fingerprint limits
-      by_test true e =
-          refused blocks fingerprint limits Unbuilt (λ same. absurd cc)
-          (record { objects = parts.objects; are = parts.are; holds = e }) kept
-      by_test false e =
-          loaded blocks fingerprint limits parts (further 14 15 kept (kept_one blocks limits 14 (λ why of broken.
-          let unbuilt : is_unbuilt blocks parts.objects ≡ true =
-          of_these blocks parts.objects (λ os. is_unbuilt blocks os ≡ true) parts.are (subst (λ w. Breaks blocks limits w) of broken) in
-          absurd cc)))
+      by_test : (b : Bool) → is_unbuilt blocks ≡ b → Answer blocks fingerprint limits
+      by_test true e = refused blocks fingerprint limits Unbuilt (λ same. absurd cc) e kept
+      by_test false e = loaded blocks fingerprint limits parts (further 14 15 kept (built_kept blocks limits e))
 
   rule_13 : (parts : Parts blocks) → KeepsRules blocks limits 1 13 → Answer blocks fingerprint limits
   rule_13 parts kept = by_test (is_past limits parts.objects) refl

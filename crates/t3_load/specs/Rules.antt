@@ -1,6 +1,6 @@
 -- The rules that an image keeps of which a program can be made, in their order.
 use Rattle.std.specs.Prelude.{◌≡◌, ◌≢◌, ℕ, ◌<◌, ◌≤◌, ◌^◌, ◌&&◌, Bool, not, nat_lt, IsTrue, List, [], ◌∷◌, ◌++◌, Option, Some, length, option_map, nat_eq, Contains}
-use Rattle.std.specs.List.{find, list_any, AllByRecursion, IsDistinct}
+use Rattle.std.specs.List.{find, list_any, IsDistinct}
 use Rattle.t3_image_read.specs.declared.image.PlacedBlock.{PlacedBlock}
 use Rattle.t3_pools.specs.Building.{Refuses as PoolsRefuse}
 use Rattle.t3_pools.specs.First.{IsFirst}
@@ -69,7 +69,7 @@ Breaks blocks limits (SuperCycle number) = OfObjects blocks (λ objects.
     (object : ImageObject) × (object.number ≡ number) × IsFirst (IsOwnAncestor objects) objects object)
 Breaks blocks limits (TransientSuper number) = OfObjects blocks (λ objects. first_by (has_transient_super objects) objects ≡ Some number)
 Breaks blocks limits Full = OfObjects blocks (λ objects. IsTrue (is_past limits objects))
-Breaks blocks limits Unbuilt = OfObjects blocks (λ objects. IsTrue (is_unbuilt blocks objects))
+Breaks blocks limits Unbuilt = IsTrue (is_unbuilt blocks)
 Breaks blocks limits NoMemory = ⊥
 
 -- the rules in their order, from 1 on

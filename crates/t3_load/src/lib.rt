@@ -27,8 +27,6 @@ mod standing;
 mod statics;
 mod supers;
 mod symbols;
-#[cfg(test)]
-mod tests;
 mod unbuilt;
 
 pub use kinds::{KindEntry, Kinds, MetaKind, PropNumbers};

@@ -9,7 +9,7 @@ use crate::refusal::LoadRefusal;
 use crate::sets::Sets;
 use crate::supers::checked_objects;
 use crate::symbols::SymbolTable;
-use crate::unbuilt::is_unbuilt;
+use crate::unbuilt::is_later_method;
 use std::alloc::Global;
 use std::marker::Model;
 use t3_image_read::Image;
@@ -85,7 +85,7 @@ pub fn load(
     if is_past(objects.as_slice(), limits) {
         return Err(LoadRefusal::Full);
     }
-    if is_unbuilt(objects.as_slice(), &kinds.0, &pools, entry) {
+    if is_later_method(&pools, entry) {
         return Err(LoadRefusal::Unbuilt);
     }
     let symbols = SymbolTable::of(alloc, image)?;

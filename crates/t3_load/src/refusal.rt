@@ -47,7 +47,7 @@ pub enum LoadRefusal {
     /// The objects together are more than the limits say, or their units are.
     #[error("the store is full")]
     Full,
-    /// The image wants what the machine can't do yet.
+    /// The entry method can't be called yet, since it takes arguments or has an exception table.
     #[error("not built yet")]
     Unbuilt,
     /// An allocation was refused.

@@ -2,7 +2,7 @@
 use std::alloc::{AllocError, Global};
 use std::test::Fail;
 use t3_load::{LoadRefusal, Program, load};
-use t3_store::StoreLimits;
+use t3_store::{Store, StoreLimits};
 use t3_test_images::{
     block, function_sets, image, metaclasses, metaclasses_with, object_block, page, pool_definition,
 };
@@ -97,6 +97,29 @@ pub(crate) fn loaded(
     loaded_with(alloc, parts, parts.things)
 }
 
+/// What is made of an image of the blocks of `GOOD` and these behind them, which may be metaclasses and function sets.
+pub(crate) fn loaded_behind(
+    alloc: Global,
+    behind: &[Vec<u8>],
+) -> Result<Result<Program, LoadRefusal>, Fail> {
+    let without_tables = Parts {
+        metas: &[],
+        sets: &[],
+        ..GOOD
+    };
+    let mut all = blocks(alloc, &without_tables, &[])?;
+    for block in behind {
+        all.push(Vec::from_slice(alloc, block)?)?;
+    }
+    let limits = StoreLimits {
+        objects: 1,
+        units: 1,
+        records: 1,
+        savepoints: 1,
+    };
+    Ok(load(alloc, &image(alloc, &all)?, [7; 32], limits))
+}
+
 /// What is made of a test image with these objects in place of its own.
 fn loaded_with(
     alloc: Global,
@@ -133,4 +156,22 @@ pub(crate) fn refusal_with(
 /// `GOOD` with these objects.
 pub(crate) fn with(things: &'static [Thing<'static>]) -> Parts<'static> {
     Parts { things, ..GOOD }
+}
+
+/// A store with the objects of a test image.
+pub(crate) fn started(alloc: Global, parts: &Parts<'_>) -> Result<Store, Fail> {
+    match loaded(alloc, parts)? {
+        Ok(program) => {
+            let Program {
+                first,
+                passing,
+                next,
+                limits,
+                ..
+            } = program;
+            Ok(Store::start(alloc, limits, first, passing, next)?)
+        }
+        Err(LoadRefusal::NoMemory) => Err(Fail::from("no memory")),
+        Err(_why) => Err(Fail::from("a good image is refused")),
+    }
 }

@@ -5,8 +5,12 @@
 #[cfg(test)]
 mod images;
 #[cfg(test)]
+mod objects;
+#[cfg(test)]
 mod rules;
 #[cfg(test)]
 mod stores;
+#[cfg(test)]
+mod tables;
 #[cfg(test)]
 mod unbuilt;

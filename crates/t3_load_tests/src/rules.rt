@@ -149,10 +149,7 @@ fn an_object_breaks_a_rule(rt: HostRuntime) -> Result<(), Fail> {
             with(&[(2, false, 5, &[1, 0, 14, 0, 0, 0, 0])]),
             Some(LoadRefusal::ObjectData(5)),
         ),
-        (
-            with(&[(3, false, 5, &[9, 0, 1, 0, 15, 1, 0, 0, 0])]),
-            Some(LoadRefusal::Unbuilt),
-        ),
+        (with(&[(3, false, 5, &[9, 0, 1, 0, 15, 1, 0, 0, 0])]), None),
         // The first of two is told, and the earlier rule before it.
         (
             with(&[(0, false, 9, &[]), (0, false, 4, &[])]),
@@ -253,7 +250,7 @@ fn the_limits_hold_for_all_objects_together(rt: HostRuntime) -> Result<(), Fail>
         (Parts { objects: 2, ..pair }, None),
         (Parts { objects: 1, ..pair }, Some(LoadRefusal::Full)),
         // Two elements, two bytes and a property.
-        (Parts { units: 4, ..units }, Some(LoadRefusal::Unbuilt)),
+        (Parts { units: 4, ..units }, None),
         (Parts { units: 3, ..units }, Some(LoadRefusal::Full)),
         (
             Parts {

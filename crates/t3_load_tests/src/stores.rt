@@ -2,7 +2,7 @@
 ghost use Rattle.std.specs.Prelude.{◌≡◌, [], Some};
 ghost use Rattle.t3_store.specs.Value.{new_value, supers_of, HasFittingLength};
 
-use crate::images::{GOOD, Parts, loaded, with};
+use crate::images::{GOOD, Parts, started, with};
 use std::alloc::Global;
 use std::test::Fail;
 use t3_load::{LoadRefusal, Program};
@@ -15,24 +15,6 @@ const PLAIN: &[u8] = &[0, 0, 0, 0, 0, 0];
 
 /// A tads-object below object 1.
 const BELOW_1: &[u8] = &[1, 0, 0, 0, 0, 0, 1, 0, 0, 0];
-
-/// A store with the objects of a test image.
-fn started(alloc: Global, parts: &Parts<'_>) -> Result<Store, Fail> {
-    match loaded(alloc, parts)? {
-        Ok(program) => {
-            let Program {
-                first,
-                passing,
-                next,
-                limits,
-                ..
-            } = program;
-            Ok(Store::start(alloc, limits, first, passing, next)?)
-        }
-        Err(LoadRefusal::NoMemory) => Err(Fail::from("no memory")),
-        Err(_why) => Err(Fail::from("a good image is refused")),
-    }
-}
 
 fn no_props(alloc: Global) -> Props {
     Props(Vec::new(alloc))

@@ -34,14 +34,15 @@ fn what_cannot_be_run_yet_is_refused_last(rt: HostRuntime) -> Result<(), Fail> {
     let unbuilt = Some(LoadRefusal::Unbuilt);
     let full = Parts {
         objects: 0,
+        code: TAKING,
         ..with(&[(1, false, 7, TEXT)])
     };
     let rows = [
-        (with(&[(1, true, 7, TEXT)]), unbuilt),
-        (with(&[(2, false, 7, LIST)]), unbuilt),
+        (with(&[(1, true, 7, TEXT)]), None),
+        (with(&[(2, false, 7, LIST)]), None),
         (
             with(&[(0, false, 8, PLAIN), (0, false, 7, WITH_TEXT)]),
-            unbuilt,
+            None,
         ),
         (with(&[(0, false, 7, WITH_SHOWN)]), None),
         (
@@ -49,7 +50,7 @@ fn what_cannot_be_run_yet_is_refused_last(rt: HostRuntime) -> Result<(), Fail> {
                 has_methods: true,
                 ..GOOD
             },
-            unbuilt,
+            None,
         ),
         (
             Parts {

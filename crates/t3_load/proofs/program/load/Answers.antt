@@ -1,11 +1,8 @@
-use Rattle.std.proofs.Common.{◌≡◌, ◌∙◌, ◌||◌, true, false, length, nat_lt, refl, sym, ap, subst, inr}
-use Rattle.std.specs.List.{list_any}
+use Rattle.std.proofs.Common.{◌≡◌, ◌∙◌, true, false, refl, sym, ap, subst, inr}
 use Rattle.t3_load.specs.ImageObjects.{object_numbers, is_past}
-use Rattle.t3_load.specs.declared.objects.ImageObject.{ImageObject}
-use Rattle.t3_load.specs.declared.kinds.KindEntry.{KindEntry}
 use Rattle.t3_load.specs.Names.{metas_in}
 use Rattle.t3_load.specs.Statics.{statics_in, kind_at}
-use Rattle.t3_load.specs.Unbuilt.{has_contents, is_later_method, is_unbuilt}
+use Rattle.t3_load.specs.Unbuilt.{is_unbuilt}
 use Rattle.t3_load.specs.Loading.{next_above}
 use Rattle.t3_load.specs.Inner.Halves.{AreMade}
 use Rattle.t3_load.proofs.RuleSteps.{kept_both, kept_none}
@@ -32,8 +29,8 @@ returns-then-is_past c =
     ap (is_past c.args.limits) (sym c.as_slice.ensures.objects) ∙ sym c.is_past.ensures ∙ c.if-is_past.true in
     inr (record { objects = c.in_ok-objects.objects; are = (c.in_ok-objects.ensures).objects; holds = past }, kept)
 
-pub returns-then-is_unbuilt : goal.returns-then-is_unbuilt
-returns-then-is_unbuilt c =
+pub returns-then-is_later_method : goal.returns-then-is_later_method
+returns-then-is_later_method c =
     let blocks = c.args.image.now.blocks in
     let objects = c.in_ok-objects.objects in
     let are = (c.in_ok-objects.ensures).objects in
@@ -42,16 +39,12 @@ returns-then-is_unbuilt c =
     let kept = kept_both blocks c.args.limits 1 13 14 (kept_both blocks c.args.limits 1 7 13
     ((c.in_ok-entry.ensures).decides c.args.limits) ((c.in_ok-objects.ensures).decides c.args.limits))
     (room_kept blocks objects c.args.limits are room) in
-    let asked : (list_any (λ (object : ImageObject). has_contents object.object) objects
-    || list_any (λ (kind : KindEntry). nat_lt 0 (length kind.props)) c.in_ok-entry.field-0.kinds
-    || is_later_method c.in_ok-entry.field-0.pools.code c.in_ok-entry.field-0.entry) ≡ true =
-    cc (c.as_slice-2.ensures.objects, c.deref.ensures.value, c.is_unbuilt.ensures, c.if-is_unbuilt.true, c.kinds.view_is) in
-    let unbuilt : is_unbuilt blocks objects ≡ true =
-    same_unbuilt blocks c.in_ok-entry.field-0 objects (c.in_ok-entry.ensures).basis ∙ asked in
-    inr (record { objects = objects; are = are; holds = unbuilt }, kept)
+    let unbuilt : is_unbuilt blocks ≡ true =
+    same_unbuilt blocks c.in_ok-entry.field-0 (c.in_ok-entry.ensures).basis ∙ sym c.is_later_method.ensures ∙ c.if-is_later_method.true in
+    inr (unbuilt, kept)
 
 pub next_number-next-requires : goal.next_number-next-requires
-next_number-next-requires c = subst AreMade (sym c.as_slice-3.ensures.objects) (c.in_ok-objects.ensures).made
+next_number-next-requires c = subst AreMade (sym c.as_slice-2.ensures.objects) (c.in_ok-objects.ensures).made
 
 pub halve-requires-clause-made : goal.halve-requires-clause-made
 halve-requires-clause-made c = (c.in_ok-objects.ensures).made
@@ -63,7 +56,7 @@ invariant_of-result c =
     let found = c.in_ok-objects.ensures in
     let room : is_past c.args.limits objects ≡ false =
     ap (is_past c.args.limits) (sym c.as_slice.ensures.objects) ∙ sym c.is_past.ensures ∙ c.if-is_past.false in
-    let next = c.next_number-next.ensures ∙ ap (λ os. next_above (object_numbers os)) c.as_slice-3.ensures.objects in
+    let next = c.next_number-next.ensures ∙ ap (λ os. next_above (object_numbers os)) c.as_slice-2.ensures.objects in
     can_start blocks objects c.args.limits c.in_ok-first.field-0.first c.in_ok-first.field-0.passing c.next_number-next.result c.requires
     found.objects found.made c.as_slice.ensures.distinct found.whole.there found.whole.acyclic found.whole.persistent room
     c.in_ok-first.ensures.halves next
@@ -76,15 +69,12 @@ returns c =
     let are = (c.in_ok-objects.ensures).objects in
     let room : is_past c.args.limits objects ≡ false =
     ap (is_past c.args.limits) (sym c.as_slice.ensures.objects) ∙ sym c.is_past.ensures ∙ c.if-is_past.false in
-    let asked : (list_any (λ (object : ImageObject). has_contents object.object) objects
-    || list_any (λ (kind : KindEntry). nat_lt 0 (length kind.props)) c.in_ok-entry.field-0.kinds
-    || is_later_method c.in_ok-entry.field-0.pools.code c.in_ok-entry.field-0.entry) ≡ false =
-    cc (c.as_slice-2.ensures.objects, c.deref.ensures.value, c.is_unbuilt.ensures, c.if-is_unbuilt.false, c.kinds.view_is) in
-    let built : is_unbuilt blocks objects ≡ false = same_unbuilt blocks c.in_ok-entry.field-0 objects basis ∙ asked in
+    let built : is_unbuilt blocks ≡ false =
+    same_unbuilt blocks c.in_ok-entry.field-0 basis ∙ sym c.is_later_method.ensures ∙ c.if-is_later_method.false in
     let kept = kept_both blocks c.args.limits 1 14 15 (kept_both blocks c.args.limits 1 13 14 (kept_both blocks c.args.limits 1 7 13
     ((c.in_ok-entry.ensures).decides c.args.limits) ((c.in_ok-objects.ensures).decides c.args.limits))
-    (room_kept blocks objects c.args.limits are room)) (built_kept blocks objects c.args.limits are built) in
-    let next = c.next_number-next.ensures ∙ ap (λ os. next_above (object_numbers os)) c.as_slice-3.ensures.objects in (
+    (room_kept blocks objects c.args.limits are room)) (built_kept blocks c.args.limits built) in
+    let next = c.next_number-next.ensures ∙ ap (λ os. next_above (object_numbers os)) c.as_slice-2.ensures.objects in (
       kept,
       record {
         entry = basis.entry;
