@@ -2,8 +2,4 @@ mod Caching
 mod Stepping
 mod Joining
 mod Going
-mod Cases
-mod Saying
-mod Searching
-mod Evaluating
 pub mod Runs

@@ -1,5 +1,4 @@
 -- What only the contracts of private functions cite.
 pub mod Acting
 pub mod DecodeCache
-pub mod Finding
 pub mod Superinstruction

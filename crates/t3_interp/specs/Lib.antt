@@ -1,9 +1,4 @@
-pub mod Effect
 pub mod Machine
-pub mod Values
-pub mod Search
-pub mod Objects
-pub mod Builtins
 pub mod Instructions
 pub mod Step
 pub mod Run

@@ -1,30 +1,17 @@
-//! The seven kinds of instructions, and the actions that they share.
-ghost use Rattle.std.specs.Prelude.{◌≡◌, ◌<◌, ◌^◌, IfOk, OnOk};
+//! An instruction is carried out, and what comes of it.
+ghost use Rattle.std.specs.Prelude.{◌≡◌, ◌+◌, ◌≤◌, ◌<◌, ◌^◌, IfOk, OnOk};
 ghost use Rattle.t3_interp.specs.declared.event.Event.TheVariants.{Went};
 ghost use Rattle.t3_interp.specs.declared.running.Stage.TheVariants.{Method};
 ghost use Rattle.t3_methods.specs.declared.instr.Instr.TheVariants.{Call, Make};
 ghost use Rattle.t3_interp.specs.Inner.Acting.{IsCased, HasActed, Tells};
 
-mod builtin;
-mod call;
-mod create;
-mod evaluate;
-mod inherit;
-mod jump;
-mod local;
-mod make;
-mod math;
-mod push;
-mod set;
-mod stack;
-
-use crate::effect::MakeEffect;
 use crate::running::Running;
-pub(crate) use jump::target_from;
 use std::alloc::Global;
+use t3_frame_instructions::{jump, math, push, stack};
 use t3_holder::NoMemory;
 use t3_load::Program;
 use t3_methods::{CallCode, Instr, MakeCode};
+use t3_object_instructions::{MakeEffect, call, local, make};
 
 /// Does to the newest frame, to the register and to the objects what an instruction does, and what comes of
 /// that. Answers whether something is told.
@@ -39,7 +26,7 @@ pub(crate) fn act(
     requires untold { running.old.event ≡ Went }
     requires cases { IsCased program.now.pools.code instr.now }
     requires next { running.old.core.frames.newest.next < 2 ^ 31 }
-    requires few { running.old.core.store.writes < 2 ^ 63 }
+    requires few { running.old.core.store.writes + 131072 ≤ 2 ^ 63 }
     ensures acted { OnOk result (HasActed program.now instr.now running.old running.new) }
     ensures told { IfOk result (Tells running.new) }
 {
@@ -47,25 +34,25 @@ pub(crate) fn act(
     // where there is but one.
     match instr {
         Instr::Push(code) => {
-            let effect = push::push(&mut running.core, *code);
+            let effect = push(&mut running.core, *code);
             running.settle(alloc, program, effect)
         }
         Instr::Math(code) => {
-            let effect = math::math(&mut running.core, *code);
+            let effect = math(alloc, &program.pools, &mut running.core, *code)?;
             running.settle(alloc, program, effect)
         }
         Instr::Call(code) => act_call(alloc, program, running, code),
         Instr::Stack(code) => {
-            let effect = stack::stack(&mut running.core, *code);
+            let effect = stack(&mut running.core, *code);
             running.settle(alloc, program, effect)
         }
         Instr::Jump(code) => {
-            let effect = jump::jump(&program.pools, &mut running.core, *code);
+            let effect = jump(alloc, &program.pools, &mut running.core, *code)?;
             running.settle(alloc, program, effect)
         }
         Instr::Make(code) => act_make(alloc, program, running, code),
         Instr::Local(code) => {
-            let effect = local::local(&mut running.core, *code)?;
+            let effect = local(alloc, &program.pools, &mut running.core, *code)?;
             running.settle(alloc, program, effect)
         }
     }
@@ -84,7 +71,7 @@ fn act_call(
     ensures acted { OnOk result (HasActed program.now (Call code.now) running.old running.new) }
     ensures told { IfOk result (Tells running.new) }
 {
-    let effect = call::call(alloc, program, &mut running.core, *code)?;
+    let effect = call(alloc, program, &mut running.core, *code)?;
     running.settle(alloc, program, effect)
 }
 
@@ -102,7 +89,7 @@ fn act_make(
     ensures acted { OnOk result (HasActed program.now (Make code.now) running.old running.new) }
     ensures told { IfOk result (Tells running.new) }
 {
-    match make::make(alloc, program, &mut running.core, *code)? {
+    match make(alloc, program, &mut running.core, *code)? {
         MakeEffect::Quiet(effect) => running.settle(alloc, program, effect),
         MakeEffect::Say(text) => {
             running.say(text);

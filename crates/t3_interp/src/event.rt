@@ -1,29 +1,7 @@
 //! What steps do, and how a run ends.
+use t3_frame_instructions::CodeWhy;
 use t3_holder::Bytes;
 use t3_ops::Fault;
-
-/// Why no instruction is carried out at an address.
-#[derive(Clone, Copy, Debug, PartialEq, Eq)]
-pub enum CodeWhy {
-    /// No byte of code stands there.
-    NoByte,
-    /// The byte that stands there is no opcode.
-    Opcode(u8),
-    /// The operands don't stand there whole.
-    Operand,
-    /// No method header stands there.
-    Header,
-    /// The exception table that the method's header names isn't whole.
-    Table,
-    /// The instruction takes more operands than there are.
-    Underflow,
-    /// The instruction names a local that its method hasn't.
-    Local,
-    /// The instruction names an argument that its method hasn't got.
-    Argument,
-    /// The instruction can't be carried out yet.
-    Unbuilt,
-}
 
 /// How a run ends by itself.
 #[derive(Clone, Copy, Debug, PartialEq, Eq)]
@@ -35,7 +13,7 @@ pub enum End {
     Unhandled { object: u32, fault: Option<Fault> },
     /// At an address of code nothing could be carried out.
     BadCode { at: u32, why: CodeWhy },
-    /// The store had no room for an object or a property.
+    /// The store had no room for an object, a property, an element or an entry.
     StoreFull,
 }
 

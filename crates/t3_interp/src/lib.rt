@@ -10,30 +10,24 @@
 //! }
 //! ```
 //!
-//! [`Machine::go`] makes many steps in one call. What a step is is defined in `specs/`, apart from the code. So far there is one frame: no method is called.
-//! Properties of objects are searched, evaluated and set, and tads-objects are made; an instruction that would
-//! do more stops the run by `Unbuilt`.
+//! [`Machine::go`] makes many steps in one call. What a step is is defined in `specs/`, apart from the code;
+//! what a single instruction does, in `t3_frame_instructions` and `t3_object_instructions`. So far there is
+//! one frame: no method is called, no savepoint is made, and no line of input is taken; an instruction that
+//! would do so stops the run by `Unbuilt`.
 #![tactic(auto)]
 
 mod act;
 mod decode_cache;
-mod effect;
 mod event;
-mod exception;
-mod laws;
 mod machine;
 #[cfg(test)]
 mod machine_tests;
-mod methods;
-mod relation;
 mod running;
-mod search;
 mod settle;
 mod step;
 mod superinstruction;
-mod symbols;
-mod values;
 
-pub use event::{CodeWhy, End, Event, Input, Want};
-pub use laws::search_order;
+pub use event::{End, Event, Input, Want};
 pub use machine::Machine;
+pub use t3_frame_instructions::CodeWhy;
+pub use t3_object_instructions::search_order;

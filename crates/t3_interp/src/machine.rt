@@ -8,9 +8,10 @@ ghost use Rattle.t3_interp.specs.Inner.Acting.{IsBetweenSteps};
 
 use crate::decode_cache::DecodeCache;
 use crate::event::{Event, Input, Want};
-use crate::running::{Core, Running, Stage};
+use crate::running::{Running, Stage};
 use std::alloc::Global;
 use std::marker::Model;
+use t3_frame_instructions::Core;
 use t3_frames::Frames;
 use t3_holder::{Holder, NoMemory};
 use t3_load::Program;

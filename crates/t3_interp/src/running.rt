@@ -4,18 +4,7 @@ ghost use Rattle.t3_interp.specs.declared.event.Event.TheVariants.{Went};
 
 use crate::event::Event;
 use std::mem;
-use t3_frames::Frames;
-use t3_holder::Holder;
-use t3_store::Store;
-
-/// What instructions see and change.
-#[derive(Drop)]
-pub(crate) struct Core {
-    pub(crate) frames: Frames,
-    /// Where calls answer.
-    pub(crate) register: Holder,
-    pub(crate) store: Store,
-}
+use t3_frame_instructions::Core;
 
 /// How far a run has come.
 #[derive(Clone, Copy, Debug)]

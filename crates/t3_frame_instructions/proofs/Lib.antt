@@ -1,0 +1,3 @@
+pub mod Comparing
+mod Cases
+pub mod Made

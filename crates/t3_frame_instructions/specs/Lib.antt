@@ -1,0 +1,9 @@
+pub mod Effect
+pub mod Context
+pub mod Making
+pub mod Relations
+pub mod Pushing
+pub mod Computing
+pub mod Jumping
+pub mod Variables
+pub mod Acting

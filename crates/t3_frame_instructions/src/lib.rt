@@ -1,0 +1,31 @@
+//! What one instruction does to the method that it stands in: pushing, computing, comparing, jumping, and
+//! the variables of a method. Objects are only compared, added and made here, by the operations on values.
+//!
+//! ```text
+//! let effect = math(alloc, &pools, &mut core, MathCode::Add)?;   // Quiet::Next
+//! core.frames.top();                                             // the sum
+//! ```
+//!
+//! An instruction changes a [`Core`] and answers an effect, which says how the run goes on. What it does is
+//! defined as an action on what it sees, and [`Core`] keeps the frames of its callers out of its sight.
+#![tactic(auto)]
+
+mod computing;
+mod context;
+mod effect;
+mod jumping;
+mod moving;
+mod pushing;
+mod relation;
+mod variables;
+
+pub use computing::{give, math, put};
+pub use context::Core;
+pub use effect::{CodeWhy, Quiet};
+pub use jumping::{jump, target_from};
+pub use moving::stack;
+pub use pushing::{push, push_value};
+pub use relation::{Relation, related_numbers};
+pub use variables::{
+    add_number, add_popped, set_local, subtract_popped, take_argument, take_local,
+};

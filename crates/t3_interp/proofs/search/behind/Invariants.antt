@@ -1,7 +1,0 @@
-use Rattle.std.proofs.Common.{◌≡◌, drop}
-use Rattle.t3_interp.specs.Search.{behind}
-use Rattle.t3_interp.proofs.search.behind.Given as goal
-
--- it isn't among those that were gone over
-abbrev pub invariant-loop-index : goal.invariant-loop-index
-invariant-loop-index l = behind l.number (drop l.index l.numbers) ≡ behind l.number l.numbers

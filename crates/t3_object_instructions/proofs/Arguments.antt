@@ -1,0 +1,135 @@
+-- What is answered of arguments that were turned over is answered of the operands as they were.
+use Rattle.std.proofs.Common.{◌≡◌, List, Option, Some, None, Result, Ok, Err, IfOk, refl, sym, ap, subst, ◌∙◌, ℕ, zero, suc, Bool, false, ◌==◌, if◌then◌else◌, take, reverse, rules}
+use Rattle.t3_holder.specs.declared.holder.Holder.{Holder}
+use Rattle.t3_holder.specs.declared.no_memory.NoMemory.{NoMemory}
+use Rattle.t3_frames.specs.Frame.{FramesValue, of_newest, with_operands, turned}
+use Rattle.t3_store.specs.Store.{StoreValue}
+use Rattle.t3_store.specs.Value.{Value}
+use Rattle.t3_pools.specs.Pool.{Pool}
+use Rattle.t3_ops.specs.declared.fault.Fault.TheVariants.{ArgCount}
+use Rattle.t3_ops.specs.declared.fault.Fault.{Fault as FaultName}
+use Rattle.t3_ops.specs.declared.builtins.PureBuiltin.{PureBuiltin}
+use Rattle.t3_ops.specs.Builtins.{pure_builtin_of}
+use Rattle.t3_ops.specs.Saying.{said_text_of}
+use Rattle.std.proofs.lemmas.List.{reverse-reverse}
+use Rattle.t3_frame_instructions.specs.declared.context.Core.{Core}
+use Rattle.t3_frame_instructions.specs.declared.effect.Quiet.{Quiet}
+use Rattle.t3_frame_instructions.specs.Effect.{Effect}
+use Rattle.t3_frame_instructions.specs.Context.{Context, Action, leaving, with_store, answers, faults}
+use Rattle.t3_frame_instructions.specs.Making.{made_with, makes, takes_made}
+use Rattle.t3_frame_instructions.specs.Acting.{context_of, Leaves, HasAction, HasDone}
+use Rattle.t3_object_instructions.specs.Creating.{arguments, created_with, creates}
+use Rattle.t3_object_instructions.specs.Builtins.{gen_by, says, says_text}
+use Rattle.t3_object_instructions.proofs.Evaluating.{as_well}
+use Rattle.t3_object_instructions.proofs.Turning.{drop-turned, take-turned}
+
+-- what an operation comes to
+abbrev pub Outcome : Type 0
+Outcome = Result (Option (Holder × StoreValue)) FaultName
+
+-- it is answered, and so many operands go
+abbrev pub answered : ℕ → Outcome → Context → Action
+answered count outcome context = takes_made outcome (λ value context. answers value count context) context
+
+-- the operands of a context, turned over
+abbrev pub turned_context : ℕ → Context → Context
+turned_context count context = leaving (turned count context.frame.operands) context
+
+same-asks : (count : ℕ) (outcome : Outcome) (context : Context)
+    → (answered count outcome (turned_context count context)).0 ≡ (answered count outcome context).0
+same-asks count (Err fault) context = refl
+same-asks count (Ok None) context = refl
+same-asks count (Ok (Some made)) context = refl
+
+same-leaves : (count : ℕ) (outcome : Outcome) (context left : Context)
+    → Leaves (answered count outcome context).0 (answered count outcome (turned_context count context)).1 left
+    → Leaves (answered count outcome context).0 (answered count outcome context).1 left
+same-leaves count (Err fault) context left is = is
+same-leaves count (Ok None) context left is = is
+same-leaves count (Ok (Some made)) context left is =
+    is ∙ ap (λ (operands : List Holder). leaving operands (record (with_store made.1 context) { register = made.0 }))
+    (drop-turned count context.frame.operands)
+
+-- an answer of turned operands
+abbrev pub turned_core : ℕ → Core → Core
+turned_core count core =
+    record core { frames = of_newest (with_operands (turned count core.frames.newest.operands)) core.frames }
+
+pub turned-answer : (act : Context → Action) (count : ℕ) (outcome : Outcome) (old new : Core) (effect : Effect)
+    → act (context_of old) ≡ answered count outcome (context_of old) → HasAction (answered count outcome) (turned_core count old) effect new
+    → HasAction act old effect new
+turned-answer act count outcome old new effect is has =
+    let context : Context = context_of old in
+    let asks : (answered count outcome context).0 ≡ effect = sym (same-asks count outcome context) ∙ has.asks in
+    let leaves = subst (λ (e : Effect). Leaves e (answered count outcome (turned_context count context)).1 (context_of new)) (sym asks) has.leaves in
+    record {
+      asks = ap (λ (a : Action). a.0) is ∙ asks;
+      leaves =
+          subst (λ (w : Context). Leaves effect w (context_of new)) (sym (ap (λ (a : Action). a.1) is))
+          (subst (λ (e : Effect). Leaves e (answered count outcome context).1 (context_of new)) asks
+          (same-leaves count outcome context (context_of new) leaves));
+      older = has.older;
+      writes = has.writes;
+      savepoints = has.savepoints;
+    }
+
+-- a creation of turned operands: by the frames as they are then, and by what is to be made
+pub turned-creation : (act : Context → Action) (transient : Bool) (count : ℕ) (value wanted : Result Value FaultName) (old new : Core)
+    (frames : FramesValue) (r : Result Quiet NoMemory)
+    → frames ≡ of_newest (with_operands (turned count old.frames.newest.operands)) old.frames
+    → act (context_of old) ≡ creates transient count wanted (context_of old) → value ≡ wanted
+    → IfOk r (λ effect. HasDone (creates transient count value) (record old { frames = frames }) effect new)
+    → IfOk r (λ effect. HasDone act old effect new)
+turned-creation act transient count value wanted old new frames (Ok effect) turned-is acts same has =
+    turned-answer act count (created_with transient wanted old.store.store) old new _ acts
+    (as_well (creates transient count wanted) (answered count (created_with transient wanted old.store.store)) (turned_core count old) _ new refl
+    (subst (λ (v : Result Value FaultName). HasDone (creates transient count v) (turned_core count old) effect new) same
+    (subst (λ (f : FramesValue). HasDone (creates transient count value) (record old { frames = f }) effect new) turned-is has)))
+turned-creation act transient count value wanted old new frames (Err refusal) turned-is acts same has = tt
+
+-- ---- built-in functions
+
+-- what a function of the general set is given arguments that were turned over
+pub turned-pure : (constants : Pool) (builtin : PureBuiltin) (index count : ℕ) (found : Option PureBuiltin) (old new : Core)
+    (frames : FramesValue) (r : Result Quiet NoMemory) → found ≡ Some builtin
+    → frames ≡ of_newest (with_operands (turned count old.frames.newest.operands)) old.frames
+    → IfOk r (λ effect. HasDone (λ context. makes (pure_builtin_of constants context.store index (reverse (arguments count context)))
+    (λ value context. answers value count context) context) (record old { frames = frames }) effect new)
+    → IfOk r (λ effect. HasDone (gen_by constants found index count) old effect new)
+turned-pure constants builtin index count found old new frames (Ok effect) is turned-is has =
+    let context : Context = context_of old in
+    let operands = old.frames.newest.operands in
+    let outcome : Outcome = made_with (pure_builtin_of constants old.store.store index (take count operands)) old.store.store in
+    let args : reverse (take count (turned count operands)) ≡ take count operands =
+    ap reverse (take-turned count operands) ∙ reverse-reverse (take count operands) in
+    turned-answer (gen_by constants found index count) count outcome old new _ (ap (λ f. gen_by constants f index count context) is)
+    (as_well
+    (λ context. makes (pure_builtin_of constants context.store index (reverse (arguments count context)))
+    (λ value context. answers value count context) context)
+    (answered count outcome) (turned_core count old) _ new
+    (ap (λ (xs : List Holder). answered count (made_with (pure_builtin_of constants old.store.store index xs) old.store.store)
+    (turned_context count context)) args)
+    (subst (λ (f : FramesValue). HasDone
+    (λ context. makes (pure_builtin_of constants context.store index (reverse (arguments count context)))
+    (λ value context. answers value count context) context)
+    (record old { frames = f }) effect new) turned-is has))
+turned-pure constants builtin index count found old new frames (Err refusal) is turned-is has = tt
+
+-- ---- saying
+
+says-some : (constants : Pool) (count : ℕ) (context : Context) → (count ≡ 0 → ⊥)
+    → says constants count context ≡ says_text count (said_text_of constants context.store (arguments count context)) context
+says-some constants zero context some = absurd (some refl)
+says-some constants (suc n) context some =
+    let other : (suc n == 0) ≡ false = search rules in
+    ap (λ b. if b then faults ArgCount context
+    else says_text (suc n) (said_text_of constants context.store (arguments (suc n) context)) context) other
+
+-- what is said of these arguments, of which there are some
+pub texts_said : (constants : Pool) (count : ℕ) (old : Core) (args : List Holder) (text : Result (List ℕ) FaultName) → (count ≡ 0 → ⊥)
+    → args ≡ take count old.frames.newest.operands → text ≡ said_text_of constants old.store.store args
+    → says constants count (context_of old) ≡ says_text count text (context_of old)
+texts_said constants count old args text some are is =
+    says-some constants count (context_of old) some
+    ∙ ap (λ (xs : List Holder). says_text count (said_text_of constants old.store.store xs) (context_of old)) (sym are)
+    ∙ ap (λ (t : Result (List ℕ) FaultName). says_text count t (context_of old)) (sym is)

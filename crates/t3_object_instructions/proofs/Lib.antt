@@ -1,0 +1,4 @@
+mod Searching
+mod Evaluating
+mod Turning
+mod Arguments

@@ -1,0 +1,10 @@
+pub mod Search
+pub mod Evaluating
+pub mod Setting
+pub mod Symbols
+pub mod Creating
+pub mod Exceptions
+pub mod Builtins
+pub mod Instructions
+pub mod Acting
+pub mod Inner

@@ -1,0 +1,147 @@
+//! Built-in functions.
+ghost use Rattle.std.specs.Prelude.{◌≡◌, if◌then◌else◌, IfOk, IsSome, reverse, take};
+ghost use Rattle.t3_ops.specs.Builtins.{pure_at as pure_by, pure_builtin_of};
+ghost use Rattle.t3_ops.specs.declared.fault.Fault.TheVariants.{NoBuiltin};
+ghost use Rattle.t3_frame_instructions.specs.declared.effect.CodeWhy.TheVariants.{Unbuilt};
+ghost use Rattle.t3_frame_instructions.specs.Effect.{Stop, Fault as FaultEffect};
+ghost use Rattle.t3_frame_instructions.specs.Context.{answers};
+ghost use Rattle.t3_frame_instructions.specs.Making.{makes};
+ghost use Rattle.t3_frame_instructions.specs.Acting.{HasAction, HasDone, quiet_of};
+ghost use Rattle.t3_object_instructions.specs.Builtins.{builtin_action, gen_by, io_action, says, unless_listed};
+ghost use Rattle.t3_object_instructions.specs.Creating.{arguments};
+ghost use Rattle.t3_object_instructions.specs.Acting.{effect_of};
+
+use crate::effect::MakeEffect;
+use crate::evaluate::answer;
+use std::alloc::Global;
+use t3_frame_instructions::{CodeWhy, Core, Quiet};
+use t3_holder::{Holder, NoMemory};
+use t3_load::{Program, SetKind};
+use t3_ops::{Fault, OpRefusal, pure_at, pure_builtin, said_text};
+use t3_pools::Pools;
+
+/// The index of the function that says values.
+const SAY: u8 = 0;
+
+/// The index of the function that takes a line of input, which isn't built yet.
+const INPUT_LINE: u8 = 4;
+
+/// The index of the function that sets by which function values are said, which isn't built yet.
+const SET_SAY: u8 = 1;
+
+/// Calls a function of a set, with so many operands. The set is one of the image's table.
+pub(crate) fn builtin(
+    alloc: Global,
+    program: &Program,
+    core: &mut Core,
+    set: u8,
+    index: u8,
+    count: u16,
+) -> Result<MakeEffect, NoMemory>
+    ensures { IfOk result (λ effect. HasAction (builtin_action program.now set index count) core.old
+        (effect_of effect) core.new) }
+{
+    match program.sets.0.get(usize::from(set)) {
+        Some(SetKind::Io) => io_builtin(alloc, &program.pools, core, index, count),
+        Some(SetKind::Gen) => {
+            let effect = gen_builtin(alloc, &program.pools, core, index, count)?;
+            Ok(MakeEffect::Quiet(effect))
+        }
+        Some(SetKind::Vm) => Ok(MakeEffect::Quiet(refuse_unless(index == SET_SAY))),
+        None => Ok(MakeEffect::Quiet(Quiet::Fault(Fault::NoBuiltin))),
+    }
+}
+
+/// What is asked for by a function that is listed, but not built yet, or by one that there isn't.
+fn refuse_unless(listed: bool) -> Quiet
+    ensures { quiet_of result ≡ if listed then Stop Unbuilt else FaultEffect NoBuiltin }
+{
+    if listed {
+        Quiet::Stop(CodeWhy::Unbuilt)
+    } else {
+        Quiet::Fault(Fault::NoBuiltin)
+    }
+}
+
+/// Calls a function of the set for input and output.
+fn io_builtin(
+    alloc: Global,
+    pools: &Pools,
+    core: &mut Core,
+    index: u8,
+    count: u16,
+) -> Result<MakeEffect, NoMemory>
+    ensures { IfOk result (λ effect. HasAction (io_action pools.now.constants index count) core.old
+        (effect_of effect) core.new) }
+{
+    if index == SAY {
+        return say(alloc, pools, core, count);
+    }
+    Ok(MakeEffect::Quiet(refuse_unless(index == INPUT_LINE)))
+}
+
+/// Says so many operands, the topmost first.
+fn say(alloc: Global, pools: &Pools, core: &mut Core, count: u16) -> Result<MakeEffect, NoMemory>
+    ensures { IfOk result (λ effect. HasAction (says pools.now.constants count) core.old
+        (effect_of effect) core.new) }
+{
+    if count == 0 {
+        return Ok(MakeEffect::Quiet(Quiet::Fault(Fault::ArgCount)));
+    }
+    core.frames.turn_operands(count);
+    match said_text(alloc, core.frames.topmost(count), &core.store, pools)? {
+        Ok(text) => {
+            core.frames.drop_operands(count);
+            core.register = Holder::Nil;
+            Ok(MakeEffect::Say(text))
+        }
+        Err(fault) => Ok(MakeEffect::Quiet(Quiet::Fault(fault))),
+    }
+}
+
+/// Calls a function of the general set.
+fn gen_builtin(
+    alloc: Global,
+    pools: &Pools,
+    core: &mut Core,
+    index: u8,
+    count: u16,
+) -> Result<Quiet, NoMemory>
+    ensures { IfOk result (λ effect. HasDone
+        (gen_by pools.now.constants (pure_by index) index count) core.old effect core.new) }
+{
+    match pure_at(index) {
+        Some(_) => {
+            core.frames.turn_operands(count);
+            call_pure(alloc, pools, core, index, count)
+        }
+        None => Ok(refuse_unless((13..=17).contains(&index))),
+    }
+}
+
+/// Calls a function that makes one object at most, with so many operands as arguments, which were turned over.
+fn call_pure(
+    alloc: Global,
+    pools: &Pools,
+    core: &mut Core,
+    index: u8,
+    count: u16,
+) -> Result<Quiet, NoMemory>
+    requires { IsSome (pure_by index) }
+    ensures { IfOk result (λ effect. HasDone (λ context. makes
+        (pure_builtin_of pools.now.constants context.store index (reverse (arguments count context)))
+        (λ value context. answers value count context) context) core.old effect core.new) }
+{
+    match pure_builtin(
+        alloc,
+        index,
+        core.frames.topmost(count),
+        &mut core.store,
+        pools,
+    ) {
+        Ok(value) => Ok(answer(core, value, count)),
+        Err(OpRefusal::Fault(fault)) => Ok(Quiet::Fault(fault)),
+        Err(OpRefusal::Full) => Ok(Quiet::StoreFull),
+        Err(OpRefusal::NoMemory) => Err(NoMemory),
+    }
+}

@@ -1,0 +1,167 @@
+//! Evaluating a property of a value.
+ghost use Rattle.std.specs.Prelude.{IfOk};
+ghost use Rattle.t3_store.specs.Store.{value_at};
+ghost use Rattle.t3_frame_instructions.specs.Context.{answers, pops};
+ghost use Rattle.t3_object_instructions.specs.Evaluating.{by_property, evaluates, of_object, found_action, asks, asks_object};
+ghost use Rattle.t3_frame_instructions.specs.Acting.{HasDone};
+
+use crate::methods::{is_method, metaclasses_of, method_of};
+use crate::search::find_property;
+use std::alloc::Global;
+use t3_frame_instructions::{CodeWhy, Core, Quiet};
+use t3_holder::{Holder, NoMemory};
+use t3_load::Program;
+use t3_ops::Fault;
+use t3_store::Kind;
+
+/// Evaluates a property of a value, with so many operands as arguments.
+pub(crate) fn evaluate(
+    alloc: Global,
+    program: &Program,
+    core: &mut Core,
+    value: Holder,
+    property: u16,
+    count: u8,
+) -> Result<Quiet, NoMemory>
+    ensures { IfOk result
+        (λ effect. HasDone (evaluates program.now property count value) core.old effect core.new) }
+{
+    match value {
+        Holder::Obj(number) => evaluate_object(alloc, program, core, number, property, count),
+        Holder::Text(_) => Ok(ask(program, core, property, count, Kind::Text)),
+        Holder::List(_) => Ok(ask(program, core, property, count, Kind::List)),
+        _ => Ok(Quiet::Fault(Fault::NotObject)),
+    }
+}
+
+/// Of the topmost operand, which goes.
+pub(crate) fn evaluate_popped(
+    alloc: Global,
+    program: &Program,
+    core: &mut Core,
+    property: u16,
+    count: u8,
+) -> Result<Quiet, NoMemory>
+    ensures { IfOk result
+        (λ effect. HasDone (pops (evaluates program.now property count)) core.old effect core.new) }
+{
+    match core.frames.pop() {
+        Some(value) => evaluate(alloc, program, core, value, property, count),
+        None => Ok(Quiet::Stop(CodeWhy::Underflow)),
+    }
+}
+
+/// The property that is the topmost operand, of the next one.
+pub(crate) fn evaluate_by_pointer(
+    alloc: Global,
+    program: &Program,
+    core: &mut Core,
+    count: u8,
+) -> Result<Quiet, NoMemory>
+    ensures { IfOk result (λ effect. HasDone
+        (pops (by_property (λ p. pops (evaluates program.now p count)))) core.old effect core.new) }
+{
+    match core.frames.pop() {
+        Some(Holder::Prop(property)) => evaluate_popped(alloc, program, core, property, count),
+        Some(_) => Ok(Quiet::Fault(Fault::Kind)),
+        None => Ok(Quiet::Stop(CodeWhy::Underflow)),
+    }
+}
+
+/// Of self.
+pub(crate) fn evaluate_self(
+    alloc: Global,
+    program: &Program,
+    core: &mut Core,
+    property: u16,
+    count: u8,
+) -> Result<Quiet, NoMemory>
+    ensures { IfOk result (λ effect. HasDone (λ context. evaluates program.now property count
+        context.frame.this context) core.old effect core.new) }
+{
+    let this = core.frames.this();
+    evaluate(alloc, program, core, this, property, count)
+}
+
+/// The property that is the topmost operand, of self.
+pub(crate) fn evaluate_self_by_pointer(
+    alloc: Global,
+    program: &Program,
+    core: &mut Core,
+    count: u8,
+) -> Result<Quiet, NoMemory>
+    ensures { IfOk result (λ effect. HasDone (λ context. pops
+        (by_property (λ p. evaluates program.now p count context.frame.this)) context) core.old effect
+        core.new) }
+{
+    let this = core.frames.this();
+    match core.frames.pop() {
+        Some(Holder::Prop(property)) => evaluate(alloc, program, core, this, property, count),
+        Some(_) => Ok(Quiet::Fault(Fault::Kind)),
+        None => Ok(Quiet::Stop(CodeWhy::Underflow)),
+    }
+}
+
+/// Of an object.
+fn evaluate_object(
+    alloc: Global,
+    program: &Program,
+    core: &mut Core,
+    number: u32,
+    property: u16,
+    count: u8,
+) -> Result<Quiet, NoMemory>
+    ensures { IfOk result (λ effect. HasDone
+        (λ context. of_object program.now property count number (value_at context.store number) context)
+        core.old effect core.new) }
+{
+    match find_property(alloc, &core.store, number, property)? {
+        Some(found) => Ok(give_found(core, found.value, count)),
+        None => Ok(ask_object(program, core, number, property, count)),
+    }
+}
+
+/// Of an object for which the property isn't found.
+#[cold]
+#[inline(never)]
+fn ask_object(program: &Program, core: &mut Core, number: u32, property: u16, count: u8) -> Quiet
+    ensures { HasDone (λ context. asks_object program.now property count (value_at context.store number)
+        context) core.old result core.new }
+{
+    match core.store.kind(number) {
+        Some(kind) => ask(program, core, property, count, kind),
+        None => Quiet::Fault(Fault::Stale),
+    }
+}
+
+/// What comes of a value that was found for a property.
+pub(crate) fn give_found(core: &mut Core, value: Holder, count: u8) -> Quiet
+    ensures { HasDone (found_action value count) core.old result core.new }
+{
+    match value {
+        Holder::Code(_) => Quiet::Stop(CodeWhy::Unbuilt),
+        Holder::Shown(_) if count == 0 => Quiet::Fault(Fault::NoSay),
+        _ if count == 0 => answer(core, value, 0),
+        _ => Quiet::Fault(Fault::ArgCount),
+    }
+}
+
+/// Asks the methods of a kind.
+fn ask(program: &Program, core: &mut Core, property: u16, count: u8, kind: Kind) -> Quiet
+    ensures { HasDone (asks program.now property count kind) core.old result core.new }
+{
+    match method_of(program.kinds.0.as_slice(), property, metaclasses_of(kind)) {
+        Some((metaclass, index)) if is_method(metaclass, index) => Quiet::Stop(CodeWhy::Unbuilt),
+        Some(_) => Quiet::Fault(Fault::NoMethod),
+        None => answer(core, Holder::Nil, u16::from(count)),
+    }
+}
+
+/// Drops the topmost operands, so many, and answers a value.
+pub(crate) fn answer(core: &mut Core, value: Holder, count: u16) -> Quiet
+    ensures { HasDone (answers value count) core.old result core.new }
+{
+    core.frames.drop_operands(count);
+    core.register = value;
+    Quiet::Next
+}

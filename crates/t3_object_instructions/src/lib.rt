@@ -1,0 +1,34 @@
+//! What one instruction does to objects: evaluating and setting properties, elements and entries, inheriting,
+//! creating, throwing and built-in functions; and how a property is found in an object's superclasses.
+//!
+//! ```text
+//! let effect = call(alloc, &program, &mut core, CallCode::Getprop(4))?;   // Quiet::Next
+//! core.register;                                                         // the property's value
+//! ```
+//!
+//! Each is defined as an action on what an instruction sees, as are those of `t3_frame_instructions`.
+#![tactic(auto)]
+
+mod builtin;
+mod calling;
+mod create;
+mod effect;
+mod evaluate;
+mod exceptions;
+mod inherit;
+mod item;
+mod laws;
+mod making;
+mod methods;
+mod search;
+mod set;
+mod symbols;
+mod values;
+mod variables;
+
+pub use calling::call;
+pub use effect::MakeEffect;
+pub use exceptions::exception;
+pub use laws::search_order;
+pub use making::make;
+pub use variables::local;
