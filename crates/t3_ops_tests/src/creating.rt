@@ -319,7 +319,15 @@ fn new_vectors(rt: HostRuntime) -> Result<(), Fail> {
     let pools = pools(alloc)?;
     let mut store = store(alloc)?;
     let unlike = first_unlike_vector(alloc, &mut store, &pools, &VECTOR_ROWS)?;
-    assert_eq!(rt; unlike, None);
+    assert!(rt; unlike.is_none());
+    Ok(())
+}
+
+#[test]
+fn vectors_of_65535_elements(rt: HostRuntime) -> Result<(), Fail> {
+    let alloc = rt.alloc();
+    let pools = pools(alloc)?;
+    let mut store = store(alloc)?;
     let long = long_vectors(alloc, &mut store, &pools)?;
     assert_eq!(rt; long, (Some(65_535), Some(65_535), Some(NIL)));
     Ok(())
