@@ -69,11 +69,11 @@ const MAKES: [Row; 17] = [
     ("new1 0 1", "[unhandled object=10 fault=16]\n"),
     ("push_1 / trnew1 1 2", "[unhandled object=10 fault=16]\n"),
     ("new2 0 4", "[unhandled object=10 fault=16]\n"),
-    // A string is not built yet, whatever it is made of.
-    ("new1 0 3", "[bad code at=10 why=Unbuilt]\n"),
+    // A string is made of one argument.
+    ("new1 0 3", "[unhandled object=10 fault=2]\n"),
     (
         "push_1 / push_1 / trnew2 2 3",
-        "[bad code at=12 why=Unbuilt]\n",
+        "[unhandled object=10 fault=2]\n",
     ),
     ("new1 1 0", "[bad code at=10 why=Underflow]\n"),
 ];
