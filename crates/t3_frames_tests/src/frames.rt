@@ -100,16 +100,23 @@ fn holds_as_many_values_as_it_may(rt: HostRuntime) -> Result<(), Fail> {
     Ok(())
 }
 
+/// Pushes the value where there is place.
+fn push(frames: &mut Frames, value: Holder) {
+    if !frames.is_full() {
+        frames.push(value);
+    }
+}
+
 #[test]
 fn turns_operands_over(rt: HostRuntime) -> Result<(), Fail> {
     let mut frames = Frames::new(rt.alloc())?;
     frames.begin(0, 1);
-    for number in 1..4 {
-        frames.push(Holder::Int(number));
-    }
+    push(&mut frames, Holder::Int(1));
+    push(&mut frames, Holder::Int(2));
+    push(&mut frames, Holder::Int(3));
     frames.turn_operands(2);
     assert_eq!(rt; frames.pop_two(), Some((Holder::Int(2), Holder::Int(3))));
-    frames.push(Holder::Nil);
+    push(&mut frames, Holder::Nil);
     // As many as there are.
     frames.turn_operands(9);
     assert_eq!(rt; frames.pop(), Some(Holder::Int(1)));
