@@ -52,6 +52,11 @@ const KINDS: [MetaKind; 4] = [
 
 const SETS: [SetKind; 3] = [SetKind::Vm, SetKind::Io, SetKind::Gen];
 
+/// Whether these are the function sets of a program.
+fn has_sets(program: &Program, sets: &[SetKind]) -> bool {
+    program.sets.0.as_slice() == sets
+}
+
 #[test]
 fn lists_over_blocks_are_one(rt: HostRuntime) -> Result<(), Fail> {
     let program = many_tables(rt.alloc())?;
@@ -59,7 +64,7 @@ fn lists_over_blocks_are_one(rt: HostRuntime) -> Result<(), Fail> {
         return Err(Fail::from("other properties"));
     };
     assert_eq!(rt; kinds.as_slice(), KINDS.as_slice());
-    assert_eq!(rt; program.sets.0.as_slice(), SETS.as_slice());
+    assert!(rt; has_sets(&program, &SETS));
     Ok(())
 }
 
