@@ -12,8 +12,8 @@ use Rattle.t3_interp.specs.declared.event.End.{End}
 use Rattle.t3_interp.specs.declared.event.End.TheVariants.{Returned, Unhandled, BadCode, StoreFull}
 use Rattle.t3_ops.specs.declared.fault.Fault.{Fault}
 use Rattle.t3_ops.specs.Faults.{fault_number}
-use Rattle.t3_interp.specs.declared.event.CodeWhy.{CodeWhy}
-use Rattle.t3_interp.specs.declared.event.CodeWhy.TheVariants as why
+use Rattle.t3_frame_instructions.specs.declared.effect.CodeWhy.{CodeWhy}
+use Rattle.t3_frame_instructions.specs.declared.effect.CodeWhy.TheVariants as why
 use Rattle.t3_image_read.specs.declared.refusal.ReadWhy.TheVariants.{Signature, Version, TooLong, TooMany, UnknownMandatory, Malformed, EofSize, Truncated}
 
 -- a line ends in a newline

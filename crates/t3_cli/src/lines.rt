@@ -5,8 +5,9 @@ ghost use Rattle.t3_cli.specs.Lines.{absent_line, refused_line, ok_line, put_lin
 
 use std::alloc::{AllocError, Global};
 use t3_asm::AsmWhy;
+use t3_frame_instructions::CodeWhy;
 use t3_image_read::ReadWhy;
-use t3_interp::{CodeWhy, End};
+use t3_interp::End;
 use t3_load::LoadRefusal;
 use t3_ops::Fault;
 use t3_pools::PoolRefusal;
