@@ -4,3 +4,4 @@ pub mod Rendering
 pub mod Lines
 pub mod Pages
 pub mod Shown
+pub mod Output

@@ -130,7 +130,7 @@ says page taken piece out_old out_new column word has put_is after_is =
       };
     }
 
-rendered : (page : PageValue) (taken : List ℕ) → HasTaken page taken → shown page.width taken ++ put page.width page.column page.word
+pub rendered : (page : PageValue) (taken : List ℕ) → HasTaken page taken → shown page.width taken ++ put page.width page.column page.word
     ≡ rendering page.width taken
 rendered page taken has =
     let width = page.width in

@@ -1,3 +1,4 @@
 pub mod Rendering
 pub mod Page
+pub mod Output
 pub mod Inner

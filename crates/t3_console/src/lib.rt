@@ -8,7 +8,9 @@
 //! ```
 #![tactic(auto)]
 
+mod laws;
 mod page;
 mod words;
 
+pub use laws::one_rendering;
 pub use page::Page;

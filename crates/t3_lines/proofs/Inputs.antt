@@ -1,4 +1,4 @@
--- The input of which a reader has taken the first bytes, from call to call.
+-- Other crates may use these: the input of which a reader has taken the first bytes, from call to call.
 use Rattle.std.proofs.Common.{◌≡◌, ◌-◌, Bool, true, false, ◌||◌, Option, Some, List, ℕ, [], ◌∷◌, ◌++◌, length, refl, sym, ap, ◌∙◌, subst, append_assoc, arith}
 use Rattle.std.proofs.lemmas.List.{length-append}
 use Rattle.std.specs.List.{list_any, concat, AllByRecursion}

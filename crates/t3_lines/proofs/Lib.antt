@@ -3,4 +3,4 @@ mod Pieces
 mod Cutting
 mod TakenPieces
 mod Sounding
-mod Inputs
+pub mod Inputs
