@@ -65,6 +65,7 @@ pub stage-place_of : (place : Place) (pools : PoolSizes) (keyword : Keyword) (ar
     → (place_of place pools keyword arguments).stage ≡ place.stage
 stage-place_of place pools of.Page arguments = refl
 stage-place_of place pools of.Method arguments = refl
+stage-place_of place pools of.MethodOptional arguments = refl
 stage-place_of place pools keyword arguments = refl
 
 -- lines that were read

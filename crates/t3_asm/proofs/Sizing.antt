@@ -43,16 +43,19 @@ length-numbers labels item keyword =
 length-method : (labels : Labels) (item : Item) → length (method_text labels item) ≡ 10
 length-method labels item =
     let p = number_at item.arguments 0 in
+    let o = number_at item.arguments 4 in
     let l = number_at item.arguments 1 in
     let d = number_at item.arguments 2 in
     let x = value_in labels item.place.method 0 Place (slice_get item.arguments 3) in
     omega (
       arith,
-      length-append (little_endian 1 p) (0 ∷ [] ++ (little_endian 2 l ++ (little_endian 2 d ++ (little_endian 2 x ++ 0 ∷ 0 ∷ [])))),
+      length-append (little_endian 1 p) (little_endian 1 o ++ (little_endian 2 l ++ (little_endian 2 d ++ (little_endian 2 x ++ 0 ∷ 0 ∷ [])))),
+      length-append (little_endian 1 o) (little_endian 2 l ++ (little_endian 2 d ++ (little_endian 2 x ++ 0 ∷ 0 ∷ []))),
       length-append (little_endian 2 l) (little_endian 2 d ++ (little_endian 2 x ++ 0 ∷ 0 ∷ [])),
       length-append (little_endian 2 d) (little_endian 2 x ++ 0 ∷ 0 ∷ []),
       length-append (little_endian 2 x) (0 ∷ 0 ∷ []),
       length-little_endian 1 p,
+      length-little_endian 1 o,
       length-little_endian 2 l,
       length-little_endian 2 d,
       length-little_endian 2 x,
@@ -73,6 +76,7 @@ length-content_by labels item of.U2 is = numbers_size labels item of.U2 is
 length-content_by labels item of.U4 is = numbers_size labels item of.U4 is
 length-content_by labels item of.Hold is = numbers_size labels item of.Hold is
 length-content_by labels item of.Method is = length-method labels item
+length-content_by labels item of.MethodOptional is = length-method labels item
 length-content_by labels item of.Table is = numbers_size labels item of.Table is
 length-content_by labels item of.Handler is = numbers_size labels item of.Handler is
 length-content_by labels item of.Case is = numbers_size labels item of.Case is

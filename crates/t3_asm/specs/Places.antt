@@ -67,6 +67,7 @@ method_place place = record {
 abbrev pub place_of : Place → PoolSizes → Keyword → List Argument → Place
 place_of place pools of.Page arguments = page_place place (get pools (short_at arguments 0)) (number_at arguments 1)
 place_of place pools of.Method arguments = method_place place
+place_of place pools of.MethodOptional arguments = method_place place
 place_of place pools keyword arguments = place
 
 -- the newest of some lines

@@ -32,6 +32,7 @@ content_size of.U2 arguments = 2
 content_size of.U4 arguments = 4
 content_size of.Hold arguments = 5
 content_size of.Method arguments = 10
+content_size of.MethodOptional arguments = 10
 content_size of.Table arguments = 2
 content_size of.Handler arguments = 10
 content_size of.Case arguments = 7

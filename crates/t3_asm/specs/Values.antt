@@ -57,15 +57,17 @@ abbrev pub numbers_text : Labels → Item → List ℕ
 numbers_text labels item =
     fields_text labels item.place.method (item.place.address + lead_size item.keyword) (fields_of item.keyword) item.arguments
 
--- a method's header: its parameters, 0, its locals, its stack, its table, and 0 twice
-abbrev pub header_text : ℕ → ℕ → ℕ → ℕ → List ℕ
-header_text parameters locals stack table =
+-- a method's header: its parameters, its optional ones, its locals, its stack, its table, and 0 twice
+abbrev pub header_text : (parameters optional locals stack table : ℕ) → List ℕ
+header_text parameters optional locals stack table =
     little_endian 1 parameters
-    ++ (0 ∷ [] ++ (little_endian 2 locals ++ (little_endian 2 stack ++ (little_endian 2 table ++ 0 ∷ 0 ∷ []))))
+    ++ (little_endian 1 optional
+    ++ (little_endian 2 locals ++ (little_endian 2 stack ++ (little_endian 2 table ++ 0 ∷ 0 ∷ []))))
 
+-- the header that a line says; its optional parameters come last there, and are 0 where the line doesn't have them
 abbrev pub method_text : Labels → Item → List ℕ
 method_text labels item =
-    header_text (number_at item.arguments 0) (number_at item.arguments 1) (number_at item.arguments 2)
+    header_text (number_at item.arguments 0) (number_at item.arguments 4) (number_at item.arguments 1) (number_at item.arguments 2)
     (value_in labels item.place.method 0 Place (slice_get item.arguments 3))
 
 abbrev pub content_by : Labels → Item → Keyword → List ℕ
@@ -76,6 +78,7 @@ content_by labels item of.U2 = numbers_text labels item
 content_by labels item of.U4 = numbers_text labels item
 content_by labels item of.Hold = numbers_text labels item
 content_by labels item of.Method = method_text labels item
+content_by labels item of.MethodOptional = method_text labels item
 content_by labels item of.Table = numbers_text labels item
 content_by labels item of.Handler = numbers_text labels item
 content_by labels item of.Case = numbers_text labels item

@@ -14,7 +14,7 @@ use crate::item::Item;
 use crate::labels::Labels;
 use crate::level::Level;
 use crate::sizes::{content_size, width_of};
-use crate::values::{Spot, value_in};
+use crate::values::{Origin, value_in};
 use std::alloc::Global;
 use t3_asm_line::{Argument, Field, Keyword};
 use t3_holder::{Bytes, NoMemory};
@@ -81,6 +81,7 @@ fn append_content(labels: &Labels, item: &Item, out: &mut Vec<u8>) -> Result<(),
         Keyword::U4 => append_numbers(labels, item, out),
         Keyword::Hold => append_numbers(labels, item, out),
         Keyword::Method => append_method(labels, item, out),
+        Keyword::MethodOptional => append_method(labels, item, out),
         Keyword::Table => append_numbers(labels, item, out),
         Keyword::Handler => append_numbers(labels, item, out),
         Keyword::Case => append_numbers(labels, item, out),
@@ -107,13 +108,14 @@ fn append_method(labels: &Labels, item: &Item, out: &mut Vec<u8>) -> Result<(), 
     ensures { IfOk result (λ _. out.new.items ≡ out.old.items ++ method_text labels.now item.now) }
 {
     let arguments = &item.arguments.0;
-    let spot = Spot {
+    let origin = Origin {
         method: item.place.method,
         address: 0,
     };
-    let table = value_in(labels, spot, Field::Offset, arguments.get(3));
+    let table = value_in(labels, origin, Field::Offset, arguments.get(3));
     append_header(
         u128::from(number_at(arguments, 0)),
+        u128::from(number_at(arguments, 4)),
         u128::from(number_at(arguments, 1)),
         u128::from(number_at(arguments, 2)),
         table,
@@ -124,16 +126,17 @@ fn append_method(labels: &Labels, item: &Item, out: &mut Vec<u8>) -> Result<(), 
 /// Appends a header of these numbers.
 fn append_header(
     parameters: u128,
+    optional: u128,
     locals: u128,
     stack: u128,
     table: u128,
     out: &mut Vec<u8>,
 ) -> Result<(), NoMemory>
     ensures { IfOk result (λ _. out.new.items
-        ≡ out.old.items ++ header_text parameters locals stack table) }
+        ≡ out.old.items ++ header_text parameters optional locals stack table) }
 {
     append_number(1, parameters, out)?;
-    append_bytes(&[0], out)?;
+    append_number(1, optional, out)?;
     append_number(2, locals, out)?;
     append_number(2, stack, out)?;
     append_number(2, table, out)?;
@@ -145,25 +148,25 @@ fn append_numbers(labels: &Labels, item: &Item, out: &mut Vec<u8>) -> Result<(),
     requires { IsNear item.now }
     ensures { IfOk result (λ _. out.new.items ≡ out.old.items ++ numbers_text labels.now item.now) }
 {
-    append_fields(labels, item.spot(), item.keyword, &item.arguments.0, out)
+    append_fields(labels, item.origin(), item.keyword, &item.arguments.0, out)
 }
 
 /// Appends the numbers in fields that begin here.
 fn append_fields(
     labels: &Labels,
-    spot: Spot,
+    origin: Origin,
     keyword: Keyword,
     arguments: &[Argument],
     out: &mut Vec<u8>,
 ) -> Result<(), NoMemory>
-    requires { spot.address ≤ 2 ^ 113 }
+    requires { origin.address ≤ 2 ^ 113 }
     ensures { IfOk result (λ _. out.new.items ≡ out.old.items
-        ++ fields_text labels.now spot.method spot.address (fields_of keyword) arguments.now) }
+        ++ fields_text labels.now origin.method origin.address (fields_of keyword) arguments.now) }
 {
-    let mut address = spot.address;
+    let mut address = origin.address;
     for at in 0..keyword.field_count() {
         let field = keyword.field(at);
-        let own = Spot { address, ..spot };
+        let own = Origin { address, ..origin };
         let value = value_in(labels, own, field, arguments.get(at));
         append_number(width_of(field), value, out)?;
         address += u128::from(width_of(field));

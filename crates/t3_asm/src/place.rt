@@ -71,7 +71,7 @@ impl Place {
             Keyword::Page => {
                 self.of_page(pools.size(short_at(arguments, 0)), number_at(arguments, 1))
             }
-            Keyword::Method => self.of_method(),
+            Keyword::Method | Keyword::MethodOptional => self.of_method(),
             _ => self,
         }
     }

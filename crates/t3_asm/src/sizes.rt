@@ -41,7 +41,7 @@ pub(crate) fn content_size(keyword: Keyword, arguments: &[Argument]) -> u128
         Keyword::U2 => 2,
         Keyword::U4 => 4,
         Keyword::Hold => 5,
-        Keyword::Method => 10,
+        Keyword::Method | Keyword::MethodOptional => 10,
         Keyword::Table => 2,
         Keyword::Handler => 10,
         Keyword::Case => 7,

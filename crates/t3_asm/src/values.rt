@@ -22,9 +22,9 @@ pub enum Rule {
     Wide,
 }
 
-/// Where a field stands.
+/// From where labels are counted in a field.
 #[derive(Clone, Copy)]
-pub struct Spot {
+pub struct Origin {
     /// The address of the newest method.
     pub(crate) method: Option<u128>,
     /// The field's own address.
@@ -39,16 +39,16 @@ fn address(labels: &Labels, label: &[u8]) -> u128
 }
 
 /// The number that an argument says in a field.
-pub(crate) fn value_of(labels: &Labels, spot: Spot, field: Field, argument: &Argument) -> u128
-    ensures { result ≡ value_by labels.now spot.method spot.address field argument.now }
+pub(crate) fn value_of(labels: &Labels, origin: Origin, field: Field, argument: &Argument) -> u128
+    ensures { result ≡ value_by labels.now origin.method origin.address field argument.now }
 {
     match argument {
         Argument::Number(number) => u128::from(*number),
         Argument::Address(label) => {
-            address_value(field, spot.address, address(labels, &label.0))
+            address_value(field, origin.address, address(labels, &label.0))
         }
         Argument::Offset(label) => {
-            address(labels, &label.0).saturating_sub(spot.method.unwrap_or(0))
+            address(labels, &label.0).saturating_sub(origin.method.unwrap_or(0))
         }
         Argument::Text(_) => 0,
     }
@@ -57,15 +57,15 @@ pub(crate) fn value_of(labels: &Labels, spot: Spot, field: Field, argument: &Arg
 /// The same, or 0 where there is no argument.
 pub(crate) fn value_in(
     labels: &Labels,
-    spot: Spot,
+    origin: Origin,
     field: Field,
     argument: Option<&Argument>,
 ) -> u128
-    ensures { result ≡ value_said labels.now spot.method spot.address field
+    ensures { result ≡ value_said labels.now origin.method origin.address field
         (option_copied argument.entry) }
 {
     match argument {
-        Some(argument) => value_of(labels, spot, field, argument),
+        Some(argument) => value_of(labels, origin, field, argument),
         None => 0,
     }
 }
@@ -74,11 +74,11 @@ pub(crate) fn value_in(
 pub(crate) fn long_at(labels: &Labels, arguments: &[Argument], at: usize) -> u32
     ensures { result ≡ long_in_field labels.now arguments.now at }
 {
-    let spot = Spot {
+    let origin = Origin {
         method: None,
         address: 0,
     };
-    (value_in(labels, spot, Field::Value, arguments.get(at)) % 4294967296) as u32
+    (value_in(labels, origin, Field::Value, arguments.get(at)) % 4294967296) as u32
 }
 
 /// What stands in a field for an address.
@@ -115,12 +115,12 @@ pub(crate) fn lead_size(keyword: Keyword) -> u128
 
 impl Item {
     /// Where its fields begin.
-    pub(crate) fn spot(&self) -> Spot
+    pub(crate) fn origin(&self) -> Origin
         requires { IsNear self.now }
         ensures address { result.address ≡ self.now.place.address + lead_of self.now.keyword }
         ensures method { result.method ≡ self.now.place.method }
     {
-        Spot {
+        Origin {
             method: self.place.method,
             address: self.place.address + lead_size(self.keyword),
         }
@@ -131,7 +131,7 @@ impl Item {
         requires { IsNear self.now }
         ensures { result ≡ breaks_in_line rule labels.now self.now }
     {
-        some_breaks(rule, labels, self.spot(), self.keyword, &self.arguments.0)
+        some_breaks(rule, labels, self.origin(), self.keyword, &self.arguments.0)
     }
 }
 
@@ -139,18 +139,18 @@ impl Item {
 fn some_breaks(
     rule: Rule,
     labels: &Labels,
-    spot: Spot,
+    origin: Origin,
     keyword: Keyword,
     arguments: &[Argument],
 ) -> bool
-    requires { spot.address ≤ 2 ^ 113 }
-    ensures { result ≡ breaks_in_fields rule labels.now spot.method spot.address
+    requires { origin.address ≤ 2 ^ 113 }
+    ensures { result ≡ breaks_in_fields rule labels.now origin.method origin.address
         (fields_of keyword) arguments.now }
 {
-    let mut address = spot.address;
+    let mut address = origin.address;
     for at in 0..keyword.field_count().min(arguments.len()) {
         let field = keyword.field(at);
-        let own = Spot { address, ..spot };
+        let own = Origin { address, ..origin };
         if breaks(rule, labels, own, field, &arguments[at]) {
             return true;
         }
@@ -160,13 +160,13 @@ fn some_breaks(
 }
 
 /// Whether an argument breaks a rule in a field.
-fn breaks(rule: Rule, labels: &Labels, spot: Spot, field: Field, argument: &Argument) -> bool
-    ensures { result ≡ breaks_rule rule labels.now spot.method spot.address field argument.now }
+fn breaks(rule: Rule, labels: &Labels, origin: Origin, field: Field, argument: &Argument) -> bool
+    ensures { result ≡ breaks_rule rule labels.now origin.method origin.address field argument.now }
 {
     match rule {
         Rule::Missing => is_missing(labels, argument),
-        Rule::Far => is_far_jump(labels, spot, field, argument),
-        Rule::Wide => is_wide(labels, spot, field, argument),
+        Rule::Far => is_far_jump(labels, origin, field, argument),
+        Rule::Wide => is_wide(labels, origin, field, argument),
     }
 }
 
@@ -183,11 +183,14 @@ fn is_missing(labels: &Labels, argument: &Argument) -> bool
 }
 
 /// Whether it is a jump to a label that is too far.
-fn is_far_jump(labels: &Labels, spot: Spot, field: Field, argument: &Argument) -> bool
-    ensures { result ≡ jumps_too_far labels.now spot.address field argument.now }
+fn is_far_jump(labels: &Labels, origin: Origin, field: Field, argument: &Argument) -> bool
+    ensures { result ≡ jumps_too_far labels.now origin.address field argument.now }
 {
     match (field, argument) {
-        (Field::Jump, Argument::Address(label)) => is_far(spot.address, address(labels, &label.0)),
+        (Field::Jump, Argument::Address(label)) => is_far(
+            origin.address,
+            address(labels, &label.0),
+        ),
         _ => false,
     }
 }
@@ -200,14 +203,14 @@ fn is_far(own: u128, address: u128) -> bool
 }
 
 /// Whether it is an address or a place in a method that its field doesn't hold.
-fn is_wide(labels: &Labels, spot: Spot, field: Field, argument: &Argument) -> bool
-    ensures { result ≡ too_wide labels.now spot.method field argument.now }
+fn is_wide(labels: &Labels, origin: Origin, field: Field, argument: &Argument) -> bool
+    ensures { result ≡ too_wide labels.now origin.method field argument.now }
 {
     match argument {
         Argument::Number(_) => false,
         Argument::Address(label) => is_wide_address(field, address(labels, &label.0)),
         Argument::Offset(label) => {
-            is_wide_offset(spot.method.unwrap_or(0), address(labels, &label.0))
+            is_wide_offset(origin.method.unwrap_or(0), address(labels, &label.0))
         }
         Argument::Text(_) => false,
     }

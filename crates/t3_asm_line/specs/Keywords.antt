@@ -45,6 +45,7 @@ row_of of.U4 = row (codes "u4") (Address ∷ [])
 row_of of.Text = row (codes "text") (fields.Text ∷ [])
 row_of of.Hold = row (codes "hold") (Ubyte ∷ Value ∷ [])
 row_of of.Method = row (codes "method") (Ubyte ∷ Uint2 ∷ Uint2 ∷ Offset ∷ [])
+row_of of.MethodOptional = row (codes "method") (Ubyte ∷ Uint2 ∷ Uint2 ∷ Offset ∷ Ubyte ∷ [])
 row_of of.Table = row (codes "table") (Uint2 ∷ [])
 row_of of.Handler = row (codes "handler") (Offset ∷ Offset ∷ Uint4 ∷ Offset ∷ [])
 row_of of.Case = row (codes "case") (Ubyte ∷ Value ∷ Jump ∷ [])
@@ -56,7 +57,7 @@ row_of (of.Instruction opcode) = row_at (instr_at opcode)
 abbrev pub keywords : List Keyword
 keywords = of.Image ∷ of.ImageHead ∷ of.Block ∷ of.End ∷ of.Entry ∷ of.Pool ∷ of.Page ∷ of.Objects ∷ of.Object
     ∷ of.Metaclass ∷ of.Prop ∷ of.PropBytes ∷ of.FunctionSet ∷ of.Symbol ∷ of.Bytes ∷ of.U1 ∷ of.U2 ∷ of.U4 ∷ of.Text
-    ∷ of.Hold ∷ of.Method ∷ of.Table ∷ of.Handler ∷ of.Case ∷ of.Default ∷ []
+    ∷ of.Hold ∷ of.Method ∷ of.MethodOptional ∷ of.Table ∷ of.Handler ∷ of.Case ∷ of.Default ∷ []
 
 abbrev pub name_of : Keyword → List ℕ
 name_of keyword = (row_of keyword).name

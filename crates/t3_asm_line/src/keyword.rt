@@ -8,8 +8,8 @@ use crate::field::Field;
 use crate::instruction::{opcode, operand_field};
 use t3_methods::{Kind, shape_of};
 
-/// What a line begins with, and so which fields follow. `image` and `prop` have a keyword for each
-/// number of fields.
+/// What a line begins with, and so which fields follow. `image`, `prop` and `method` have a keyword for
+/// each number of fields.
 #[derive(Clone, Copy, Debug, PartialEq, Eq, Hash)]
 pub enum Keyword {
     /// `image`
@@ -54,6 +54,8 @@ pub enum Keyword {
     Hold,
     /// `method P L D X`
     Method,
+    /// `method P L D X O`
+    MethodOptional,
     /// `table N`
     Table,
     /// `handler A B CLASS H`
@@ -120,7 +122,7 @@ const ENTRY: [Field; 8] = [
 ];
 
 /// The keywords that begin a line by their name.
-const KEYWORDS: [Keyword; 25] = [
+const KEYWORDS: [Keyword; 26] = [
     Keyword::Image,
     Keyword::ImageHead,
     Keyword::Block,
@@ -142,6 +144,7 @@ const KEYWORDS: [Keyword; 25] = [
     Keyword::Text,
     Keyword::Hold,
     Keyword::Method,
+    Keyword::MethodOptional,
     Keyword::Table,
     Keyword::Handler,
     Keyword::Case,
@@ -206,6 +209,7 @@ impl Keyword {
             Keyword::Text => begins(b"text", &[Field::Text]),
             Keyword::Hold => begins(b"hold", &[Ubyte, Value]),
             Keyword::Method => begins(b"method", &[Ubyte, Uint2, Uint2, Offset]),
+            Keyword::MethodOptional => begins(b"method", &[Ubyte, Uint2, Uint2, Offset, Ubyte]),
             Keyword::Table => begins(b"table", &[Uint2]),
             Keyword::Handler => begins(b"handler", &[Offset, Offset, Uint4, Offset]),
             Keyword::Case => begins(b"case", &[Ubyte, Value, Jump]),

@@ -300,7 +300,11 @@ fn reads_each_line_of_a_method(rt: HostRuntime) -> Result<(), Fail> {
         &[
             (b"method 255 65535 4 ~t", "Method 255 65535 4 ~74"),
             (b"method 0 0 4 0", "Method 0 0 4 0"),
-            (b"method 0 0 4 0 0", "Word"),
+            (b"method 1 0 4 0 255", "MethodOptional 1 0 4 0 255"),
+            (b"method 1 0 4 0 256", "Range"),
+            (b"method 1 0 4 0 ~t", "Number"),
+            (b"method 0 0 4", "Word"),
+            (b"method 0 0 4 0 0 0", "Word"),
             (b"method 0 0 4 @t", "Number"),
             (b"method 256 0 4 0", "Range"),
             (b"table 65535", "Table 65535"),

@@ -1,7 +1,7 @@
 -- Values on one stack, from the topmost on, as those of frames.
 use Rattle.std.proofs.Common.{◌≡◌, ℕ, zero, suc, ◌+◌, ◌-◌, ◌<◌, ◌≤◌, min, List, [], ◌∷◌, ◌++◌, reverse, length, take, drop, set, replicate, get_or, append_assoc, append-nil, Option, Some, None, IsSome, refl, sym, ap, ◌∙◌, arith}
 use Rattle.std.specs.Option.{option_to_list}
-use Rattle.std.proofs.lemmas.List.{reverse-append, length-append, length-reverse, length-take, length-drop, length-replicate, set_split, set-get_or, take-append-drop, take-set-le, drop-set-lt, drop-set-add, take_all, drop_all, drop_at, get_or-reverse, get_or-take, get_or-drop}
+use Rattle.std.proofs.lemmas.List.{reverse-append, length-append, length-reverse, length-take, length-drop, set_split, set-get_or, take-append-drop, take-set-le, drop-set-lt, drop-set-add, take_all, drop_all, drop_at, get_or-reverse, get_or-take, get_or-drop}
 use Rattle.std.proofs.lemmas.Option.{slice_get-get_or}
 use Rattle.std.specs.List.{slice_get}
 use Rattle.std.proofs.Math.Seq.{take-set-lt, take-append_seam, take-append-add, drop-append-add, set-append_seam}
@@ -10,7 +10,7 @@ use Rattle.t3_holder.specs.declared.holder.Holder.{Holder}
 use Rattle.t3_holder.specs.declared.holder.Holder.TheVariants.{Nil}
 use Rattle.t3_frames.specs.declared.mark.FrameMark.{FrameMark}
 use Rattle.t3_frames.specs.declared.mark.OlderMark.{OlderMark}
-use Rattle.t3_frames.specs.Frame.{FramesValue, values_of, all_values, values, of_newest, with_operands, turned, with_local, with_argument, begun, Pops, HasTop}
+use Rattle.t3_frames.specs.Frame.{FramesValue, values_of, all_values, values, of_newest, with_operands, turned, with_local, with_argument, Pops, HasTop}
 use Rattle.t3_frames.specs.Inner.Marks.{count_of, counts, frame_of, below, older_of, frames_of}
 
 -- ---- a stack turned over
@@ -86,6 +86,23 @@ values-frames_of tops o base newest older counted all =
     let is : length tops ≡ count_of o newest + counts older = omega (arith, counted, all) in
     let first = frame_counted tops o newest (counts older) is in
     omega (arith, is, first.0, older_counted (below tops o newest) older first.1)
+
+length-older_of : (tops : List Holder) (marks : List OlderMark) → length (older_of tops marks) ≡ length marks
+length-older_of tops [] = refl
+length-older_of tops (older ∷ others) = ap suc (length-older_of (below tops older.operands older.mark) others)
+
+-- of frames as contracts see them: how many are older, and how many values they hold
+pub counted_view : (items : List Holder) (o base : ℕ) (mark : FrameMark) (marks : List OlderMark) (frames : FramesValue)
+    → base ≡ mark.locals + mark.arguments + counts (reverse marks) → length items ≡ o + base
+    → frames_of (reverse items) o mark (reverse marks) ≡ frames
+    → (length frames.older ≡ length marks) × (values frames ≡ length items)
+counted_view items o base mark marks frames counted sum view =
+    let tops = reverse items in
+    let all : length tops ≡ o + base = length-reverse items ∙ sum in
+    let held = values-frames_of tops o base mark (reverse marks) counted all in (
+      ap (λ (f : FramesValue). length f.older) (sym view) ∙ length-older_of (below tops o mark) (reverse marks) ∙ length-reverse marks,
+      ap values (sym view) ∙ held ∙ length-reverse items,
+    )
 
 -- ---- operands
 
@@ -211,7 +228,7 @@ sets_argument tops o mark older n v less =
 
 -- ---- dropping operands
 
-drop-drop : (m n : ℕ) (xs : List Holder) → drop m (drop n xs) ≡ drop (n + m) xs
+pub drop-drop : (m n : ℕ) (xs : List Holder) → drop m (drop n xs) ≡ drop (n + m) xs
 drop-drop m zero xs = let none : m ≡ 0 + m = omega arith in ap (λ n. drop n xs) none
 drop-drop m (suc n) [] = drop_all m [] (omega arith) ∙ sym (drop_all (suc n + m) [] (omega arith))
 drop-drop m (suc n) (x ∷ xs) =
@@ -302,17 +319,3 @@ turns xs ys i k m o count mark older sum same is few le =
           };
       older = older_of (drop mark.arguments (drop mark.locals (behind j))) older;
     })
-
--- ---- the first frame
-
-pub begins : (method locals o : ℕ) (items cleared : List Holder) (older : List OlderMark) (mark : FrameMark)
-    → items ≡ cleared ++ replicate locals Nil → cleared ≡ [] → older ≡ [] → o ≡ 0
-    → mark ≡ record { method = method; place = method + 10; next = method + 10; arguments = 0; locals = locals; this = Nil; defining = 0; gives = None }
-    → frames_of (reverse items) o mark (reverse older) ≡ record { newest = begun method locals; older = [] }
-begins method locals o items cleared older mark is empty none no_operands same =
-    let tops : reverse items ≡ replicate locals Nil = ap reverse (is ∙ ap (λ (t : List Holder). t ++ replicate locals Nil) empty)
-    ∙ reverse-replicate locals in
-    let all : take locals (replicate locals Nil) ≡ replicate locals Nil = take_all locals (replicate locals Nil) (omega
-    (arith, length-replicate locals Nil)) in
-    (λ i. frames_of (tops i) (no_operands i) (same i) (reverse (none i)))
-    ∙ (λ i. record { newest = record (begun method locals) { locals = all i }; older = [] })

@@ -1,11 +1,14 @@
 //! Frames as contracts see them, over one stack of values.
 ghost use Rattle.std.specs.Prelude.{◌≡◌, ◌+◌, ◌≤◌, ◌<◌, ◌^◌, [], ◌∷◌, length, reverse, take, drop, IfOk, IsSome, nat_le};
 ghost use Rattle.std.specs.List.{slice_get};
-ghost use Rattle.t3_holder.specs.declared.holder.Holder.TheVariants.{Nil};
-ghost use Rattle.t3_frames.specs.Frame.{values, value_limit, room, of_newest, begun, goes_to, carries_out, with_operands, turned, with_local, with_argument, Pops, PopsTwo, HasTop};
+ghost use Rattle.std.specs.Option.{option_to_list};
+ghost use Rattle.t3_frames.specs.Frame.{values, value_limit, frame_limit, room, has_room, function, called, enters, of_newest, with_operands, turned, with_local, with_argument, HasLeft, Pops, PopsTwo, HasTop};
 
+mod newest;
+
+use crate::call::Call;
 use crate::mark::{FrameMark, OlderMark};
-use crate::stack::push_nils;
+use crate::stack::{count_of, push_nils, push_nils_below, push_some};
 use std::alloc::Global;
 use std::marker::Model;
 use t3_holder::{Holder, NoMemory};
@@ -13,8 +16,11 @@ use t3_holder::{Holder, NoMemory};
 /// How many values the frames hold at most: arguments, locals and operands, counted together.
 pub const VALUE_LIMIT: usize = 65_536;
 
-/// How many values there is room for: one more, since an argument that is laid on top is counted before
-/// its call is tested.
+/// How many frames there are at most.
+pub const FRAME_LIMIT: usize = 4_096;
+
+/// How many values there is room for: one more, so that a frame whose operands were dropped can always
+/// be given one.
 const ROOM: usize = VALUE_LIMIT + 1;
 
 /// The frames of a run, the newest of which is carried out.
@@ -42,33 +48,93 @@ impl Model for Frames {
         (reverse f.older.items) };
 
     ghost invariant = { λ f. IsStack (reverse f.values.items) f.base f.newest
-        (reverse f.older.items) (vec_capacity f.values) };
+        (reverse f.older.items) (vec_capacity f.values) (vec_capacity f.older) };
 }
 
 impl Frames {
-    /// A frame of nothing. All the room for values is taken here.
+    /// A frame of nothing. All the room for values and for frames is taken here.
     pub fn new(alloc: Global) -> Result<Frames, NoMemory>
-        ensures { IfOk result (λ frames. frames ≡ record { newest = begun 0 0; older = [] }) }
+        ensures { IfOk result (λ frames. frames ≡ record {
+          newest = called (function 0 0) 0 0 [];
+          older = [];
+        }) }
     {
         Ok(Frames {
             values: Vec::with_capacity(alloc, ROOM)?,
             base: 0,
-            newest: FrameMark::begun(0, 0),
-            older: Vec::new(alloc),
+            newest: FrameMark::called(Call::function(0, 0), 0, 0, 0),
+            older: Vec::with_capacity(alloc, FRAME_LIMIT)?,
         })
     }
 
-    /// Begins a method that gets no arguments, at its first instruction, which stands below 2^31: its frame is the only one, and
-    /// its locals are nil.
-    pub fn begin(&mut self, method: u32, locals: u16)
-        requires { method + 10 < 2 ^ 31 }
-        ensures { self.new ≡ record { newest = begun method locals; older = [] } }
+    /// Begins a function, at its first instruction, which stands below 2^31: its frame is the only one.
+    /// It gets the argument, if there is one, and nil for each that is missing; its locals are nil.
+    pub fn begin(&mut self, method: u32, locals: u16, argument: Option<Holder>, missing: u16)
+        requires method { method + 10 < 2 ^ 31 }
+        requires room { length (option_to_list argument) + missing + locals < room }
+        ensures { self.new ≡ record {
+          newest = called (function method 0) locals missing (option_to_list argument);
+          older = [];
+        } }
     {
         self.older.clear();
-        self.newest = FrameMark::begun(method, locals);
         self.values.clear();
+        push_nils(&mut self.values, missing);
+        push_some(&mut self.values, argument);
+        let function = Call::function(method, 0);
+        self.newest = FrameMark::called(function, count_of(argument), missing, locals);
         push_nils(&mut self.values, locals);
-        self.base = usize::from(locals);
+        self.base = self.values.len();
+    }
+
+    /// Whether a method with so many locals may be called: one frame more is within the limit, and so
+    /// are its locals and one value, where the frames hold `more` values besides. Those are its
+    /// arguments that are no operands: what is laid, and the missing ones.
+    #[inline(always)]
+    pub fn has_room(&self, more: u16, locals: u16) -> bool
+        ensures { result ≡ has_room (length self.now.older + 1) (values self.now + more) locals }
+    {
+        self.older.len() + 1 < FRAME_LIMIT
+            && self.values.len() + usize::from(more) + usize::from(locals) < VALUE_LIMIT
+    }
+
+    /// Calls a method that has so many locals, and whose first instruction stands below 2^31. Its
+    /// arguments leave the operands, as many as there are at most, and each that is missing is nil. Only
+    /// where some are missing is a value moved. It takes no memory.
+    pub fn enter(&mut self, call: Call, locals: u16, missing: u16)
+        requires method { call.method + 10 < 2 ^ 31 }
+        requires frames { length self.old.older + 1 < frame_limit }
+        requires room { values self.old + length (option_to_list call.laid) + missing + locals
+            < room }
+        ensures { self.new ≡ enters call locals missing self.old }
+    {
+        let operands = self.values.len() - self.base;
+        let arguments = usize::from(call.count).min(operands);
+        self.older.push_reserved(OlderMark {
+            mark: self.newest,
+            operands: operands - arguments,
+        });
+        push_nils_below(&mut self.values, arguments, missing);
+        push_some(&mut self.values, call.laid);
+        let given = count_of(call.laid) + arguments;
+        self.newest = FrameMark::called(call, given, missing, locals);
+        push_nils(&mut self.values, locals);
+        self.base = self.values.len();
+    }
+
+    /// Takes the newest frame away with its values, and answers whether it had a caller, which is then
+    /// the newest. Without one nothing changes.
+    pub fn leave(&mut self) -> bool
+        ensures { HasLeft self.old result self.new }
+    {
+        let Some(caller) = self.older.pop() else {
+            return false;
+        };
+        let left = self.base - self.newest.locals - self.newest.arguments;
+        self.values.truncate(left);
+        self.base = left - caller.operands;
+        self.newest = caller.mark;
+        true
     }
 
     /// Whether the frames hold as many values as they may.
@@ -150,6 +216,14 @@ impl Frames {
         self.values.truncate(self.values.len() - dropped);
     }
 
+    /// Drops all operands.
+    pub fn clear_operands(&mut self)
+        ensures cleared { self.new ≡ of_newest (with_operands []) self.old }
+        ensures room { values self.new < room }
+    {
+        self.values.truncate(self.base);
+    }
+
     /// Turns the topmost operands over, so many, or as many as there are: the topmost goes below the others. It
     /// takes no memory.
     pub fn turn_operands(&mut self, count: u16)
@@ -208,89 +282,5 @@ impl Frames {
         if usize::from(n) < self.newest.arguments {
             self.values[self.base - 1 - (self.newest.locals + usize::from(n))] = value;
         }
-    }
-
-    /// How many locals the frame has.
-    #[inline(always)]
-    pub fn locals(&self) -> usize
-        ensures { result ≡ length self.now.newest.locals }
-    {
-        self.newest.locals
-    }
-
-    /// How many arguments the frame has.
-    #[inline(always)]
-    pub fn arguments(&self) -> usize
-        ensures count { result ≡ length self.now.newest.arguments }
-        ensures few { result ≤ room }
-    {
-        self.newest.arguments
-    }
-
-    /// The address of the method, below 2^31.
-    #[inline(always)]
-    pub fn method(&self) -> u32
-        ensures address { result ≡ self.now.newest.method }
-        ensures within { result < 2 ^ 31 }
-    {
-        self.newest.method
-    }
-
-    /// The address of the instruction that is carried out.
-    #[inline(always)]
-    pub fn place(&self) -> u32
-        ensures { result ≡ self.now.newest.place }
-    {
-        self.newest.place
-    }
-
-    /// The address behind that instruction, while it is carried out.
-    #[inline(always)]
-    pub fn next(&self) -> u32
-        ensures { result ≡ self.now.newest.next }
-    {
-        self.newest.next
-    }
-
-    /// Self: nil in a function.
-    #[inline(always)]
-    pub fn this(&self) -> Holder
-        ensures { result ≡ self.now.newest.this }
-    {
-        self.newest.this
-    }
-
-    /// The object that defines the method, or 0 in a function.
-    #[inline(always)]
-    pub fn defining(&self) -> u32
-        ensures { result ≡ self.now.newest.defining }
-    {
-        self.newest.defining
-    }
-
-    /// Begins to carry out the instruction at the frame's place, which has so many bytes.
-    #[inline(always)]
-    pub fn carry_out(&mut self, size: u32)
-        requires { self.old.newest.place + size < 2 ^ 32 }
-        ensures { self.new ≡ of_newest (carries_out size) self.old }
-    {
-        self.newest.next = self.newest.place + size;
-    }
-
-    /// Goes on behind the instruction that is carried out.
-    #[inline(always)]
-    pub fn go_on(&mut self)
-        ensures { self.new ≡ of_newest (goes_to self.old.newest.next) self.old }
-    {
-        self.newest.place = self.newest.next;
-    }
-
-    /// Goes to an instruction.
-    #[inline(always)]
-    pub fn go_to(&mut self, address: u32)
-        ensures { self.new ≡ of_newest (goes_to address) self.old }
-    {
-        self.newest.place = address;
-        self.newest.next = address;
     }
 }

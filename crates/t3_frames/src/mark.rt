@@ -1,3 +1,4 @@
+use crate::call::Call;
 use t3_holder::Holder;
 
 /// What of a frame is no value, and how many arguments and locals it has.
@@ -7,6 +8,8 @@ pub(crate) struct FrameMark {
     pub(crate) place: u32,
     pub(crate) next: u32,
     pub(crate) arguments: usize,
+    /// How many of the arguments were given. The missing ones come after them.
+    pub(crate) given: usize,
     pub(crate) locals: usize,
     pub(crate) this: Holder,
     pub(crate) defining: u32,
@@ -21,32 +24,26 @@ pub(crate) struct OlderMark {
 }
 
 impl FrameMark {
-    ghost use Rattle.std.specs.Prelude.{◌≡◌, ◌+◌, ◌<◌, ◌^◌, None};
-    ghost use Rattle.t3_holder.specs.declared.holder.Holder.TheVariants.{Nil};
+    ghost use Rattle.std.specs.Prelude.{◌≡◌, ◌+◌, ◌≤◌, ◌<◌, ◌^◌};
+    ghost use Rattle.t3_frames.specs.Frame.{room};
+    ghost use Rattle.t3_frames.specs.Inner.Marks.{called_mark};
 
-    /// A function at the first instruction behind a header of ten bytes, with so many locals.
-    pub(crate) fn begun(method: u32, locals: u16) -> FrameMark
-        requires { method + 10 < 2 ^ 32 }
-        ensures { result ≡ record {
-          method = method;
-          place = method + 10;
-          next = method + 10;
-          arguments = 0;
-          locals = locals;
-          this = Nil;
-          defining = 0;
-          gives = None;
-        } }
+    /// A method that is called, at the first instruction after its header of ten bytes.
+    pub(crate) fn called(call: Call, given: usize, missing: u16, locals: u16) -> FrameMark
+        requires method { call.method + 10 < 2 ^ 32 }
+        requires few { given ≤ room }
+        ensures { result ≡ called_mark call given missing locals }
     {
         FrameMark {
-            method,
-            place: method + 10,
-            next: method + 10,
-            arguments: 0,
+            method: call.method,
+            place: call.method + 10,
+            next: call.method + 10,
+            arguments: given + usize::from(missing),
+            given,
             locals: usize::from(locals),
-            this: Holder::Nil,
-            defining: 0,
-            gives: None,
+            this: call.this,
+            defining: call.defining,
+            gives: call.gives,
         }
     }
 }

@@ -71,7 +71,7 @@ fn does_the_same(frames: &mut Frames, plain: &mut Plain, number: u32) -> Result<
 fn does_as_lists_do(rt: HostRuntime) -> Result<(), Fail> {
     let alloc = rt.alloc();
     let mut frames = Frames::new(alloc)?;
-    frames.begin(100, 3);
+    frames.begin(100, 3, None, 0);
     let mut plain = Plain {
         locals: vec![in alloc; Holder::Nil; 3]?,
         operands: Vec::new(alloc),
@@ -87,7 +87,7 @@ fn does_as_lists_do(rt: HostRuntime) -> Result<(), Fail> {
 #[test]
 fn holds_as_many_values_as_it_may(rt: HostRuntime) -> Result<(), Fail> {
     let mut frames = Frames::new(rt.alloc())?;
-    frames.begin(0, 65_535);
+    frames.begin(0, 65_535, None, 0);
     assert!(rt; !frames.is_full());
     frames.push(Holder::True);
     assert!(rt; frames.is_full());
@@ -110,7 +110,7 @@ fn push(frames: &mut Frames, value: Holder) {
 #[test]
 fn turns_operands_over(rt: HostRuntime) -> Result<(), Fail> {
     let mut frames = Frames::new(rt.alloc())?;
-    frames.begin(0, 1);
+    frames.begin(0, 1, None, 0);
     push(&mut frames, Holder::Int(1));
     push(&mut frames, Holder::Int(2));
     push(&mut frames, Holder::Int(3));
@@ -128,7 +128,7 @@ fn turns_operands_over(rt: HostRuntime) -> Result<(), Fail> {
 #[test]
 fn goes_from_place_to_place(rt: HostRuntime) -> Result<(), Fail> {
     let mut frames = Frames::new(rt.alloc())?;
-    frames.begin(100, 0);
+    frames.begin(100, 0, None, 0);
     frames.carry_out(5);
     assert_eq!(rt;
         (frames.method(), frames.place(), frames.next()),

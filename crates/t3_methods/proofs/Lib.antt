@@ -9,6 +9,7 @@ pub mod Ending
 pub mod MethodHeaders
 pub mod Decoding
 pub mod Tables
+pub mod Handlers
 pub mod Deciding
 pub mod Lookup
 pub mod Shapes

@@ -1,13 +1,15 @@
 -- What a window shows of code: the numbers in it stand there, and behind its bytes none does.
 use Rattle.std.proofs.Common.{◌≡◌, ℕ, zero, suc, ◌+◌, ◌-◌, ◌^◌, ◌<◌, ◌≤◌, List, [], ◌∷◌, ◌++◌, length, take, drop, Some, None, sym, ap, ◌∙◌, subst, arith}
-use Rattle.std.proofs.lemmas.List.{take-append-drop, length-take-le, length-drop}
+use Rattle.std.proofs.lemmas.List.{take-append-drop, length-take-le, length-drop, drop-take, take-take}
 use Rattle.std.specs.FinMap.{get}
 use Rattle.t3_holder.specs.NumberText.{little_endian, value_of, AreBytes}
 use Rattle.t3_holder.proofs.Numbers.{little_endian-value_of, value_fits}
 use Rattle.t3_blocks.proofs.Lists.{AreBytes-take, AreBytes-drop}
 use Rattle.t3_pools.specs.Pool.{Pool, HasBytes}
-use Rattle.t3_pools.proofs.Standing.{stands_right, stands_take}
-use Rattle.t3_methods.specs.Inner.Window.{Shows, IsWhole, number_at}
+use Rattle.t3_pools.specs.Constants.{bytes_in}
+use Rattle.t3_pools.proofs.Standing.{stands_right, stands_take, bytes_in-stands, bytes_in-gap}
+use Rattle.t3_methods.specs.MethodHeader.{number_from}
+use Rattle.t3_methods.specs.Inner.Window.{Shows, ShowsAll, IsWhole, number_at}
 use Rattle.t3_methods.proofs.Windows.{number_at-there}
 
 -- a byte of them that isn't there
@@ -58,9 +60,34 @@ number_stands code address place width bytes shows le =
     (part code address place width bytes shows le)
 
 -- so many bytes that aren't all there
-pub short : (code : Pool) (address place width : ℕ) (bytes text : List ℕ) → IsWhole code address bytes → place + width ≤ 10 → place ≤ length bytes
+pub short : (code : Pool) (address place width : ℕ) (bytes text : List ℕ) → IsWhole code address bytes → place + width ≤ 10
+    → place ≤ length bytes
     → length bytes < place + width → length text ≡ width → ¬ HasBytes code (address + place) text
 short code address place width bytes text whole room behind less long has =
     let k : ℕ = length bytes - place in
     let there : (address + place) + k ≡ address + length bytes = omega arith in
     not_there code (address + place) k text (omega arith) (ap (get code) there ∙ whole (omega arith)) has
+
+-- ---- ten bytes, as a header or an entry of an exception table has them
+
+-- where a window has ten they are the pool's
+pub ten_shown : (code : Pool) (at : ℕ) (bytes : List ℕ) → Shows code at bytes → 10 ≤ length bytes
+    → bytes_in 10 code at ≡ Some (take 10 bytes)
+ten_shown code at bytes shows le =
+    let long : 10 ≡ length (take 10 bytes) = sym (length-take-le 10 bytes le) in
+    ap (λ n. bytes_in n code at) long ∙ bytes_in-stands code (take 10 bytes) at (stands_take code bytes at 10 shows.stands)
+
+-- where a window has fewer the pool hasn't ten
+pub ten_short : (code : Pool) (at : ℕ) (bytes : List ℕ) → ShowsAll code at bytes → length bytes < 10 → bytes_in 10 code at ≡ None
+ten_short code at bytes shows less = bytes_in-gap code 10 at (length bytes) less (shows.whole less)
+
+-- the number in a part of them is the window's
+pub number_from-ten : (bytes : List ℕ) (offset width n : ℕ) → offset + width ≤ 10 → 10 ≤ length bytes → n ≡ number_at width bytes offset
+    → n ≡ number_from (take 10 bytes) offset width
+number_from-ten bytes offset width n within le is =
+    let ten : offset + (10 - offset) ≡ 10 = omega (arith, within) in
+    let rest : drop offset (take 10 bytes) ≡ take (10 - offset) (drop offset bytes) =
+    ap (λ m. drop offset (take m bytes)) (sym ten) ∙ drop-take offset (10 - offset) bytes in
+    let part : take width (drop offset (take 10 bytes)) ≡ take width (drop offset bytes) =
+    ap (take width) rest ∙ take-take width (10 - offset) (drop offset bytes) (omega (arith, within)) in
+    is ∙ number_at-there width bytes offset (omega (arith, within, le)) ∙ ap value_of (sym part)

@@ -1,6 +1,6 @@
 //! Which handler catches what is thrown at a place of a method.
-ghost use Rattle.std.specs.Prelude.{◌≡◌, ◌+◌, ◌^◌, ◌<◌, IfSome};
-ghost use Rattle.t3_methods.specs.ExceptionTable.{FindsHandler, catches};
+ghost use Rattle.std.specs.Prelude.{◌≡◌, ◌+◌, ◌^◌, ◌<◌, IfOk, IfSome, option_map};
+ghost use Rattle.t3_methods.specs.ExceptionTable.{FindsHandler, catches, entry_in, table_in, handler_among, handler_of};
 ghost use Rattle.t3_methods.specs.Inner.Tables.{ReadsEntry, ReadsTable, earlier_of, entry_of};
 
 use crate::header::header_at;
@@ -33,7 +33,9 @@ pub fn handler_in(
     place: u32,
     matches: &[u32],
 ) -> Result<Option<u16>, CodeRefusal>
-    ensures { FindsHandler pools.now.code method place matches.now result }
+    ensures finds { FindsHandler pools.now.code method place matches.now result }
+    ensures is { result ≡ handler_of pools.now.code method place matches.now }
+    ensures within { IfOk result (λ _. method + 10 < 2 ^ 31) }
 {
     let header = match header_at(pools, method) {
         Ok(header) => header,
@@ -60,7 +62,9 @@ fn handler_by(
 ) -> Option<Option<u16>>
     requires table { table < 2 ^ 31 + 2 ^ 16 }
     requires method { method < 2 ^ 31 }
-    ensures { ReadsTable pools.now.code table method place classes.now result }
+    ensures reads { ReadsTable pools.now.code table method place classes.now result }
+    ensures is { result
+        ≡ option_map (handler_among method place classes.now) (table_in pools.now.code table) }
 {
     let mut room = [0; WINDOW_SIZE];
     let window = Window::at(pools, table, &mut room);
@@ -113,6 +117,7 @@ impl TableEntry {
 /// The entry at an address. `None` where it isn't whole.
 fn entry_at(pools: &Pools, at: u32) -> Option<TableEntry>
     ensures reads { ReadsEntry pools.now.code at result }
+    ensures is { option_map entry_of result ≡ entry_in pools.now.code at }
     ensures bounded { IfSome result (λ _. at + 10 < 2 ^ 31) }
 {
     let mut room = [0; WINDOW_SIZE];

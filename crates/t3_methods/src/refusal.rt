@@ -13,7 +13,7 @@ pub enum CodeRefusal {
     /// case of a switch means nothing.
     #[error("an operand is bad")]
     Operand,
-    /// Fewer than ten bytes of a method header are there, or its second isn't 0.
+    /// Fewer than ten bytes of a method header are there.
     #[error("no method header stands there")]
     Header,
     /// The exception table that a method header names isn't whole.

@@ -1,7 +1,10 @@
-//! Tests of `t3_methods`: instructions, method headers and handlers in small pages of code.
+//! Tests of `t3_methods` and `t3_except`: instructions, method headers and handlers in small pages of code, and
+//! which of several methods catches.
 #![tactic(auto)]
 
 #[cfg(test)]
 mod code;
+#[cfg(test)]
+mod covering;
 #[cfg(test)]
 mod rows;

@@ -7,5 +7,5 @@ pub returns : goal.returns
 returns c =
     let fields = fields_of c.args.keyword in
     let ended : min (length fields) (length c.args.arguments.now) ≤ c.loop-at.at = omega arith in
-    sym (some_breaks-end c.args.rule c.args.labels.now c.args.spot.method c.loop-at.address fields c.args.arguments.now c.loop-at.at ended)
+    sym (some_breaks-end c.args.rule c.args.labels.now c.args.origin.method c.loop-at.address fields c.args.arguments.now c.loop-at.at ended)
     ∙ c.loop-at.invariant.0
