@@ -1,5 +1,5 @@
 -- What is left where an object was to be made.
-use Rattle.std.proofs.Common.{◌≡◌, ◌+◌, ◌≤◌, [], Option, Some, None, Result, Ok, Err, refl, sym, ap, subst, ◌∙◌, arith}
+use Rattle.std.proofs.Common.{◌≡◌, ◌+◌, ◌≤◌, ◌<◌, [], Option, Some, None, Result, Ok, Err, refl, sym, ap, subst, ◌∙◌, arith}
 use Rattle.t3_holder.specs.declared.holder.Holder.{Holder}
 use Rattle.t3_frames.specs.Frame.{FramesValue, all_values}
 use Rattle.t3_store.specs.Store.{StoreValue}
@@ -69,6 +69,7 @@ made-full (Ok what) store is = by (made_in what store) is
 pub record KeepsFrames (old new : Core) : Type 0 where
   pub frames : new.frames ≡ old.frames
   pub register : new.register ≡ old.register
+  pub say : new.say ≡ old.say
   pub writes : new.store.writes ≡ old.store.writes
   pub savepoints : new.store.savepoints ≡ old.store.savepoints
 
@@ -80,6 +81,7 @@ seen old new keeps =
       others = all_values (keeps.frames i).older;
       register = keeps.register i;
       store = new.store.store;
+      say = keeps.say i;
     }
 
 -- the same where the objects haven't changed either
@@ -143,7 +145,7 @@ carried-ok action wanted act old between new value effect is carried keeps rest 
 -- an action is done by what it comes to then, where there were few writes
 pub stored : (action act : Context → Action) (old between new : Core) (effect : Effect)
     → action (context_of old) ≡ act (context_of between) → between.frames.older ≡ old.frames.older → HasAction act between effect new
-    → new.store.writes ≤ old.store.writes + 131072 → new.store.savepoints ≤ old.store.savepoints + 1 → HasAction action old effect new
+    → new.store.writes < old.store.writes + 131072 → new.store.savepoints ≤ old.store.savepoints + 1 → HasAction action old effect new
 stored action act old between new effect is older rest writes savepoints = record {
   asks = ap (λ (a : Action). a.0) is ∙ rest.asks;
   leaves = subst (λ (w : Context). Leaves effect w (context_of new)) (sym (ap (λ (a : Action). a.1) is)) rest.leaves;

@@ -106,7 +106,7 @@ fn add_values(
     if let (Holder::Int(left), Holder::Int(right)) = (left, right) {
         return Ok(add_numbers(pools, core, left, right));
     }
-    add_others(alloc, pools, core, left, right)
+    Ok(add_others(alloc, pools, core, left, right)?)
 }
 
 /// Puts the sum of two integers on top.

@@ -31,8 +31,12 @@ pub enum Quiet {
     Next,
     /// To go on at an address, or at what is none.
     Jump(Option<u32>),
+    /// To call the method that [`crate::Core`] says.
+    Call,
     /// To return. The register has been set.
     Return,
+    /// To be given a line of input, by which the instruction is finished.
+    WantLine,
     /// To make the exception of a fault, and throw it.
     Fault(Fault),
     /// To end the run, since nothing can be carried out at the frame's place.

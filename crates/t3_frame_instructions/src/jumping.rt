@@ -36,7 +36,7 @@ pub fn jump(
     ensures { IfOk result (λ effect. HasDone (jump_action pools.now code) core.old effect core.new) }
 {
     match code {
-        JumpCode::Switch { count, at } => switch(alloc, pools, core, at, count),
+        JumpCode::Switch { count, at } => Ok(switch(alloc, pools, core, at, count)?),
         JumpCode::Jmp(distance) => Ok(Quiet::Jump(target(core, distance))),
         JumpCode::Jt(distance) => Ok(jump_if(core, true, distance)),
         JumpCode::Jf(distance) => Ok(jump_if(core, false, distance)),

@@ -1,5 +1,5 @@
-//! What one instruction does to the method that it stands in: pushing, computing, comparing, jumping, and
-//! the variables of a method. Objects are only compared, added and made here, by the operations on values.
+//! What one instruction does to the method that it stands in: pushing, computing, comparing, jumping,
+//! calling, and the variables of a method. Objects are only compared, added and made here, by the operations on values.
 //!
 //! ```text
 //! let effect = math(alloc, &pools, &mut core, MathCode::Add)?;   // Quiet::Next
@@ -8,8 +8,13 @@
 //!
 //! An instruction changes a [`Core`] and answers an effect, which says how the run goes on. What it does is
 //! defined as an action on what it sees, and [`Core`] keeps the frames of its callers out of its sight.
+//!
+//! What integers want is inlined into the loop of a run, and what may want memory stands apart from it. What that
+//! answers is taken out and made anew, `Ok(others(..)?)`: handed on as it is, it would lie in memory, and with it
+//! each effect in the loop.
 #![tactic(auto)]
 
+mod calling;
 mod computing;
 mod context;
 mod effect;
@@ -19,6 +24,7 @@ mod pushing;
 mod relation;
 mod variables;
 
+pub use calling::ask_for_call;
 pub use computing::{give, math, put};
 pub use context::Core;
 pub use effect::{CodeWhy, Quiet};

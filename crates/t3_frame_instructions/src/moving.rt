@@ -1,5 +1,5 @@
 //! The stack, and what the frame has.
-ghost use Rattle.std.specs.Prelude.{pos, length};
+ghost use Rattle.std.specs.Prelude.{pos};
 ghost use Rattle.std.specs.List.{slice_get};
 ghost use Rattle.t3_holder.specs.declared.holder.Holder.TheVariants.{Int};
 ghost use Rattle.t3_frame_instructions.specs.declared.effect.CodeWhy.TheVariants.{Local, Argument};
@@ -67,13 +67,12 @@ fn push_this(core: &mut Core) -> Quiet
     push_value(core, value)
 }
 
-/// Pushes how many arguments the method has.
+/// Pushes how many arguments the method was given.
 #[inline(always)]
 fn push_count(core: &mut Core) -> Quiet
-    ensures { HasDone (λ context. pushes (Int (pos (length context.frame.arguments))) context) core.old result
-        core.new }
+    ensures { HasDone (λ context. pushes (Int (pos context.frame.given)) context) core.old result core.new }
 {
-    let count = core.frames.arguments() as i32;
+    let count = core.frames.given() as i32;
     push_value(core, Holder::Int(count))
 }
 

@@ -53,7 +53,7 @@ pub(crate) fn related(
     if let (Holder::Int(left), Holder::Int(right)) = (left, right) {
         return Ok(related_numbers(relation, left, right));
     }
-    related_others(alloc, relation, left, right, store, pools)
+    Ok(related_others(alloc, relation, left, right, store, pools)?)
 }
 
 /// The same of any values. It stands apart from the loop of a run, since it may want memory.

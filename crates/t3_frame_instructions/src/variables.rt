@@ -79,7 +79,7 @@ fn become_sum(
     if let (Holder::Int(left), Holder::Int(right)) = (left, right) {
         return Ok(become_sum_of_numbers(pools, core, n, left, right));
     }
-    become_sum_of_others(alloc, pools, core, n, left, right)
+    Ok(become_sum_of_others(alloc, pools, core, n, left, right)?)
 }
 
 /// Sets a local to the sum of two integers.

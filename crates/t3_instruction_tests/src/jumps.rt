@@ -174,9 +174,9 @@ const CALLS_FUNCTIONS: [Row; 13] = [
     // What is missing is told first.
     ("builtin_b 1 0", "[bad code at=10 why=Underflow]\n"),
     ("builtin1 1 4 0", "[bad code at=10 why=Underflow]\n"),
-    ("builtin1 0 4 0", "[bad code at=10 why=Unbuilt]\n"),
-    // A call is not built yet.
-    ("call 0 0", "[bad code at=10 why=Unbuilt]\n"),
+    ("builtin1 0 4 0", "[bad code at=14 why=NoByte]\n"),
+    // The entry method calls itself, until there is room for no frame more.
+    ("call 0 0", "[unhandled object=1 fault=9]\n"),
     ("push_1 / retval", ""),
     ("retval", "[bad code at=10 why=Underflow]\n"),
     ("rettrue", ""),

@@ -1,5 +1,6 @@
 pub mod Machine
 pub mod Instructions
 pub mod Step
-pub mod Run
+pub mod Catching
+pub mod Wanting
 pub mod Inner

@@ -31,7 +31,8 @@ pub(crate) fn act(
     ensures told { IfOk result (Tells running.new) }
 {
     // What comes of an effect is settled beside the instructions of its kind, so that the compiler knows it
-    // where there is but one.
+    // where there is but one. What `act_call` and `act_make` answer is made anew, so that the loop tests once what
+    // came of a step.
     match instr {
         Instr::Push(code) => {
             let effect = push(&mut running.core, *code);
@@ -41,7 +42,7 @@ pub(crate) fn act(
             let effect = math(alloc, &program.pools, &mut running.core, *code)?;
             running.settle(alloc, program, effect)
         }
-        Instr::Call(code) => act_call(alloc, program, running, code),
+        Instr::Call(code) => Ok(act_call(alloc, program, running, code)?),
         Instr::Stack(code) => {
             let effect = stack(&mut running.core, *code);
             running.settle(alloc, program, effect)
@@ -50,7 +51,7 @@ pub(crate) fn act(
             let effect = jump(alloc, &program.pools, &mut running.core, *code)?;
             running.settle(alloc, program, effect)
         }
-        Instr::Make(code) => act_make(alloc, program, running, code),
+        Instr::Make(code) => Ok(act_make(alloc, program, running, code)?),
         Instr::Local(code) => {
             let effect = local(alloc, &program.pools, &mut running.core, *code)?;
             running.settle(alloc, program, effect)

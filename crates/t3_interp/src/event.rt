@@ -1,4 +1,4 @@
-//! What steps do, and how a run ends.
+//! What steps do, what they want, and how a run ends.
 use t3_frame_instructions::CodeWhy;
 use t3_holder::Bytes;
 use t3_ops::Fault;
@@ -24,6 +24,8 @@ pub enum Event {
     Went,
     /// It said a text, which may be empty.
     Said(Bytes),
+    /// It wants a line of input, by which its instruction is finished.
+    WantLine,
     /// It ended the run.
     Ended(End),
 }
@@ -33,13 +35,19 @@ pub enum Event {
 pub enum Want {
     /// To make a step.
     Go,
+    /// A line of input, or to be told that none is left.
+    Line,
     /// Nothing: the run has ended.
     Nothing,
 }
 
 /// What a machine is given.
-#[derive(Clone, Copy, Debug, PartialEq, Eq)]
+#[derive(Debug, Drop)]
 pub enum Input {
     /// To make a step.
     Go,
+    /// A line of input, which is UTF-8, without its newline.
+    Line(Bytes),
+    /// That no line of input is left.
+    EndOfInput,
 }

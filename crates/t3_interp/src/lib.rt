@@ -11,14 +11,17 @@
 //! ```
 //!
 //! [`Machine::go`] makes many steps in one call. What a step is is defined in `specs/`, apart from the code;
-//! what a single instruction does, in `t3_frame_instructions` and `t3_object_instructions`. So far there is
-//! one frame: no method is called, no savepoint is made, and no line of input is taken; an instruction that
-//! would do so stops the run by `Unbuilt`.
+//! what a single instruction does, in `t3_frame_instructions` and `t3_object_instructions`. An instruction
+//! that wants a line of input waits until it is given one. So far no method of a metaclass is called, and no
+//! savepoint is made; an instruction that would do so stops the run by `Unbuilt`.
 #![tactic(auto)]
 
 mod act;
+mod answer;
 mod decode_cache;
 mod event;
+mod header;
+mod laws;
 mod machine;
 #[cfg(test)]
 mod machine_tests;
@@ -28,6 +31,7 @@ mod step;
 mod superinstruction;
 
 pub use event::{End, Event, Input, Want};
+pub use laws::one_cover;
 pub use machine::Machine;
 pub use t3_frame_instructions::CodeWhy;
 pub use t3_object_instructions::search_order;

@@ -3,7 +3,7 @@ ghost use Rattle.std.specs.Prelude.{◌≡◌, ◌+◌, ◌<◌, ◌≤◌, ◌^
 ghost use Rattle.t3_interp.specs.declared.event.Event.TheVariants.{Went};
 ghost use Rattle.t3_interp.specs.declared.event.Want.TheVariants.{Go};
 ghost use Rattle.t3_interp.specs.Machine.{initial};
-ghost use Rattle.t3_interp.specs.Step.{Steps, Goes, state_of};
+ghost use Rattle.t3_interp.specs.Step.{StepsBy, IsWanted, Goes, state_of};
 ghost use Rattle.t3_interp.specs.Inner.Acting.{IsBetweenSteps};
 
 use crate::decode_cache::DecodeCache;
@@ -12,7 +12,7 @@ use crate::running::{Running, Stage};
 use std::alloc::Global;
 use std::marker::Model;
 use t3_frame_instructions::Core;
-use t3_frames::Frames;
+use t3_frames::{Call, Frames};
 use t3_holder::{Holder, NoMemory};
 use t3_load::Program;
 use t3_store::Store;
@@ -85,6 +85,7 @@ impl Machine {
     {
         match self.whole.running.stage {
             Stage::Entry | Stage::Method => Want::Go,
+            Stage::Line => Want::Line,
             Stage::Over => Want::Nothing,
         }
     }
@@ -96,25 +97,26 @@ impl Machine {
         self.whole.running.steps
     }
 
-    /// Makes a step: calls the entry method at first, and then carries out an instruction. The run may not
-    /// have ended, and fewer than 2^40 steps were made. Want of memory takes the machine with it.
+    /// Moves on by what the machine wants, which has to be what it is given. `Go` makes a step: it calls the
+    /// entry method at first, and then carries out an instruction. A line, or that none is left, finishes the
+    /// instruction that waits, which isn't counted as a step again. Fewer than 2^40 steps were made. Want of
+    /// memory takes the machine with it.
     pub fn step(mut self, input: Input) -> Result<(Machine, Event), NoMemory>
-        requires wants { self.state.wants ≡ Go }
+        requires wants { IsWanted self.state.wants input }
         requires few { self.state.steps < 2 ^ 40 }
         ensures program { IfOk result (λ stepped. stepped.0.program ≡ self.program) }
-        ensures step { IfOk result (λ stepped. Steps self.program self.state
+        ensures step { IfOk result (λ stepped. StepsBy self.program input self.state
             (record { state = stepped.0.state; event = stepped.1 })) }
     {
-        let Input::Go = input;
         let whole = &mut *self.whole;
         whole
             .running
-            .step(whole.alloc, &whole.program, &mut whole.cache)?;
+            .take(whole.alloc, &whole.program, &mut whole.cache, input)?;
         let event = whole.running.take_event();
         Ok((self, event))
     }
 
-    /// Makes steps up to the first that says a text, be it empty, or ends the run, and `most` at most. Gives how
+    /// Makes steps up to the first that says a text, be it empty, wants a line or ends the run, and `most` at most. Gives how
     /// many were made, and what the last did. The run may not have ended, and as many steps as may be made here don't take
     /// it past 2^40. Want of memory takes the machine with it.
     pub fn go(mut self, most: u32) -> Result<(Machine, u32, Event), NoMemory>
@@ -148,6 +150,8 @@ fn begin(alloc: Global, program: &Program) -> Result<Running, NoMemory>
             frames: Frames::new(alloc)?,
             register: Holder::Nil,
             store,
+            say: None,
+            call: Call::function(0, 0),
         },
         stage: Stage::Entry,
         steps: 0,

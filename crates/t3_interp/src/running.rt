@@ -13,6 +13,8 @@ pub(crate) enum Stage {
     Entry,
     /// A method is carried out.
     Method,
+    /// The newest method's instruction waits for a line of input.
+    Line,
     /// The run has ended.
     Over,
 }

@@ -1,4 +1,4 @@
--- What an image may have that the machine can't do yet: an entry method that takes arguments or has an exception table.
+-- What an image may have that the machine can't do yet: an entry method that may take arguments or has an exception table.
 use Rattle.std.specs.Prelude.{ℕ, ◌+◌, ◌&&◌, ◌==◌, Bool, false, not, is_some, List, Option, None, Some}
 use Rattle.std.specs.FinMap.{get}
 use Rattle.std.specs.List.{list_any}
@@ -11,14 +11,13 @@ abbrev pub is_zero : Option ℕ → Bool
 is_zero None = false
 is_zero (Some byte) = byte == 0
 
--- a method's header stands at the address: ten bytes, of which the second is 0
-abbrev pub has_header : Pool → ℕ → Bool
-has_header code method = is_some (bytes_in 10 code method) && is_zero (get code (method + 1))
-
--- and its first byte isn't 0, since it takes arguments, or its seventh or eighth, since it has an exception table
+-- the ten bytes of a method's header are there, and its first or second isn't 0, since it may take arguments, or its seventh or eighth,
+-- since it has an exception table
 abbrev pub is_later_method : Pool → ℕ → Bool
 is_later_method code method =
-    has_header code method && not (is_zero (get code method) && is_zero (get code (method + 6)) && is_zero (get code (method + 7)))
+    is_some (bytes_in 10 code method)
+    && not (is_zero (get code method) && is_zero (get code (method + 1))
+    && is_zero (get code (method + 6)) && is_zero (get code (method + 7)))
 
 -- the entry method is so
 abbrev pub is_unbuilt : List PlacedBlock → Bool

@@ -47,7 +47,7 @@ pub enum LoadRefusal {
     /// The objects together are more than the limits say, or their units are.
     #[error("the store is full")]
     Full,
-    /// The entry method can't be called yet, since it takes arguments or has an exception table.
+    /// The entry method can't be called yet, since it may take arguments or has an exception table.
     #[error("not built yet")]
     Unbuilt,
     /// An allocation was refused.

@@ -2,7 +2,7 @@
 ghost use Rattle.std.specs.Prelude.{◌≡◌, ◌<◌, ◌≤◌, ◌+◌, ◌^◌, IsTrue, is_some};
 ghost use Rattle.std.specs.FinMap.{get};
 ghost use Rattle.t3_pools.specs.Constants.{bytes_in};
-ghost use Rattle.t3_load.specs.Unbuilt.{has_header as has_header_at, is_later_method as is_later_method_at, is_zero as is_zero_byte};
+ghost use Rattle.t3_load.specs.Unbuilt.{is_later_method as is_later_method_at, is_zero as is_zero_byte};
 
 use t3_pools::Pools;
 
@@ -12,21 +12,16 @@ const CODE: u8 = 1;
 /// How many bytes a method's header has.
 const HEADER_SIZE: u8 = 10;
 
-/// Whether the method at an address, if there is one, takes arguments or has an exception table: the rule
+/// Whether the method at an address, if there is one, may take arguments or has an exception table: the rule
 /// behind all others, asked of the entry method.
 pub(crate) fn is_later_method(pools: &Pools, method: u32) -> bool
     ensures { result ≡ is_later_method_at pools.now.code method }
 {
-    has_header(pools, method)
-        && !(is_zero(pools, method) && is_zero(pools, method + 6) && is_zero(pools, method + 7))
-}
-
-/// Whether a method's header stands at an address: ten bytes, of which the second is 0.
-fn has_header(pools: &Pools, method: u32) -> bool
-    ensures has { result ≡ has_header_at pools.now.code method }
-    ensures room { IsTrue result → method + 10 ≤ 2 ^ 31 }
-{
-    has_bytes(pools, method, HEADER_SIZE) && is_zero(pools, method + 1)
+    has_bytes(pools, method, HEADER_SIZE)
+        && !(is_zero(pools, method)
+            && is_zero(pools, method + 1)
+            && is_zero(pools, method + 6)
+            && is_zero(pools, method + 7))
 }
 
 /// Whether so many bytes of code stand from an address on.

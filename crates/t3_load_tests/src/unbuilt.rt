@@ -12,14 +12,14 @@ const TEXT: &[u8] = &[0, 0];
 const LIST: &[u8] = &[0, 0];
 
 /// Five bytes, and then a header that takes nothing and has no exception table; one that takes an argument; one
-/// that has a table; one whose second byte isn't 0; and one that is cut.
+/// that may take seven; one that has a table; and one that is cut.
 const PLAIN_METHOD: &[u8] = &[9, 9, 9, 9, 9, 0, 0, 1, 0, 4, 0, 0, 0, 0, 0];
 
 const TAKING: &[u8] = &[9, 9, 9, 9, 9, 1, 0, 1, 0, 4, 0, 0, 0, 0, 0];
 
-const CATCHING: &[u8] = &[9, 9, 9, 9, 9, 0, 0, 1, 0, 4, 0, 0, 2, 0, 0];
+const MAYBE_TAKING: &[u8] = &[9, 9, 9, 9, 9, 0, 7, 1, 0, 4, 0, 0, 0, 0, 0];
 
-const NO_METHOD: &[u8] = &[9, 9, 9, 9, 9, 1, 7, 1, 0, 4, 0, 0, 2, 0, 0];
+const CATCHING: &[u8] = &[9, 9, 9, 9, 9, 0, 0, 1, 0, 4, 0, 0, 2, 0, 0];
 
 const CUT_METHOD: &[u8] = &[9, 9, 9, 9, 9, 1, 0, 1, 0, 4, 0, 0, 2, 0];
 
@@ -75,10 +75,10 @@ fn what_cannot_be_run_yet_is_refused_last(rt: HostRuntime) -> Result<(), Fail> {
         ),
         (
             Parts {
-                code: NO_METHOD,
+                code: MAYBE_TAKING,
                 ..GOOD
             },
-            None,
+            unbuilt,
         ),
         (
             Parts {

@@ -2,6 +2,7 @@
 use Rattle.std.proofs.Common.{◌≡◌, ◌∙◌, ℕ, zero, suc, [], Option, Some, None, refl, sym, ap, subst}
 use Rattle.std.specs.Prelude.{option_and_then}
 use Rattle.t3_holder.specs.declared.holder.Holder.{Holder}
+use Rattle.t3_holder.specs.declared.holder.Holder.TheVariants.{Obj}
 use Rattle.t3_tadsobj.specs.Order.{SupersAt, list_from, preorder, last_places}
 use Rattle.t3_store.specs.Value.{Value, supers_of, kind_of}
 use Rattle.t3_store.specs.Store.{StoreValue, value_at, objects_in}
@@ -40,12 +41,13 @@ found_of_none s n p none =
 -- where it is found something stands, and its value is taken
 pub evaluates_found : (program : ProgramValue) (p count n : ℕ) (context : Context) (found : ℕ × Holder)
     → property_of context.store n p ≡ Some found
-    → found_action found.1 count context ≡ of_object program p count n (value_at context.store n) context
+    → found_action (Obj n) found.0 found.1 count context ≡ of_object program p count n (value_at context.store n) context
 evaluates_found program p count n context found is = by (value_at context.store n) refl
   where
-    by : (o : Option Value) → value_at context.store n ≡ o → found_action found.1 count context ≡ of_object program p count n o context
+    by : (o : Option Value) → value_at context.store n ≡ o
+        → found_action (Obj n) found.0 found.1 count context ≡ of_object program p count n o context
     by None e = let none : ◌≡◌ {A = Option (ℕ × Holder)} (Some found) None = sym is ∙ found_of_none context.store n p e in cc
-    by (Some value) e = ap (λ o. found_or_asks program p count (kind_of value) o context) (sym is)
+    by (Some value) e = ap (λ o. found_or_asks program (Obj n) p count (kind_of value) o context) (sym is)
 
 -- where it isn't the kind's methods are asked
 pub evaluates_asked : (program : ProgramValue) (p count n : ℕ) (context : Context) → property_of context.store n p ≡ None
@@ -54,4 +56,4 @@ evaluates_asked program p count n context is = by (value_at context.store n)
   where
     by : (o : Option Value) → asks_object program p count o context ≡ of_object program p count n o context
     by None = refl
-    by (Some value) = ap (λ o. found_or_asks program p count (kind_of value) o context) (sym is)
+    by (Some value) = ap (λ o. found_or_asks program (Obj n) p count (kind_of value) o context) (sym is)

@@ -11,11 +11,12 @@ use Rattle.t3_ops.specs.declared.fault.Fault.TheVariants.{ArgCount, NoBuiltin}
 use Rattle.t3_ops.specs.declared.builtins.PureBuiltin.{PureBuiltin}
 use Rattle.t3_ops.specs.Builtins.{pure_at, pure_builtin_of}
 use Rattle.t3_ops.specs.Saying.{said_text_of}
-use Rattle.t3_frame_instructions.specs.Effect.{Say}
+use Rattle.t3_frame_instructions.specs.Effect.{Say, WantLine}
 use Rattle.t3_frame_instructions.specs.declared.effect.CodeWhy.TheVariants.{Unbuilt}
-use Rattle.t3_frame_instructions.specs.Context.{Context, Action, leaving, faults, stops, answers}
+use Rattle.t3_frame_instructions.specs.Context.{Context, Action, leaving, faults, stops, answers, pops}
 use Rattle.t3_frame_instructions.specs.Making.{makes}
 use Rattle.t3_object_instructions.specs.Creating.{arguments}
+use Rattle.t3_object_instructions.specs.Saying.{sets_say}
 
 -- ---- saying one or more values, the topmost first
 
@@ -27,6 +28,12 @@ abbrev pub says : Pool → ℕ → Context → Action
 says constants count context =
     if count == 0 then faults ArgCount context else says_text count (said_text_of constants context.store (arguments count context)) context
 
+-- ---- taking a line of input
+
+-- without arguments: the instruction waits for the line
+abbrev pub takes_line : ℕ → Context → Action
+takes_line count context = if count == 0 then (WantLine, context) else faults ArgCount context
+
 -- ---- functions by their index in their set
 
 -- a function that is listed isn't built yet
@@ -35,7 +42,8 @@ unless_listed listed context = if listed then stops Unbuilt context else faults 
 
 -- the set for input and output: 0 says values, 4 takes a line
 abbrev pub io_action : Pool → (index count : ℕ) → Context → Action
-io_action constants index count context = if index == 0 then says constants count context else unless_listed (index == 4) context
+io_action constants index count context =
+    if index == 0 then says constants count context else (if index == 4 then takes_line count context else faults NoBuiltin context)
 
 -- the general set: those that make one object at most, and 13 to 17, which save, restore and undo
 abbrev pub gen_by : Pool → Option PureBuiltin → (index count : ℕ) → Context → Action
@@ -43,16 +51,20 @@ gen_by constants (Some builtin) index count context =
     makes (pure_builtin_of constants context.store index (arguments count context)) (λ value context. answers value count context) context
 gen_by constants None index count context = unless_listed (nat_le 13 index && nat_le index 17) context
 
+-- one argument: by which function values are said
+abbrev pub takes_say : ℕ → Context → Action
+takes_say count context = if count == 1 then pops sets_say context else faults ArgCount context
+
 -- the machine's own set: 1 sets by which function values are said
-abbrev pub vm_action : ℕ → Context → Action
-vm_action index context = unless_listed (index == 1) context
+abbrev pub vm_action : (index count : ℕ) → Context → Action
+vm_action index count context = if index == 1 then takes_say count context else faults NoBuiltin context
 
 -- a function of a set, or of what is none
 abbrev pub set_action : Pool → Option SetKind → (index count : ℕ) → Context → Action
 set_action constants None index count context = faults NoBuiltin context
 set_action constants (Some Io) index count context = io_action constants index count context
 set_action constants (Some Gen) index count context = gen_by constants (pure_at index) index count context
-set_action constants (Some Vm) index count context = vm_action index context
+set_action constants (Some Vm) index count context = vm_action index count context
 
 -- a function of a set by its index in the image's table of sets
 abbrev pub builtin_action : ProgramValue → (set index count : ℕ) → Context → Action

@@ -1,4 +1,5 @@
 pub mod Search
+pub mod Saying
 pub mod Evaluating
 pub mod Setting
 pub mod Symbols

@@ -1,18 +1,20 @@
 //! Built-in functions.
-ghost use Rattle.std.specs.Prelude.{◌≡◌, if◌then◌else◌, IfOk, IsSome, reverse, take};
+ghost use Rattle.std.specs.Prelude.{◌≡◌, ◌==◌, if◌then◌else◌, IfOk, IsSome, reverse, take};
 ghost use Rattle.t3_ops.specs.Builtins.{pure_at as pure_by, pure_builtin_of};
-ghost use Rattle.t3_ops.specs.declared.fault.Fault.TheVariants.{NoBuiltin};
+ghost use Rattle.t3_ops.specs.declared.fault.Fault.TheVariants.{ArgCount, NoBuiltin};
 ghost use Rattle.t3_frame_instructions.specs.declared.effect.CodeWhy.TheVariants.{Unbuilt};
-ghost use Rattle.t3_frame_instructions.specs.Effect.{Stop, Fault as FaultEffect};
+ghost use Rattle.t3_frames.specs.declared.call.Call.{Call as AnyCall};
+ghost use Rattle.t3_frame_instructions.specs.Effect.{Stop, WantLine, Fault as FaultEffect};
 ghost use Rattle.t3_frame_instructions.specs.Context.{answers};
 ghost use Rattle.t3_frame_instructions.specs.Making.{makes};
 ghost use Rattle.t3_frame_instructions.specs.Acting.{HasAction, HasDone, quiet_of};
-ghost use Rattle.t3_object_instructions.specs.Builtins.{builtin_action, gen_by, io_action, says, unless_listed};
+ghost use Rattle.t3_object_instructions.specs.Builtins.{builtin_action, gen_by, io_action, says, vm_action};
 ghost use Rattle.t3_object_instructions.specs.Creating.{arguments};
 ghost use Rattle.t3_object_instructions.specs.Acting.{effect_of};
 
 use crate::effect::MakeEffect;
 use crate::evaluate::answer;
+use crate::saying::set_say_popped;
 use std::alloc::Global;
 use t3_frame_instructions::{CodeWhy, Core, Quiet};
 use t3_holder::{Holder, NoMemory};
@@ -23,10 +25,10 @@ use t3_pools::Pools;
 /// The index of the function that says values.
 const SAY: u8 = 0;
 
-/// The index of the function that takes a line of input, which isn't built yet.
+/// The index of the function that takes a line of input.
 const INPUT_LINE: u8 = 4;
 
-/// The index of the function that sets by which function values are said, which isn't built yet.
+/// The index of the function that sets by which function values are said.
 const SET_SAY: u8 = 1;
 
 /// Calls a function of a set, with so many operands. The set is one of the image's table.
@@ -39,7 +41,7 @@ pub(crate) fn builtin(
     count: u16,
 ) -> Result<MakeEffect, NoMemory>
     ensures { IfOk result (λ effect. HasAction (builtin_action program.now set index count) core.old
-        (effect_of effect) core.new) }
+        (effect_of effect core.new.call) core.new) }
 {
     match program.sets.0.get(usize::from(set)) {
         Some(SetKind::Io) => io_builtin(alloc, &program.pools, core, index, count),
@@ -47,14 +49,14 @@ pub(crate) fn builtin(
             let effect = gen_builtin(alloc, &program.pools, core, index, count)?;
             Ok(MakeEffect::Quiet(effect))
         }
-        Some(SetKind::Vm) => Ok(MakeEffect::Quiet(refuse_unless(index == SET_SAY))),
+        Some(SetKind::Vm) => Ok(MakeEffect::Quiet(vm_builtin(core, index, count))),
         None => Ok(MakeEffect::Quiet(Quiet::Fault(Fault::NoBuiltin))),
     }
 }
 
 /// What is asked for by a function that is listed, but not built yet, or by one that there isn't.
 fn refuse_unless(listed: bool) -> Quiet
-    ensures { quiet_of result ≡ if listed then Stop Unbuilt else FaultEffect NoBuiltin }
+    ensures { (call : AnyCall) → quiet_of result call ≡ if listed then Stop Unbuilt else FaultEffect NoBuiltin }
 {
     if listed {
         Quiet::Stop(CodeWhy::Unbuilt)
@@ -72,18 +74,33 @@ fn io_builtin(
     count: u16,
 ) -> Result<MakeEffect, NoMemory>
     ensures { IfOk result (λ effect. HasAction (io_action pools.now.constants index count) core.old
-        (effect_of effect) core.new) }
+        (effect_of effect core.new.call) core.new) }
 {
     if index == SAY {
         return say(alloc, pools, core, count);
     }
-    Ok(MakeEffect::Quiet(refuse_unless(index == INPUT_LINE)))
+    if index == INPUT_LINE {
+        return Ok(MakeEffect::Quiet(want_line(count)));
+    }
+    Ok(MakeEffect::Quiet(Quiet::Fault(Fault::NoBuiltin)))
+}
+
+/// Wants a line of input, which takes no arguments.
+fn want_line(count: u16) -> Quiet
+    ensures { (call : AnyCall) → quiet_of result call
+        ≡ if count == 0 then WantLine else FaultEffect ArgCount }
+{
+    if count == 0 {
+        Quiet::WantLine
+    } else {
+        Quiet::Fault(Fault::ArgCount)
+    }
 }
 
 /// Says so many operands, the topmost first.
 fn say(alloc: Global, pools: &Pools, core: &mut Core, count: u16) -> Result<MakeEffect, NoMemory>
     ensures { IfOk result (λ effect. HasAction (says pools.now.constants count) core.old
-        (effect_of effect) core.new) }
+        (effect_of effect core.new.call) core.new) }
 {
     if count == 0 {
         return Ok(MakeEffect::Quiet(Quiet::Fault(Fault::ArgCount)));
@@ -97,6 +114,19 @@ fn say(alloc: Global, pools: &Pools, core: &mut Core, count: u16) -> Result<Make
         }
         Err(fault) => Ok(MakeEffect::Quiet(Quiet::Fault(fault))),
     }
+}
+
+/// Calls a function of the machine's own set.
+fn vm_builtin(core: &mut Core, index: u8, count: u16) -> Quiet
+    ensures { HasDone (vm_action index count) core.old result core.new }
+{
+    if index != SET_SAY {
+        return Quiet::Fault(Fault::NoBuiltin);
+    }
+    if count != 1 {
+        return Quiet::Fault(Fault::ArgCount);
+    }
+    set_say_popped(core)
 }
 
 /// Calls a function of the general set.

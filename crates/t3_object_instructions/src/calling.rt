@@ -1,28 +1,29 @@
-//! Returning, and evaluating properties.
+//! Calling, returning, and evaluating properties.
 ghost use Rattle.std.specs.Prelude.{IfOk};
 ghost use Rattle.t3_frame_instructions.specs.Context.{pops, returns};
 ghost use Rattle.t3_frame_instructions.specs.Acting.{HasDone};
-ghost use Rattle.t3_object_instructions.specs.Instructions.{call_action, calls};
+ghost use Rattle.t3_object_instructions.specs.Instructions.{call_action, calls_pointer};
 
 use crate::evaluate::{
     evaluate, evaluate_by_pointer, evaluate_popped, evaluate_self, evaluate_self_by_pointer,
 };
 use crate::inherit::{delegate, delegate_popped, inherit};
 use std::alloc::Global;
-use t3_frame_instructions::{CodeWhy, Core, Quiet};
+use t3_frame_instructions::{CodeWhy, Core, Quiet, ask_for_call};
+use t3_frames::Call;
 use t3_holder::{Holder, NoMemory};
 use t3_load::Program;
 use t3_methods::CallCode;
 use t3_ops::Fault;
 
-/// Carries out an instruction that returns, or that evaluates a property. No method and no function can be
+/// Carries out an instruction that calls, returns or evaluates a property. No method of a metaclass can be
 /// called yet. Memory is wanted only where a property is searched for in an object with two superclasses or
 /// more.
 ///
 /// `NotObject` comes where a value has no properties, `Stale` where its object isn't there, `Kind` where a
 /// property or a function is to be popped and there is another value, `ArgCount` where arguments are given to
 /// what takes none, `NoMethod` where the image lists a method that there isn't, and `NoSay` where a text is to
-/// be said.
+/// be said and there is no function for that. The faults of a call come where it is made.
 pub fn call(
     alloc: Global,
     program: &Program,
@@ -49,8 +50,10 @@ pub fn call(
         CallCode::Inherit(count, p) => inherit(alloc, core, p, count),
         CallCode::Expinherit(count, p, n) => delegate(alloc, core, Holder::Obj(n), p, count),
         CallCode::Delegate(count, p) => delegate_popped(alloc, core, p, count),
-        CallCode::Call(_, _) => Ok(Quiet::Stop(CodeWhy::Unbuilt)),
-        CallCode::Ptrcall(_) => Ok(call_popped(core)),
+        CallCode::Call(count, method) => {
+            Ok(ask_for_call(core, Call::function(method, u16::from(count))))
+        }
+        CallCode::Ptrcall(count) => Ok(call_popped(core, count)),
     }
 }
 
@@ -71,12 +74,14 @@ fn return_with(core: &mut Core, value: Holder) -> Quiet
     Quiet::Return
 }
 
-/// Calls the function that is the topmost operand.
-fn call_popped(core: &mut Core) -> Quiet
-    ensures { HasDone (pops calls) core.old result core.new }
+/// Calls the function that is the topmost operand, which goes, with the next ones, so many.
+fn call_popped(core: &mut Core, count: u8) -> Quiet
+    ensures { HasDone (pops (calls_pointer count)) core.old result core.new }
 {
     match core.frames.pop() {
-        Some(Holder::Func(_)) => Quiet::Stop(CodeWhy::Unbuilt),
+        Some(Holder::Func(method)) => {
+            ask_for_call(core, Call::function(method, u16::from(count)))
+        }
         Some(_) => Quiet::Fault(Fault::Kind),
         None => Quiet::Stop(CodeWhy::Underflow),
     }

@@ -7,15 +7,16 @@ ghost use Rattle.t3_ops.specs.Making.{CanBeCreated, value_of_new};
 ghost use Rattle.t3_ops.specs.Creating.{new_string_of, new_list_of, new_vector_of, new_table_of};
 ghost use Rattle.t3_frame_instructions.specs.Acting.{HasDone};
 ghost use Rattle.t3_object_instructions.specs.Symbols.{property_named as property_by};
-ghost use Rattle.t3_object_instructions.specs.Creating.{arguments, creates, creation, tads_creation, supers_from, super_of, has_method};
-ghost use Rattle.t3_object_instructions.specs.Inner.Finding.{IsClass, option_list};
+ghost use Rattle.t3_object_instructions.specs.Creating.{arguments, creates, creation, tads_creation, supers_from, super_of, constructor_of, constructs, method_found};
+ghost use Rattle.t3_object_instructions.specs.Inner.Finding.{IsClass, option_list, found_value, constructor_found};
 
 use crate::evaluate::answer;
 use crate::exceptions::no_props;
-use crate::search::find_property;
+use crate::search::{Found, find_property};
 use crate::symbols::property_named;
 use std::alloc::Global;
-use t3_frame_instructions::{CodeWhy, Core, Quiet};
+use t3_frame_instructions::{Core, Quiet, ask_for_call};
+use t3_frames::Call;
 use t3_holder::{Holder, NoMemory};
 use t3_load::{MetaKind, Program};
 use t3_ops::{Fault, new_list, new_string, new_table, new_vector};
@@ -144,8 +145,8 @@ fn create_object(
     }
 }
 
-/// Creates a tads-object: without a superclass, or with the first argument as the only one. One whose
-/// superclass has a constructor can't be made yet.
+/// Creates a tads-object: without a superclass, or with the first argument as the only one. Its constructor,
+/// if there is one, is called.
 fn create_tads(
     alloc: Global,
     program: &Program,
@@ -161,15 +162,17 @@ fn create_tads(
         Ok(class) => class,
         Err(fault) => return Ok(Quiet::Fault(fault)),
     };
-    if has_constructor(alloc, program, &core.store, class)? {
-        return Ok(Quiet::Stop(CodeWhy::Unbuilt));
-    }
+    let constructor = constructor_in(alloc, program, &core.store, class)?;
     let what = NewObject::Tads {
         supers: numbers_of(alloc, class)?,
         class: false,
         props: no_props(alloc),
     };
-    create_object(core, what, transient, count)
+    match core.store.create(what, transient) {
+        Ok(number) => Ok(construct(core, constructor, number, count)),
+        Err(StoreRefusal::Full) => Ok(Quiet::StoreFull),
+        Err(StoreRefusal::NoMemory) => Err(NoMemory),
+    }
 }
 
 /// The superclass that the first argument says, if there is one.
@@ -201,27 +204,69 @@ fn class_of(store: &Store, transient: bool, number: u32) -> Result<Option<u32>, 
     }
 }
 
-/// Whether a superclass has a method that is to be called when an object is made.
-fn has_constructor(
+/// The method of a superclass that is called when an object is made.
+#[derive(Clone, Copy)]
+struct Constructor {
+    /// The object that has it.
+    defining: u32,
+    method: u32,
+}
+
+/// The constructor that a superclass has, if there is one.
+fn constructor_in(
     alloc: Global,
     program: &Program,
     store: &Store,
     class: Option<u32>,
-) -> Result<bool, NoMemory>
-    ensures { IfOk result (λ has. has ≡ has_method store.now.store
+) -> Result<Option<Constructor>, NoMemory>
+    ensures { IfOk result (λ found. constructor_found found ≡ constructor_of store.now.store
         (property_by program.now.symbols (codes "Constructor")) (option_list class)) }
 {
     let Some(number) = class else {
-        return Ok(false);
+        return Ok(None);
     };
     let Some(property) = property_named(&program.symbols, b"Constructor") else {
-        return Ok(false);
+        return Ok(None);
     };
     let _ = store.kind(number);
-    match find_property(alloc, store, number, property)? {
-        Some(found) => Ok(matches!(found.value, Holder::Code(_))),
-        None => Ok(false),
+    Ok(as_constructor(find_property(alloc, store, number, property)?))
+}
+
+/// What was found, where it is a method.
+fn as_constructor(found: Option<Found>) -> Option<Constructor>
+    ensures { constructor_found result ≡ method_found (found_value found) }
+{
+    match found {
+        Some(
+            Found {
+                defining,
+                value: Holder::Code(method),
+            },
+        ) => Some(Constructor { defining, method }),
+        _ => None,
     }
+}
+
+/// Calls the constructor of an object that was made, if it has one, with the arguments behind the superclass.
+/// The register has the object.
+fn construct(core: &mut Core, constructor: Option<Constructor>, number: u32, count: u16) -> Quiet
+    ensures { HasDone (constructs (constructor_found constructor) count number) core.old result
+        core.new }
+{
+    let Some(constructor) = constructor else {
+        return answer(core, Holder::Obj(number), count);
+    };
+    core.frames.drop_operands(1);
+    core.register = Holder::Obj(number);
+    let call = Call {
+        method: constructor.method,
+        laid: None,
+        count: count.saturating_sub(1),
+        this: Holder::Obj(number),
+        defining: constructor.defining,
+        gives: Some(number),
+    };
+    ask_for_call(core, call)
 }
 
 fn numbers_of(alloc: Global, class: Option<u32>) -> Result<Numbers, NoMemory>

@@ -6,9 +6,11 @@ ghost use Rattle.t3_object_instructions.specs.Evaluating.{by_property, evaluates
 ghost use Rattle.t3_frame_instructions.specs.Acting.{HasDone};
 
 use crate::methods::{is_method, metaclasses_of, method_of};
-use crate::search::find_property;
+use crate::saying::say_value;
+use crate::search::{Found, find_property};
 use std::alloc::Global;
-use t3_frame_instructions::{CodeWhy, Core, Quiet};
+use t3_frame_instructions::{CodeWhy, Core, Quiet, ask_for_call};
+use t3_frames::Call;
 use t3_holder::{Holder, NoMemory};
 use t3_load::Program;
 use t3_ops::Fault;
@@ -116,7 +118,7 @@ fn evaluate_object(
         core.old effect core.new) }
 {
     match find_property(alloc, &core.store, number, property)? {
-        Some(found) => Ok(give_found(core, found.value, count)),
+        Some(found) => Ok(give_found(core, Holder::Obj(number), found, count)),
         None => Ok(ask_object(program, core, number, property, count)),
     }
 }
@@ -134,14 +136,24 @@ fn ask_object(program: &Program, core: &mut Core, number: u32, property: u16, co
     }
 }
 
-/// What comes of a value that was found for a property.
-pub(crate) fn give_found(core: &mut Core, value: Holder, count: u8) -> Quiet
-    ensures { HasDone (found_action value count) core.old result core.new }
+/// What comes of a value that was found for a property of self.
+pub(crate) fn give_found(core: &mut Core, this: Holder, found: Found, count: u8) -> Quiet
+    ensures { HasDone (found_action this found.defining found.value count) core.old result core.new }
 {
-    match value {
-        Holder::Code(_) => Quiet::Stop(CodeWhy::Unbuilt),
-        Holder::Shown(_) if count == 0 => Quiet::Fault(Fault::NoSay),
-        _ if count == 0 => answer(core, value, 0),
+    match found.value {
+        Holder::Code(method) => {
+            let call = Call {
+                method,
+                laid: None,
+                count: u16::from(count),
+                this,
+                defining: found.defining,
+                gives: None,
+            };
+            ask_for_call(core, call)
+        }
+        Holder::Shown(text) if count == 0 => say_value(core, Holder::Text(text)),
+        _ if count == 0 => answer(core, found.value, 0),
         _ => Quiet::Fault(Fault::ArgCount),
     }
 }

@@ -1,10 +1,11 @@
-//! The objects that faults throw.
+//! The objects that faults throw, and the classes by which an object is caught.
 ghost use Rattle.std.specs.Prelude.{◌≡◌, false, [], ◌∷◌, map, IfOk};
 ghost use Rattle.t3_store.specs.Value.{new_value, pair_of, HasFittingLength};
 ghost use Rattle.t3_store.specs.Whole.{HasSupersIn, supers_for};
 ghost use Rattle.t3_object_instructions.specs.Search.{is_persistent_tads as is_persistent_tads_in};
-ghost use Rattle.t3_object_instructions.specs.Exceptions.{exception_of, exception_supers, numbered};
+ghost use Rattle.t3_object_instructions.specs.Exceptions.{exception_of, exception_supers, numbered, classes_of as classes_in};
 
+use crate::search::order;
 use crate::symbols::{object_named, property_named};
 use std::alloc::Global;
 use t3_holder::{Holder, NoMemory};
@@ -32,6 +33,17 @@ pub fn exception(
         class: false,
         props: props(alloc, property_named(symbols, b"errno_"), fault)?,
     })
+}
+
+/// The classes by which an object is caught: those of its superclass order, or itself alone where it is no
+/// tads-object.
+pub fn classes_of(alloc: Global, store: &Store, number: u32) -> Result<Vec<u32>, NoMemory>
+    ensures { IfOk result (λ classes. classes.items ≡ classes_in store.now.store number) }
+{
+    match store.kind(number) {
+        Some(Kind::Tads) => order(alloc, store, number),
+        _ => Ok(vec![in alloc; number]?),
+    }
 }
 
 /// An object, if it can be the superclass of an exception: a persistent tads-object.

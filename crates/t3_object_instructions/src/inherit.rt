@@ -70,7 +70,10 @@ fn give_found_or_nil(core: &mut Core, found: Option<Found>, count: u8) -> Quiet
     ensures { HasDone (found_or_nil count (found_value found)) core.old result core.new }
 {
     match found {
-        Some(found) => give_found(core, found.value, count),
+        Some(found) => {
+            let this = core.frames.this();
+            give_found(core, this, found, count)
+        }
         None => answer(core, Holder::Nil, u16::from(count)),
     }
 }

@@ -1,5 +1,5 @@
 //! What one instruction does to objects: evaluating and setting properties, elements and entries, inheriting,
-//! creating, throwing and built-in functions; and how a property is found in an object's superclasses.
+//! calling, creating, saying, throwing and built-in functions; and how a property is found in an object's superclasses.
 //!
 //! ```text
 //! let effect = call(alloc, &program, &mut core, CallCode::Getprop(4))?;   // Quiet::Next
@@ -20,6 +20,7 @@ mod item;
 mod laws;
 mod making;
 mod methods;
+mod saying;
 mod search;
 mod set;
 mod symbols;
@@ -28,7 +29,7 @@ mod variables;
 
 pub use calling::call;
 pub use effect::MakeEffect;
-pub use exceptions::exception;
+pub use exceptions::{classes_of, exception};
 pub use laws::search_order;
 pub use making::make;
 pub use variables::local;

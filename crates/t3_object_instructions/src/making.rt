@@ -10,6 +10,7 @@ use crate::builtin::builtin;
 use crate::create::create;
 use crate::effect::MakeEffect;
 use crate::item::index_popped;
+use crate::saying::{say_popped, say_value};
 use std::alloc::Global;
 use t3_frame_instructions::{CodeWhy, Core, Quiet};
 use t3_holder::{Holder, NoMemory};
@@ -18,7 +19,7 @@ use t3_methods::MakeCode;
 use t3_ops::Fault;
 
 /// Carries out an instruction that makes an object, says, throws, takes an element or an entry, or calls a
-/// built-in function. There is no function yet by which values are said, so that is `NoSay`.
+/// built-in function. `NoSay` comes where a value is to be said and there is no function for that.
 ///
 /// `CannotMake` comes where the image lists no metaclass of that index, or one that has no objects of its own;
 /// else the faults of creating, of [`t3_ops::index`], [`t3_ops::pure_builtin`] and [`t3_ops::said_text`];
@@ -31,7 +32,7 @@ pub fn make(
     code: MakeCode,
 ) -> Result<MakeEffect, NoMemory>
     ensures { IfOk result (λ effect. HasAction (make_action program.now code) core.old
-        (effect_of effect) core.new) }
+        (effect_of effect core.new.call) core.new) }
 {
     let effect = match code {
         MakeCode::Builtina(count, index) => {
@@ -71,7 +72,8 @@ pub fn make(
             )?
         }
         MakeCode::Trnew2(count, index) => create(alloc, program, core, true, count, index)?,
-        MakeCode::Say(_) | MakeCode::Sayval => Quiet::Fault(Fault::NoSay),
+        MakeCode::Say(text) => say_value(core, Holder::Text(text)),
+        MakeCode::Sayval => say_popped(core),
         MakeCode::Throw => throw_popped(core),
         MakeCode::Index => index_popped(alloc, &program.pools, core)?,
     };

@@ -108,7 +108,7 @@ pub(crate) fn find_inherited(
 }
 
 /// An object and its superclasses, in the order in which they are searched.
-fn order(alloc: Global, store: &Store, number: u32) -> Result<Vec<u32>, NoMemory>
+pub(crate) fn order(alloc: Global, store: &Store, number: u32) -> Result<Vec<u32>, NoMemory>
     requires { IsAcyclicFrom (supers_of_live store.now.store) number }
     ensures { IfOk result (λ order. order.items ≡ order_of store.now.store number) }
 {

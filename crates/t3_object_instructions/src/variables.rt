@@ -47,14 +47,14 @@ pub fn local(
         LocalCode::Setlcl2(n) => Ok(take_local(core, n)),
         LocalCode::Setarg1(n) => Ok(take_argument(core, u16::from(n))),
         LocalCode::Setarg2(n) => Ok(take_argument(core, n)),
-        LocalCode::Setind => set_item(alloc, pools, core),
-        LocalCode::Setprop(p) => set_of_popped(core, p),
-        LocalCode::Ptrsetprop => set_by_pointer(core),
+        LocalCode::Setind => Ok(set_item(alloc, pools, core)?),
+        LocalCode::Setprop(p) => Ok(set_of_popped(core, p)?),
+        LocalCode::Ptrsetprop => Ok(set_by_pointer(core)?),
         LocalCode::Setpropself(p) => {
             let this = core.frames.this();
-            set_popped(core, p, this)
+            Ok(set_popped(core, p, this)?)
         }
-        LocalCode::Objsetprop(n, p) => set_popped(core, p, Holder::Obj(n)),
+        LocalCode::Objsetprop(n, p) => Ok(set_popped(core, p, Holder::Obj(n))?),
         LocalCode::Nop => Ok(Quiet::Next),
     }
 }

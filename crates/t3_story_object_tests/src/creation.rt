@@ -98,18 +98,19 @@ fn throws_objects(rt: HostRuntime) -> Result<(), Fail> {
     Ok(())
 }
 
-/// Symbols, code that makes an object, and what is shown: a constructor would be called, which is not built yet.
+/// Symbols, code that makes an object, and what is shown: the constructor is the entry method, which makes an object in
+/// its turn, until there is room for no frame more after 4,096 objects.
 const CONSTRUCTS: [SymbolRow; 8] = [
     (
         "symbol 6 7 \"Constructor\"",
         "pushobj 7 / new1 1 0",
-        "[bad code at=15 why=Unbuilt]\n",
+        "[unhandled object=4106 fault=9]\n",
     ),
-    // One that is inherited.
+    // One that is inherited. Transient objects have numbers of their own.
     (
         "symbol 6 7 \"Constructor\"",
         "pushobj 8 / trnew2 1 0",
-        "[bad code at=15 why=Unbuilt]\n",
+        "[unhandled object=10 fault=9]\n",
     ),
     // A bad superclass is told first.
     (
@@ -143,7 +144,7 @@ const CONSTRUCTS: [SymbolRow; 8] = [
     (
         "symbol 6 65543 \"Constructor\" / symbol 6 2 \"Constructor\"",
         "pushobj 7 / new1 1 0",
-        "[bad code at=15 why=Unbuilt]\n",
+        "[unhandled object=4106 fault=9]\n",
     ),
 ];
 

@@ -5,4 +5,6 @@
 #[cfg(test)]
 mod creation;
 #[cfg(test)]
+mod handlers;
+#[cfg(test)]
 mod objects;

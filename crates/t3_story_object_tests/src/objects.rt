@@ -266,22 +266,25 @@ const SAYS_OR_CALLS: [Row; 17] = [
         "[unhandled object=10 fault=12]\n",
     ),
     ("expinherit 0 6 8", "[unhandled object=10 fault=12]\n"),
-    ("objgetprop 7 7", "[bad code at=10 why=Unbuilt]\n"),
-    ("pushobj 9 / getprop 7", "[bad code at=15 why=Unbuilt]\n"),
+    ("objgetprop 7 7", "[unhandled object=10 fault=9]\n"),
+    ("pushobj 9 / getprop 7", "[unhandled object=10 fault=9]\n"),
     (
         "push_1 / objcallprop 1 8 7",
-        "[bad code at=11 why=Unbuilt]\n",
+        "[unhandled object=10 fault=2]\n",
     ),
     (
         "push_1 / pushobj 8 / callprop 1 7",
-        "[bad code at=16 why=Unbuilt]\n",
+        "[unhandled object=10 fault=2]\n",
     ),
     (
         "pushobj 8 / pushpropid 7 / ptrcallprop 0",
-        "[bad code at=18 why=Unbuilt]\n",
+        "[unhandled object=10 fault=9]\n",
     ),
-    ("expinherit 0 7 8", "[bad code at=10 why=Unbuilt]\n"),
-    ("pushobj 8 / delegate 0 7", "[bad code at=15 why=Unbuilt]\n"),
+    ("expinherit 0 7 8", "[unhandled object=10 fault=9]\n"),
+    (
+        "pushobj 8 / delegate 0 7",
+        "[unhandled object=10 fault=9]\n",
+    ),
     // A value that is set stands before what would be called.
     (
         "push_1 / objsetprop 8 7 / objgetprop 8 7 / getr0 / builtin_a 1 0 / retnil",

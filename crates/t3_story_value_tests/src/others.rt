@@ -98,7 +98,7 @@ const WANTS_INTEGERS: [Row; 33] = [
     ("pushobj 2 / ptrcall 0", "[unhandled object=6 fault=3]\n"),
     ("pushobj 99 / ptrcall 0", "[unhandled object=6 fault=3]\n"),
     ("pushnil / ptrcall 0", "[unhandled object=6 fault=3]\n"),
-    ("pushfnptr 0 / ptrcall 0", "[bad code at=15 why=Unbuilt]\n"),
+    ("pushfnptr 0 / ptrcall 0", "[unhandled object=6 fault=9]\n"),
     ("ptrcall 0", "[bad code at=10 why=Underflow]\n"),
     (
         "pushstr @ab / ptrcall 1",

@@ -31,7 +31,7 @@ const SAYS: [Row; 33] = [
     ),
     (
         "pushint8 10 / builtin_b 1 20 / getr0 / builtin_a 1 0 / retnil",
-        "\n\n",
+        "\n",
     ),
     (
         "pushlst @items / builtin_a 1 0",
@@ -127,7 +127,8 @@ const SAYS: [Row; 33] = [
         "pushstr @ab / builtin_a 0 0",
         "[unhandled object=6 fault=2]\n",
     ),
-    ("builtin_a 0 4", "[bad code at=10 why=Unbuilt]\n"),
+    // A line of input, of which there is none: nil, and the code ends there.
+    ("builtin_a 0 4", "[bad code at=13 why=NoByte]\n"),
     (
         "pushstr @ab / builtin_a 2 0",
         "[bad code at=15 why=Underflow]\n",

@@ -7,11 +7,15 @@ use Rattle.t3_store.specs.Store.{StoreValue, value_at}
 use Rattle.t3_store.specs.Whole.{AreThere, supers_of_live, supers_for}
 use Rattle.t3_ops.specs.declared.fault.Fault.{Fault}
 use Rattle.t3_object_instructions.specs.declared.search.Found.{Found}
+use Rattle.t3_object_instructions.specs.declared.create.Constructor.{Constructor}
 use Rattle.t3_object_instructions.specs.declared.search.Place.{Place}
 use Rattle.t3_object_instructions.specs.declared.search.Place.TheVariants.{Here, Above, AboveMany, Nowhere}
 
 abbrev pub found_value : Option Found → Option (ℕ × Holder)
 found_value found = option_map (λ f. (f.defining, f.value)) found
+
+abbrev pub constructor_found : Option Constructor → Option (ℕ × ℕ)
+constructor_found found = option_map (λ c. (c.defining, c.method)) found
 
 abbrev pub place_above : Option (List ℕ) → Place
 place_above None = Nowhere

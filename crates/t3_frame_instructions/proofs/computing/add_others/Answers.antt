@@ -9,26 +9,26 @@ use Rattle.t3_frame_instructions.proofs.computing.add_others.Goals as goal
 pub returns-in-Ok : goal.returns-in-Ok
 returns-in-Ok c =
     let old : Core = c.args.core.now in
-    let between : Core = record { frames = old.frames; register = old.register; store = c.sum.new.store } in
+    let between : Core = record old { store = c.sum.new.store } in
     let keeps : KeepsFrames old between =
-    record { frames = refl; register = refl; writes = c.sum.ensures.writes; savepoints = c.sum.ensures.savepoints } in
+    record { frames = refl; register = refl; say = refl; writes = c.sum.ensures.writes; savepoints = c.sum.ensures.savepoints } in
     carried-ok (adds c.args.pools.now.constants c.args.right c.args.left) (sum_of c.args.pools.now.constants old.store.store c.args.left c.args.right) puts old between
     c.put.new.core c.in-Ok.value _ refl c.in-Ok.ensures.carried keeps c.put.ensures.done
 
 pub returns-in-Err-Fault : goal.returns-in-Err-Fault
 returns-in-Err-Fault c =
     let old : Core = c.args.core.now in
-    let new : Core = record { frames = old.frames; register = old.register; store = c.sum.new.store } in
+    let new : Core = record old { store = c.sum.new.store } in
     let keeps : KeepsFrames old new =
-    record { frames = refl; register = refl; writes = c.sum.ensures.writes; savepoints = c.sum.ensures.savepoints } in
+    record { frames = refl; register = refl; say = refl; writes = c.sum.ensures.writes; savepoints = c.sum.ensures.savepoints } in
     carried-fault (adds c.args.pools.now.constants c.args.right c.args.left) (sum_of c.args.pools.now.constants old.store.store c.args.left c.args.right) puts old new _ c.in-Err-Fault.fault
     refl c.in-Err-Fault.field-0-is c.in-Err-Fault.ensures.carried keeps
 
 pub returns-in-Err-Full : goal.returns-in-Err-Full
 returns-in-Err-Full c =
     let old : Core = c.args.core.now in
-    let new : Core = record { frames = old.frames; register = old.register; store = c.sum.new.store } in
+    let new : Core = record old { store = c.sum.new.store } in
     let keeps : KeepsFrames old new =
-    record { frames = refl; register = refl; writes = c.sum.ensures.writes; savepoints = c.sum.ensures.savepoints } in
+    record { frames = refl; register = refl; say = refl; writes = c.sum.ensures.writes; savepoints = c.sum.ensures.savepoints } in
     carried-full (adds c.args.pools.now.constants c.args.right c.args.left) (sum_of c.args.pools.now.constants old.store.store c.args.left c.args.right) puts old new _ refl
     c.in-Err-Full.field-0-is c.in-Err-Full.ensures.carried keeps

@@ -13,13 +13,13 @@ use Rattle.t3_object_instructions.proofs.builtin.call_pure.Goals as goal
 pub returns-in-Ok : goal.returns-in-Ok
 returns-in-Ok c =
     let old : Core = c.args.core.now in
-    let between : Core = record { frames = old.frames; register = old.register; store = c.pure_builtin.new.store } in
+    let between : Core = record old { store = c.pure_builtin.new.store } in
     let constants = c.args.pools.now.constants in
     let shown : c.topmost.result.now ≡ reverse (arguments c.args.count (context_of old)) =
     sym (reverse-reverse c.topmost.result.now) ∙ ap reverse c.topmost.ensures in
     let made = c.pure_builtin.ensures in
     let keeps : KeepsFrames old between =
-    record { frames = refl; register = refl; writes = made.writes; savepoints = made.savepoints } in
+    record { frames = refl; register = refl; say = refl; writes = made.writes; savepoints = made.savepoints } in
     carried-ok
     (λ context. makes (pure_builtin_of constants context.store c.args.index (reverse (arguments c.args.count context)))
     (λ value context. answers value c.args.count context) context)
@@ -32,12 +32,13 @@ returns-in-Ok c =
 pub returns-in-Err-Fault : goal.returns-in-Err-Fault
 returns-in-Err-Fault c =
     let old : Core = c.args.core.now in
-    let new : Core = record { frames = old.frames; register = old.register; store = c.pure_builtin.new.store } in
+    let new : Core = record old { store = c.pure_builtin.new.store } in
     let constants = c.args.pools.now.constants in
     let shown : c.topmost.result.now ≡ reverse (arguments c.args.count (context_of old)) =
     sym (reverse-reverse c.topmost.result.now) ∙ ap reverse c.topmost.ensures in
     let made = c.pure_builtin.ensures in
-    let keeps : KeepsFrames old new = record { frames = refl; register = refl; writes = made.writes; savepoints = made.savepoints } in
+    let keeps : KeepsFrames old new =
+    record { frames = refl; register = refl; say = refl; writes = made.writes; savepoints = made.savepoints } in
     carried-fault
     (λ context. makes (pure_builtin_of constants context.store c.args.index (reverse (arguments c.args.count context)))
     (λ value context. answers value c.args.count context) context)
@@ -50,12 +51,13 @@ returns-in-Err-Fault c =
 pub returns-in-Err-Full : goal.returns-in-Err-Full
 returns-in-Err-Full c =
     let old : Core = c.args.core.now in
-    let new : Core = record { frames = old.frames; register = old.register; store = c.pure_builtin.new.store } in
+    let new : Core = record old { store = c.pure_builtin.new.store } in
     let constants = c.args.pools.now.constants in
     let shown : c.topmost.result.now ≡ reverse (arguments c.args.count (context_of old)) =
     sym (reverse-reverse c.topmost.result.now) ∙ ap reverse c.topmost.ensures in
     let made = c.pure_builtin.ensures in
-    let keeps : KeepsFrames old new = record { frames = refl; register = refl; writes = made.writes; savepoints = made.savepoints } in
+    let keeps : KeepsFrames old new =
+    record { frames = refl; register = refl; say = refl; writes = made.writes; savepoints = made.savepoints } in
     carried-full
     (λ context. makes (pure_builtin_of constants context.store c.args.index (reverse (arguments c.args.count context)))
     (λ value context. answers value c.args.count context) context)

@@ -31,6 +31,7 @@ returns-in-Ok c =
             others = all_values (frames i).older;
             register = Nil;
             store = old.store.store;
+            say = old.say;
           })
           ∙ sym (ap (λ (a : Action). a.1) said);
       older = ap (λ (f : FramesValue). f.older) frames;
@@ -58,6 +59,7 @@ returns-in-Err c =
             others = all_values (turned i).older;
             register = old.register;
             store = old.store.store;
+            say = old.say;
           }))
           ∙ sym (ap (λ (a : Action). leaving [] a.1) said);
       older = ap (λ (f : FramesValue). f.older) turned;

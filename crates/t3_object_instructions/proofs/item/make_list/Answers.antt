@@ -9,10 +9,10 @@ use Rattle.t3_object_instructions.proofs.item.make_list.Goals as goal
 pub returns-in-Ok : goal.returns-in-Ok
 returns-in-Ok c =
     let old : Core = c.args.core.now in
-    let between : Core = record { frames = old.frames; register = old.register; store = c.list_with_element.new.store } in
+    let between : Core = record old { store = c.list_with_element.new.store } in
     let made = c.list_with_element.ensures in
     let keeps : KeepsFrames old between =
-    record { frames = refl; register = refl; writes = made.writes; savepoints = made.savepoints } in
+    record { frames = refl; register = refl; say = refl; writes = made.writes; savepoints = made.savepoints } in
     carried-ok (makes_list c.args.pools.now.constants c.args.at c.args.list c.args.value)
     (list_with_element_of c.args.pools.now.constants old.store.store c.args.list c.args.at c.args.value) puts old between c.put.new.core
     c.in-Ok.value _ refl c.in-Ok.ensures.carried keeps c.put.ensures.done
@@ -20,9 +20,10 @@ returns-in-Ok c =
 pub returns-in-Err-Fault : goal.returns-in-Err-Fault
 returns-in-Err-Fault c =
     let old : Core = c.args.core.now in
-    let new : Core = record { frames = old.frames; register = old.register; store = c.list_with_element.new.store } in
+    let new : Core = record old { store = c.list_with_element.new.store } in
     let made = c.list_with_element.ensures in
-    let keeps : KeepsFrames old new = record { frames = refl; register = refl; writes = made.writes; savepoints = made.savepoints } in
+    let keeps : KeepsFrames old new =
+    record { frames = refl; register = refl; say = refl; writes = made.writes; savepoints = made.savepoints } in
     carried-fault (makes_list c.args.pools.now.constants c.args.at c.args.list c.args.value)
     (list_with_element_of c.args.pools.now.constants old.store.store c.args.list c.args.at c.args.value) puts old new _ c.in-Err-Fault.fault
     refl c.in-Err-Fault.field-0-is c.in-Err-Fault.ensures.carried keeps
@@ -30,9 +31,10 @@ returns-in-Err-Fault c =
 pub returns-in-Err-Full : goal.returns-in-Err-Full
 returns-in-Err-Full c =
     let old : Core = c.args.core.now in
-    let new : Core = record { frames = old.frames; register = old.register; store = c.list_with_element.new.store } in
+    let new : Core = record old { store = c.list_with_element.new.store } in
     let made = c.list_with_element.ensures in
-    let keeps : KeepsFrames old new = record { frames = refl; register = refl; writes = made.writes; savepoints = made.savepoints } in
+    let keeps : KeepsFrames old new =
+    record { frames = refl; register = refl; say = refl; writes = made.writes; savepoints = made.savepoints } in
     carried-full (makes_list c.args.pools.now.constants c.args.at c.args.list c.args.value)
     (list_with_element_of c.args.pools.now.constants old.store.store c.args.list c.args.at c.args.value) puts old new _ refl
     c.in-Err-Full.field-0-is c.in-Err-Full.ensures.carried keeps
