@@ -6,55 +6,52 @@ use Rattle.t3_cli.specs.declared.images.read.ReadImage.{ReadImage}
 use Rattle.t3_cli.specs.declared.images.read.ReadImage.TheVariants as read
 use Rattle.t3_cli.specs.declared.status.Status.{Status}
 use Rattle.t3_cli.specs.declared.status.Status.TheVariants.{Done, Usage, Absent, ImageRefused, LoadRefused, SourceRefused}
-use Rattle.t3_interp.specs.declared.event.End.{End}
+use Rattle.t3_run.specs.declared.stop.Stop.{Stop}
+use Rattle.t3_run.specs.declared.stop.Stop.TheVariants.{Ends}
+use Rattle.t3_run.specs.Asking.{IsInput}
+use Rattle.t3_run.specs.Act.{shown_by}
+use Rattle.t3_run.proofs.Shown.{shows_nothing}
+use Rattle.t3_run.proofs.Asks.{asks-none, asks-moves}
 use Rattle.t3_interp.specs.declared.event.End.TheVariants as ends
 use Rattle.t3_cli.specs.Cause.{Cause}
 use Rattle.t3_image_read.specs.declared.reader.Totals.{Totals}
 use Rattle.t3_cli.specs.Command.{CommandValue, Check, Show, Run, Rewrite, Listing, Asm}
 use Rattle.t3_cli.specs.Lines.{usage_line}
 use Rattle.t3_cli.specs.Outcome.{Outcome, showing, IsResult, IsImageOutcome, input_of, status_of}
-use Rattle.t3_cli.specs.Top.{CutsShort, IsInput, IsWhole, IsCut, IsShown, ShowsSome, HasExactCause}
+use Rattle.t3_cli.specs.Top.{CutsShort, IsWhole, IsCut, IsShown, MovesSome, HasExactCause}
 use Rattle.t3_cli.specs.Inner.Reading.{ReadsInput}
 use Rattle.t3_cli.specs.Inner.Following.{Answers, Follows, FollowsSome, IsReadOutcome, IsCountedOutcome, IsWrittenOutcome}
 use Rattle.t3_cli.proofs.Results.{read_result}
 use Rattle.t3_cli.proofs.Causes.{exact_cause, result_not_cut}
-use Rattle.t3_cli.proofs.Followed.{follows_shown}
-use Rattle.t3_cli.proofs.Shown.{shows_nothing}
+use Rattle.t3_cli.proofs.Followed.{input_in, follows_shown}
 
--- an input that a console may have
-input_in : (session : Option Session) → (input : List ℕ) × IsInput session input
-input_in None = ([], tt)
-input_in (Some session) = (session.left, refl)
-
-answers_by : (command : Option CommandValue) (files : Files) (left : Option Files) (before after : Option Session) (answer : Status) (outcome : Outcome)
-    → ((input : List ℕ) → IsResult command files input outcome) → Follows outcome (Some files) left before after answer
+answers_by : (command : Option CommandValue) (files : Files) (left : Option Files) (before after : Option Session) (answer : Status) (input : List ℕ)
+    (outcome : Outcome) → IsInput before input → IsResult command files input outcome → Follows outcome (Some files) left before after answer
     → Answers command files before answer left after
-answers_by command files left before after answer outcome result (inl whole) =
-    let input = input_in before in
+answers_by command files left before after answer input outcome is_input result (inl whole) =
     inl (record {
-      input = input.0;
-      is_input = input.1;
+      input = input;
+      is_input = is_input;
       outcome = outcome;
-      result = result input.0;
+      result = result;
       status = whole.status;
       files_are = whole.leaves;
-      shows = whole.shows;
+      asks = whole.asks;
     })
-answers_by command files left before after answer outcome result (inr breaks) =
-    let input = input_in before in
+answers_by command files left before after answer input outcome is_input result (inr breaks) =
     inr (
       breaks.cut,
       inr (record {
-        input = input.0;
-        is_input = input.1;
+        input = input;
+        is_input = is_input;
         outcome = outcome;
-        result = result input.0;
+        result = result;
         done = breaks.done;
         rest = breaks.rest;
         acts_are = breaks.acts_are;
         said = breaks.said;
         stops = breaks.stops;
-        shows = breaks.shows;
+        asks = breaks.asks;
       }),
     )
 
@@ -65,8 +62,8 @@ pub read_answers : (command : CommandValue) (all left : Option Files) (before af
     → ReadsInput all (input_of command) (Ok found) → FollowsSome (IsReadOutcome command found) all left before after answer
     → IfSome all (λ files. Answers (Some command) files before answer left after)
 read_answers command None left before after answer found reads follows = tt
-read_answers command (Some files) left before after answer found reads (outcome, gives, follows) =
-    answers_by (Some command) files left before after answer outcome (λ input. read_result command files input found outcome reads gives) follows
+read_answers command (Some files) left before after answer found reads (input, is_input, outcome, gives, follows) =
+    answers_by (Some command) files left before after answer input outcome is_input (read_result command files input found outcome reads gives) follows
 
 -- nothing was done
 pub untouched_answers : (command : Option CommandValue) (all left : Option Files) (before : Option Session) (answer : Status) → left ≡ all
@@ -75,40 +72,43 @@ pub untouched_answers : (command : Option CommandValue) (all left : Option Files
 untouched_answers command None left before answer same cut = tt
 untouched_answers command (Some files) left before answer same cut = inr (cut, inl (same, refl))
 
-pub follows_some : (IsOutcome : Outcome → Type 0) (all left : Option Files) (before after : Option Session) (answer : Status)
-    → FollowsSome IsOutcome all left before after answer → ShowsSome before after
-follows_some IsOutcome all left before after answer (outcome, gives, inl whole) = (_, whole.shows)
-follows_some IsOutcome all left before after answer (outcome, gives, inr breaks) = (breaks.said, breaks.shows)
+pub follows_some : (IsOutcome : List ℕ → Outcome → Type 0) (all left : Option Files) (before after : Option Session) (answer : Status)
+    → FollowsSome IsOutcome all left before after answer → MovesSome before after
+follows_some IsOutcome all left before after answer (input, is_input, outcome, gives, inl whole) =
+    (shown_by outcome.acts, asks-moves outcome.acts before after (shown_by outcome.acts) whole.asks)
+follows_some IsOutcome all left before after answer (input, is_input, outcome, gives, inr breaks) =
+    (breaks.said, asks-moves outcome.acts before after breaks.said breaks.asks)
 
-pub some_nothing : (before : Option Session) → ShowsSome before before
-some_nothing before = ([], shows_nothing before)
+pub some_nothing : (before : Option Session) → MovesSome before before
+some_nothing before = ([], asks-moves [] before before [] (asks-none [] before before [] (shows_nothing before)))
 
 -- ---- only words that are no command end in the usage
 
 cut_not_usage : (answer : Status) → CutsShort answer → answer ≢ Usage
 cut_not_usage answer cut is = let P : Status → Type 0 = CutsShort in subst P is cut
 
-end_not_usage : (end : Option End) → status_of end ≢ Usage
-end_not_usage (Some ends.Returned) = λ e. absurd cc
-end_not_usage end = λ e. absurd cc
+stop_not_usage : (stop : Stop) → status_of stop ≢ Usage
+stop_not_usage (Ends ends.Returned) = λ e. absurd cc
+stop_not_usage stop = λ e. absurd cc
 
 -- an outcome with another status
 other_status : (outcome : Outcome) (status : Status) (text : List ℕ) → outcome ≡ showing status text → status ≢ Usage
     → outcome.status ≢ Usage
 other_status outcome status text is other same = other (sym (ap (λ (o : Outcome). o.status) is) ∙ same)
 
-image_not_usage : (command : CommandValue) (image : _) (outcome : Outcome) → IsImageOutcome command image outcome → outcome.status ≢ Usage
-image_not_usage (Check name) image outcome is = other_status outcome Done _ is (λ e. absurd cc)
-image_not_usage (Show name) image outcome is = other_status outcome Done _ is (λ e. absurd cc)
-image_not_usage (Rewrite name out mask) image outcome is =
+image_not_usage : (command : CommandValue) (image : _) (input : List ℕ) (outcome : Outcome) → IsImageOutcome command image input outcome
+    → outcome.status ≢ Usage
+image_not_usage (Check name) image input outcome is = other_status outcome Done _ is (λ e. absurd cc)
+image_not_usage (Show name) image input outcome is = other_status outcome Done _ is (λ e. absurd cc)
+image_not_usage (Rewrite name out mask) image input outcome is =
     λ same. let clash : Done ≡ Usage = sym (ap (λ (o : Outcome). o.status) is) ∙ same in absurd cc
-image_not_usage (Listing name out) image outcome is =
+image_not_usage (Listing name out) image input outcome is =
     λ same. let clash : Done ≡ Usage = sym (ap (λ (o : Outcome). o.status) is) ∙ same in absurd cc
-image_not_usage (Asm name out) image outcome is =
+image_not_usage (Asm name out) image input outcome is =
     λ same. let clash : Done ≡ Usage = sym (ap (λ (o : Outcome). o.status) is) ∙ same in absurd cc
-image_not_usage (Run name options) image outcome (inl (why, loaded, is)) = other_status outcome LoadRefused _ is (λ e. absurd cc)
-image_not_usage (Run name options) image outcome (inr (ran, runs, is)) =
-    other_status outcome (status_of ran.end) _ is (end_not_usage ran.end)
+image_not_usage (Run name options) image input outcome (inl (why, loaded, is)) = other_status outcome LoadRefused _ is (λ e. absurd cc)
+image_not_usage (Run name options) image input outcome (inr (ran, runs, is)) =
+    λ same. stop_not_usage ran.stop (sym (ap (λ (o : Outcome). o.status) is) ∙ same)
 
 counted_not_usage : (command : CommandValue) (totals : Totals) (outcome : Outcome) → IsCountedOutcome command totals outcome
     → outcome.status ≢ Usage
@@ -121,20 +121,20 @@ written_not_usage (Rewrite name out under) mask written outcome is =
     λ same. let clash : Done ≡ Usage = sym (ap (λ (o : Outcome). o.status) is) ∙ same in absurd cc
 written_not_usage _ mask written outcome is = absurd is
 
-read_not_usage : (command : CommandValue) (found : ReadImage) (outcome : Outcome) → IsReadOutcome command found outcome
+read_not_usage : (command : CommandValue) (found : ReadImage) (input : List ℕ) (outcome : Outcome) → IsReadOutcome command found input outcome
     → outcome.status ≢ Usage
-read_not_usage command read.Absent outcome is = other_status outcome Absent _ is (λ e. absurd cc)
-read_not_usage command (read.Refused place why) outcome is = other_status outcome ImageRefused _ is (λ e. absurd cc)
-read_not_usage command (read.BadLine line why) outcome is = other_status outcome SourceRefused _ is (λ e. absurd cc)
-read_not_usage command (read.Counted totals) outcome is = counted_not_usage command totals outcome is
-read_not_usage command (read.Rewritten mask written) outcome is = written_not_usage command mask written.items outcome is.1
-read_not_usage command (read.Image image) outcome is = image_not_usage command image outcome is
+read_not_usage command read.Absent input outcome is = other_status outcome Absent _ is (λ e. absurd cc)
+read_not_usage command (read.Refused place why) input outcome is = other_status outcome ImageRefused _ is (λ e. absurd cc)
+read_not_usage command (read.BadLine line why) input outcome is = other_status outcome SourceRefused _ is (λ e. absurd cc)
+read_not_usage command (read.Counted totals) input outcome is = counted_not_usage command totals outcome is
+read_not_usage command (read.Rewritten mask written) input outcome is = written_not_usage command mask written.items outcome is.1
+read_not_usage command (read.Image image) input outcome is = image_not_usage command image input outcome is
 
 pub follows_not_usage : (command : CommandValue) (found : ReadImage) (all left : Option Files) (before after : Option Session) (answer : Status)
     → FollowsSome (IsReadOutcome command found) all left before after answer → answer ≢ Usage
-follows_not_usage command found all left before after answer (outcome, gives, inl whole) =
-    λ is. read_not_usage command found outcome gives (sym whole.status ∙ is)
-follows_not_usage command found all left before after answer (outcome, gives, inr breaks) = cut_not_usage answer breaks.cut
+follows_not_usage command found all left before after answer (input, is_input, outcome, gives, inl whole) =
+    λ is. read_not_usage command found input outcome gives (sym whole.status ∙ is)
+follows_not_usage command found all left before after answer (input, is_input, outcome, gives, inr breaks) = cut_not_usage answer breaks.cut
 
 -- ---- words that are no command
 
@@ -142,13 +142,14 @@ pub usage_answers : (all : Option Files) (before after : Option Session) (answer
     → IfSome all (λ files. Answers None files before answer all after)
 usage_answers None before after answer shown = tt
 usage_answers (Some files) before after answer shown =
-    answers_by None files (Some files) before after answer (showing Usage usage_line) (λ input. refl)
+    let input = input_in before in
+    answers_by None files (Some files) before after answer input.0 (showing Usage usage_line) input.1 refl
     (follows_shown (Some files) before before after [] usage_line Usage answer (shows_nothing before) shown)
 
 pub shown_some : (before after : Option Session) (text : List ℕ) (status answer : Status) → IsShown before after text status answer
-    → ShowsSome before after
-shown_some before after text status answer (inl whole) = (text, whole.shows)
-shown_some before after text status answer (inr cut) = (cut.said, cut.shows)
+    → MovesSome before after
+shown_some before after text status answer (inl whole) = (text, asks-moves [] before after text (asks-none [] before after text whole.shows))
+shown_some before after text status answer (inr cut) = (cut.said, asks-moves [] before after cut.said (asks-none [] before after cut.said cut.shows))
 
 -- ---- the clauses
 

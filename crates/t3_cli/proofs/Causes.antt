@@ -6,12 +6,13 @@ use Rattle.t3_io.specs.Session.{Session}
 use Rattle.t3_image_read.specs.ImageText.{ImageValue}
 use Rattle.t3_asm.specs.declared.refusal.AsmRefusal.{AsmRefusal}
 use Rattle.t3_cli.specs.declared.status.Status.{Status}
-use Rattle.t3_cli.specs.declared.status.Status.TheVariants.{Done, Usage, Absent, ImageRefused, LoadRefused, Unhandled, BadCode, StoreFull, StepLimit, SourceRefused, DepotFault, ConsoleFault, NoMemory}
-use Rattle.t3_interp.specs.declared.event.End.{End}
+use Rattle.t3_cli.specs.declared.status.Status.TheVariants.{Done, Usage, Absent, ImageRefused, LoadRefused, Unhandled, BadCode, StoreFull, StepLimit, InputLimit, SourceRefused, DepotFault, ConsoleFault, NoMemory}
+use Rattle.t3_run.specs.declared.stop.Stop.{Stop}
+use Rattle.t3_run.specs.declared.stop.Stop.TheVariants.{Ends, NoStep, NoLine}
 use Rattle.t3_interp.specs.declared.event.End.TheVariants as ends
 use Rattle.t3_cli.specs.Command.{CommandValue, Run, Asm, RunOptions}
 use Rattle.t3_cli.specs.Lines.{absent_line, refused_line, bad_line, load_line}
-use Rattle.t3_cli.specs.Outcome.{Outcome, showing, IsResult, IsInputOutcome, IsFileOutcome, IsImageOutcome, IsRunOutcome, IsTextOutcome, IsSourceOutcome, assembled, InputFile, ImageFile, SourceFile, input_of, BeginsWith, read_bytes, shown_of, status_of}
+use Rattle.t3_cli.specs.Outcome.{Outcome, showing, IsResult, IsInputOutcome, IsFileOutcome, IsImageOutcome, IsRunOutcome, IsTextOutcome, IsSourceOutcome, assembled, InputFile, ImageFile, SourceFile, input_of, BeginsWith, read_bytes, ran_outcome, status_of}
 use Rattle.t3_cli.specs.Cause.{Cause, WordsCause, CommandCause, IsAbsent, IsRefusedImage, IsRefusedSource, IsUnloadable, EndsBy, RunsFile}
 use Rattle.t3_cli.specs.Top.{CutsShort, HasExactCause}
 use Rattle.t3_cli.specs.Inner.Following.{Answers}
@@ -23,18 +24,19 @@ use Rattle.t3_cli.proofs.Results.{one_outcome}
 abbrev HasCause : Status → CommandValue → Files → List ℕ → Type 0
 HasCause status command files input = (status ≡ Done) ⊎ CommandCause status command files input
 
--- a run ends by the status of its end
-end_cause : (end : Option End) (command : CommandValue) (files : Files) (input : List ℕ) → EndsBy (status_of end) command files
-    → HasCause (status_of end) command files input
-end_cause None command files input by = inr by
-end_cause (Some ends.Returned) command files input by = inl refl
-end_cause (Some (ends.Unhandled object fault)) command files input by = inr by
-end_cause (Some (ends.BadCode at cause)) command files input by = inr by
-end_cause (Some ends.StoreFull) command files input by = inr by
+-- a run stops by the status of its stop
+stop_cause : (stop : Stop) (command : CommandValue) (files : Files) (input : List ℕ) → EndsBy (status_of stop) command files input
+    → HasCause (status_of stop) command files input
+stop_cause NoStep command files input by = inr by
+stop_cause NoLine command files input by = inr by
+stop_cause (Ends ends.Returned) command files input by = inl refl
+stop_cause (Ends (ends.Unhandled object fault)) command files input by = inr by
+stop_cause (Ends (ends.BadCode at cause)) command files input by = inr by
+stop_cause (Ends ends.StoreFull) command files input by = inr by
 
 run_cause : (name file : List ℕ) (image : ImageValue) (options : RunOptions) (files : Files) (input : List ℕ) (outcome : Outcome)
     → get files name ≡ Some file
-    → BeginsWith (read_bytes file) image → IsRunOutcome image options outcome
+    → BeginsWith (read_bytes file) image → IsRunOutcome image options input outcome
     → HasCause outcome.status (Run name options) files input
 run_cause name file image options files input outcome there begins (inl (why, loaded, is)) =
     let runs : RunsFile (Run name options) files image options = record { name = name; file = file; command_is = refl; there = there; begins = begins } in
@@ -43,11 +45,11 @@ run_cause name file image options files input outcome there begins (inl (why, lo
 run_cause name file image options files input outcome there begins (inr (ran, is_run, is)) =
     let runs : RunsFile (Run name options) files image options = record { name = name; file = file; command_is = refl; there = there; begins = begins } in
     let P : Status → Type 0 = λ s. HasCause s (Run name options) files input in
-    subst P (sym (ap (λ (o : Outcome). o.status) is)) (end_cause ran.end (Run name options) files input (image, options, ran, runs, is_run, refl))
+    subst P (sym (ap (λ (o : Outcome). o.status) is)) (stop_cause ran.stop (Run name options) files input (image, options, ran, runs, is_run, refl))
 
 image_cause : (command : CommandValue) (name file : List ℕ) (image : ImageValue) (files : Files) (input : List ℕ) (outcome : Outcome)
     → input_of command ≡ ImageFile name
-    → get files name ≡ Some file → BeginsWith (read_bytes file) image → IsImageOutcome command image outcome
+    → get files name ≡ Some file → BeginsWith (read_bytes file) image → IsImageOutcome command image input outcome
     → HasCause outcome.status command files input
 image_cause (Run own options) name file image files input outcome reads there begins is =
     let same : own ≡ name = cc in
@@ -56,7 +58,7 @@ image_cause command name file image files input outcome reads there begins is = 
 
 file_cause : (command : CommandValue) (name : List ℕ) (file : Option (List ℕ)) (files : Files) (input : List ℕ) (outcome : Outcome)
     → input_of command ≡ ImageFile name
-    → get files name ≡ file → IsFileOutcome command name file outcome → HasCause outcome.status command files input
+    → get files name ≡ file → IsFileOutcome command name file input outcome → HasCause outcome.status command files input
 file_cause command name None files input outcome reads there is =
     let P : InputFile → Type 0 = λ i. IsAbsent i files in
     let Q : Status → Type 0 = λ s. HasCause s command files input in
@@ -70,13 +72,13 @@ file_cause command name (Some file) files input outcome reads there (inr (image,
 
 -- a source's image is written by one command alone
 written_cause : (command : CommandValue) (name : List ℕ) (image : ImageValue) (files : Files) (input : List ℕ) (outcome : Outcome)
-    → input_of command ≡ SourceFile name → IsImageOutcome command image outcome → HasCause outcome.status command files input
+    → input_of command ≡ SourceFile name → IsImageOutcome command image input outcome → HasCause outcome.status command files input
 written_cause (Asm own out) name image files input outcome reads is = inl (ap (λ (o : Outcome). o.status) is)
 written_cause command name image files input outcome reads is = absurd cc
 
 source_cause : (command : CommandValue) (name file : List ℕ) (found : Result ImageValue AsmRefusal) (files : Files) (input : List ℕ) (outcome : Outcome)
     → input_of command ≡ SourceFile name → get files name ≡ Some file → assembled (read_bytes file) ≡ found
-    → IsSourceOutcome command found outcome → HasCause outcome.status command files input
+    → IsSourceOutcome command found input outcome → HasCause outcome.status command files input
 source_cause command name file (Ok image) files input outcome reads there says is = written_cause command name image files input outcome reads is
 source_cause command name file (Err refused) files input outcome reads there says is =
     let P : InputFile → Type 0 = λ i. IsRefusedSource i files in
@@ -85,7 +87,7 @@ source_cause command name file (Err refused) files input outcome reads there say
 
 text_cause : (command : CommandValue) (name : List ℕ) (file : Option (List ℕ)) (files : Files) (input : List ℕ) (outcome : Outcome)
     → input_of command ≡ SourceFile name
-    → get files name ≡ file → IsTextOutcome command name file outcome → HasCause outcome.status command files input
+    → get files name ≡ file → IsTextOutcome command name file input outcome → HasCause outcome.status command files input
 text_cause command name None files input outcome reads there is =
     let P : InputFile → Type 0 = λ i. IsAbsent i files in
     let Q : Status → Type 0 = λ s. HasCause s command files input in
@@ -94,7 +96,7 @@ text_cause command name (Some file) files input outcome reads there is =
     source_cause command name file (assembled (read_bytes file)) files input outcome reads there refl is
 
 input_cause : (command : CommandValue) (from : InputFile) (files : Files) (input : List ℕ) (outcome : Outcome) → input_of command ≡ from
-    → IsInputOutcome command from files outcome
+    → IsInputOutcome command from files input outcome
     → HasCause outcome.status command files input
 input_cause command (ImageFile name) files input outcome reads is =
     file_cause command name (get files name) files input outcome reads refl is
@@ -134,44 +136,45 @@ pub record HasStatus (status : Status) (command : Option CommandValue) (files : 
   pub result : IsResult command files input outcome
   pub is : outcome.status ≡ status
 
-abbrev ReadsOutcome : CommandValue → InputFile → Files → Status → Type 0
-ReadsOutcome command from files status = (outcome : Outcome) × IsInputOutcome command from files outcome × (outcome.status ≡ status)
+abbrev ReadsOutcome : CommandValue → InputFile → Files → List ℕ → Status → Type 0
+ReadsOutcome command from files input status = (outcome : Outcome) × IsInputOutcome command from files input outcome × (outcome.status ≡ status)
 
 of_input : (status : Status) (command : CommandValue) (files : Files) (input : List ℕ)
-    → ReadsOutcome command (input_of command) files status → HasStatus status (Some command) files input
+    → ReadsOutcome command (input_of command) files input status → HasStatus status (Some command) files input
 of_input status command files input (outcome, result, is) = record { outcome = outcome; result = result; is = is }
 
-absent_status : (command : CommandValue) (from : InputFile) (files : Files) → IsAbsent from files → ReadsOutcome command from files Absent
-absent_status command (ImageFile name) files absent =
-    let P : Option (List ℕ) → Type 0 = λ o. IsFileOutcome command name o (showing Absent (absent_line name)) in
+absent_status : (command : CommandValue) (from : InputFile) (files : Files) (input : List ℕ) → IsAbsent from files
+    → ReadsOutcome command from files input Absent
+absent_status command (ImageFile name) files input absent =
+    let P : Option (List ℕ) → Type 0 = λ o. IsFileOutcome command name o input (showing Absent (absent_line name)) in
     (showing Absent (absent_line name), subst P (sym absent) refl, refl)
-absent_status command (SourceFile name) files absent =
-    let P : Option (List ℕ) → Type 0 = λ o. IsTextOutcome command name o (showing Absent (absent_line name)) in
+absent_status command (SourceFile name) files input absent =
+    let P : Option (List ℕ) → Type 0 = λ o. IsTextOutcome command name o input (showing Absent (absent_line name)) in
     (showing Absent (absent_line name), subst P (sym absent) refl, refl)
 
-refused_status : (command : CommandValue) (from : InputFile) (files : Files) → IsRefusedImage from files
-    → ReadsOutcome command from files ImageRefused
-refused_status command (SourceFile name) files refused = absurd refused
-refused_status command (ImageFile name) files (file, there, (place, why, refused)) =
+refused_status : (command : CommandValue) (from : InputFile) (files : Files) (input : List ℕ) → IsRefusedImage from files
+    → ReadsOutcome command from files input ImageRefused
+refused_status command (SourceFile name) files input refused = absurd refused
+refused_status command (ImageFile name) files input (file, there, (place, why, refused)) =
     let outcome = showing ImageRefused (refused_line why place) in
-    let P : Option (List ℕ) → Type 0 = λ o. IsFileOutcome command name o outcome in
+    let P : Option (List ℕ) → Type 0 = λ o. IsFileOutcome command name o input outcome in
     (outcome, subst P (sym there) (inl (record { place = place; why = why; refused = refused; is = refl })), refl)
 
-bad_status : (command : CommandValue) (from : InputFile) (files : Files) → IsRefusedSource from files
-    → ReadsOutcome command from files SourceRefused
-bad_status command (ImageFile name) files refused = absurd refused
-bad_status command (SourceFile name) files (file, refused, there, says) =
+bad_status : (command : CommandValue) (from : InputFile) (files : Files) (input : List ℕ) → IsRefusedSource from files
+    → ReadsOutcome command from files input SourceRefused
+bad_status command (ImageFile name) files input refused = absurd refused
+bad_status command (SourceFile name) files input (file, refused, there, says) =
     let outcome = showing SourceRefused (bad_line refused.line refused.why) in
-    let P : Option (List ℕ) → Type 0 = λ o. IsTextOutcome command name o outcome in
-    let Q : Result ImageValue AsmRefusal → Type 0 = λ r. IsSourceOutcome command r outcome in
+    let P : Option (List ℕ) → Type 0 = λ o. IsTextOutcome command name o input outcome in
+    let Q : Result ImageValue AsmRefusal → Type 0 = λ r. IsSourceOutcome command r input outcome in
     (outcome, subst P (sym there) (subst Q (sym says) refl), refl)
 
 -- a command that runs an image has the outcome of that
 runs_status : (command : CommandValue) (files : Files) (input : List ℕ) (image : ImageValue) (options : RunOptions) (outcome : Outcome)
     → RunsFile command files image options
-    → IsRunOutcome image options outcome → HasStatus outcome.status (Some command) files input
+    → IsRunOutcome image options input outcome → HasStatus outcome.status (Some command) files input
 runs_status command files input image options outcome runs is =
-    let P : Option (List ℕ) → Type 0 = λ o. IsFileOutcome (Run runs.name options) runs.name o outcome in
+    let P : Option (List ℕ) → Type 0 = λ o. IsFileOutcome (Run runs.name options) runs.name o input outcome in
     let Q : CommandValue → Type 0 = λ c. IsResult (Some c) files input outcome in
     record {
       outcome =
@@ -189,26 +192,27 @@ unloaded_status : (command : CommandValue) (files : Files) (input : List ℕ) �
 unloaded_status command files input (image, options, why, runs, loaded) =
     runs_status command files input image options (showing LoadRefused (load_line why)) runs (inl (why, loaded, refl))
 
-ends_status : (status : Status) (command : CommandValue) (files : Files) (input : List ℕ) → EndsBy status command files
+ends_status : (status : Status) (command : CommandValue) (files : Files) (input : List ℕ) → EndsBy status command files input
     → HasStatus status (Some command) files input
 ends_status status command files input (image, options, ran, runs, is_run, is) =
-    as_status (status_of ran.end) status (Some command) files input is
-    (runs_status command files input image options (showing (status_of ran.end) (shown_of ran)) runs (inr (ran, is_run, refl)))
+    as_status (status_of ran.stop) status (Some command) files input is
+    (runs_status command files input image options (ran_outcome ran) runs (inr (ran, is_run, refl)))
 
 command_status : (status : Status) (command : CommandValue) (files : Files) (input : List ℕ) → CommandCause status command files input
     → HasStatus status (Some command) files input
 command_status Done command files input cause = absurd cause
 command_status Usage command files input cause = absurd cause
-command_status Absent command files input cause = of_input Absent command files input (absent_status command (input_of command) files cause)
+command_status Absent command files input cause = of_input Absent command files input (absent_status command (input_of command) files input cause)
 command_status ImageRefused command files input cause =
-    of_input ImageRefused command files input (refused_status command (input_of command) files cause)
+    of_input ImageRefused command files input (refused_status command (input_of command) files input cause)
 command_status SourceRefused command files input cause =
-    of_input SourceRefused command files input (bad_status command (input_of command) files cause)
+    of_input SourceRefused command files input (bad_status command (input_of command) files input cause)
 command_status LoadRefused command files input cause = unloaded_status command files input cause
 command_status Unhandled command files input cause = ends_status Unhandled command files input cause
 command_status BadCode command files input cause = ends_status BadCode command files input cause
 command_status StoreFull command files input cause = ends_status StoreFull command files input cause
 command_status StepLimit command files input cause = ends_status StepLimit command files input cause
+command_status InputLimit command files input cause = ends_status InputLimit command files input cause
 command_status DepotFault command files input cause = absurd cause
 command_status ConsoleFault command files input cause = absurd cause
 command_status NoMemory command files input cause = absurd cause
@@ -272,6 +276,7 @@ cause_of Unhandled = other_cause Unhandled (λ e. absurd cc)
 cause_of BadCode = other_cause BadCode (λ e. absurd cc)
 cause_of StoreFull = other_cause StoreFull (λ e. absurd cc)
 cause_of StepLimit = other_cause StepLimit (λ e. absurd cc)
+cause_of InputLimit = other_cause InputLimit (λ e. absurd cc)
 cause_of SourceRefused = other_cause SourceRefused (λ e. absurd cc)
 cause_of DepotFault = other_cause DepotFault (λ e. absurd cc)
 cause_of ConsoleFault = other_cause ConsoleFault (λ e. absurd cc)

@@ -1,34 +1,40 @@
 -- How what was shown and put follows an outcome.
-use Rattle.std.proofs.Common.{◌≡◌, ◌≢◌, ℕ, Bool, List, [], ◌∷◌, ◌++◌, length, Option, Some, None, Result, Ok, Err, IfOk, refl, sym, ap, subst, ◌∙◌, inl, inr, append_assoc}
+use Rattle.std.proofs.Common.{◌≡◌, ◌≢◌, ℕ, List, [], ◌∷◌, ◌++◌, length, Option, Some, None, Result, Ok, Err, IfOk, refl, sym, ap, subst, ◌∙◌, inl, inr, append_assoc}
 use Rattle.std.proofs.lemmas.List.{append-nil}
 use Rattle.t3_io.specs.Files.{Files}
 use Rattle.t3_io.specs.Session.{Session}
 use Rattle.t3_io.specs.Putting.{PutsFile}
 use Rattle.t3_io.specs.declared.refusal.DeviceRefusal.{DeviceRefusal}
-use Rattle.t3_interp.specs.declared.event.End.{End}
+use Rattle.t3_io.specs.declared.refusal.DeviceRefusal.TheVariants.{NoMemory as NoDevice}
+use Rattle.t3_run.specs.declared.stop.Stop.{Stop}
 use Rattle.t3_cli.specs.declared.status.Status.{Status}
 use Rattle.t3_cli.specs.declared.status.Status.TheVariants.{Done, LoadRefused, NoMemory}
-use Rattle.t3_cli.specs.Act.{Act, Shows, Puts}
+use Rattle.t3_run.specs.Act.{Act, Shows, Puts, Asks, StopsIn}
+use Rattle.t3_run.specs.Showing.{ShowsMore}
+use Rattle.t3_run.specs.Asking.{IsInput}
+use Rattle.t3_run.specs.Run.{begun}
+use Rattle.t3_run.specs.Running.{HasRun, HasRunInto}
+use Rattle.t3_run.proofs.Shown.{shows_after, shows_nothing}
+use Rattle.t3_run.proofs.Asks.{asks-none}
+use Rattle.t3_run.proofs.Cutting.{NoPuts, files_by-none, cut_at}
+use Rattle.t3_run.proofs.Runs.{no_puts}
 use Rattle.t3_cli.specs.declared.images.read.ReadImage.{ReadImage}
 use Rattle.t3_image_read.specs.declared.reader.Totals.{Totals}
 use Rattle.t3_cli.specs.BlockLines.{totals_text}
 use Rattle.t3_cli.specs.Command.{CommandValue, Check, Rewrite, RunOptions}
-use Rattle.t3_cli.specs.Lines.{closing_text, is_nonempty, put_line, load_line}
+use Rattle.t3_cli.specs.Lines.{put_line, load_line}
 use Rattle.t3_image_read.specs.ImageText.{ImageValue}
 use Rattle.t3_load.specs.declared.refusal.LoadRefusal.{LoadRefusal as LoadWhy}
 use Rattle.t3_load.specs.declared.refusal.LoadRefusal.TheVariants.{NoMemory as NoRoom}
-use Rattle.t3_load.specs.Rules.{Breaks}
+use Rattle.t3_load.specs.Rules.{Breaks as BreaksRule}
 use Rattle.t3_load.specs.Loading.{ProgramValue, Loads}
-use Rattle.t3_cli.specs.Outcome.{showing, putting, shown_of, status_of, IsRunOutcome, IsLoaded, fingerprint_of, run_limits}
-use Rattle.t3_interp.specs.Run.{Ran}
-use Rattle.t3_cli.specs.Top.{CutsShort, ShowsMore, IsShown}
+use Rattle.t3_cli.specs.Outcome.{Outcome, showing, putting, ran_outcome, status_of, IsRunOutcome, IsLoaded, fingerprint_of, run_limits}
+use Rattle.t3_cli.specs.Top.{CutsShort, IsShown}
 use Rattle.t3_cli.specs.Inner.Showing.{AnswersLine, ShowsOrWants}
-use Rattle.t3_cli.specs.Inner.Following.{Follows, FollowsSome, IsReadOutcome, IsCountedOutcome, IsWrittenOutcome, LeavesActs, StopsBehind}
+use Rattle.t3_cli.specs.Inner.Following.{Follows, FollowsSome, Breaks, IsProgramOutcome, IsReadOutcome, IsCountedOutcome, IsWrittenOutcome, LeavesActs, StopsBehind}
 use Rattle.t3_cli.specs.Inner.Parsing.{out_of}
 use Rattle.t3_cli.specs.Inner.Wanted.{wanted_of, WantsCount, WantsText}
-use Rattle.t3_cli.specs.Inner.Playing.{IsProgramOutcome, HasPlayed, HasBegun}
 use Rattle.t3_cli.proofs.Results.{some_run_outcome}
-use Rattle.t3_cli.proofs.Shown.{shows_after, shows_nothing}
 
 -- ---- one text, shown in one piece or after what was shown of it
 
@@ -46,7 +52,8 @@ follows_whole : (files : Option Files) (before after : Option Session) (text : L
     → Follows (showing status text) files files before after answer
 follows_whole files before after text status answer same shows =
     let P : List ℕ → Type 0 = ShowsMore before after in
-    inl (record { status = same; leaves = leaves_same files text; shows = subst P (sym (append-nil text)) shows })
+    let all = subst P (sym (append-nil text)) shows in
+    inl (record { status = same; leaves = leaves_same files text; asks = asks-none (Shows text ∷ []) before after (text ++ []) all })
 
 -- a prefix was, and then the call was cut short
 follows_cut : (files : Option Files) (before after : Option Session) (text said rest : List ℕ) (status answer : Status) → CutsShort answer
@@ -61,7 +68,7 @@ follows_cut files before after text said rest status answer cut is shows =
       acts_are = refl;
       said = said;
       stops = stops_within files text said rest is;
-      shows = shows;
+      asks = asks-none (Shows text ∷ []) before after said shows;
     })
 
 -- a text of which so much was shown already, and the rest is shown now
@@ -129,11 +136,11 @@ after_put : (files left : Option Files) (name bytes text : List ℕ) (before aft
     → Follows (record { status = Done; acts = Puts name bytes ∷ Shows text ∷ [] }) files left before after answer
 after_put files left name bytes text before after answer puts (inl (inl whole)) =
     let P : List ℕ → Type 0 = ShowsMore before after in
+    let all = subst P (sym (append-nil text)) whole.shows in
     inl (record {
-      status =
-          whole.same;
+      status = whole.same;
       leaves = leaves_put files left name bytes text puts;
-      shows = subst P (sym (append-nil text)) whole.shows;
+      asks = asks-none (Puts name bytes ∷ Shows text ∷ []) before after (text ++ []) all;
     })
 after_put files left name bytes text before after answer puts (inl (inr cut)) =
     let prefix = cut.prefix in
@@ -145,7 +152,7 @@ after_put files left name bytes text before after answer puts (inl (inr cut)) =
       said = cut.said;
       stops =
           stops_after files left name bytes text cut.said prefix.rest puts (prefix.is ∙ ap (λ t. t ++ prefix.rest) (sym prefix.said_is));
-      shows = cut.shows;
+      asks = asks-none (Puts name bytes ∷ Shows text ∷ []) before after cut.said cut.shows;
     })
 after_put files left name bytes text before after answer puts (inr wants) =
     let P : Option Session → Type 0 = λ s. ShowsMore before s [] in
@@ -157,7 +164,7 @@ after_put files left name bytes text before after answer puts (inr wants) =
       acts_are = refl;
       said = [];
       stops = stops_after files left name bytes text [] text puts refl;
-      shows = subst P (sym wants.1) (shows_nothing before);
+      asks = asks-none (Puts name bytes ∷ Shows text ∷ []) before after [] (subst P (sym wants.1) (shows_nothing before));
     })
 
 pub put_follows : {Line Error : Type 0}
@@ -189,50 +196,92 @@ put_cut files left name bytes before refusal answer puts cut =
       acts_are = refl;
       said = [];
       stops = stops_putting files left name bytes rest (Err refusal) puts;
-      shows = shows_nothing before;
+      asks = asks-none (Puts name bytes ∷ rest) before before [] (shows_nothing before);
     })
+
+-- ---- nothing was done yet
+
+-- an input that a console may have
+pub input_in : (session : Option Session) → (input : List ℕ) × IsInput session input
+input_in None = ([], tt)
+input_in (Some session) = (session.left, refl)
+
+stops_before : (files : Files) (acts : List Act) → StopsIn files [] acts (Some files) []
+stops_before files [] = (refl, refl)
+stops_before files (Shows text ∷ acts) = (refl, record { part = []; rest = text; is = refl; said_is = refl })
+stops_before files (Puts name bytes ∷ acts) = (Err NoDevice, refl, refl)
+stops_before files (Asks ∷ acts) = (refl, refl)
+
+stops_at_once : (files : Option Files) (acts : List Act) → StopsBehind files [] acts files []
+stops_at_once None acts = tt
+stops_at_once (Some files) acts = stops_before files acts
+
+cut_at_once : (acts : List Act) (files : Option Files) (before : Option Session) (answer : Status) → CutsShort answer
+    → Breaks acts files files before before answer
+cut_at_once acts files before answer cut = record {
+  cut = cut;
+  done = [];
+  rest = acts;
+  acts_are = refl;
+  said = [];
+  stops = stops_at_once files acts;
+  asks = asks-none acts before before [] (shows_nothing before);
+}
 
 -- ---- a run
 
-pub run_follows : (program : ProgramValue) (steps : ℕ) (files : Option Files) (before mid after : Option Session) (has_said : Bool) (end : Option End) (answer : Status)
-    → HasPlayed program steps before mid has_said end → ShowsOrWants mid after (closing_text has_said end) (status_of end) answer
-    → FollowsSome (IsProgramOutcome program steps) files files before after answer
-run_follows program steps files before mid after has_said end answer played closes =
-    let ran : Ran = record { said = played.said; end = end } in
-    let outcome = showing (status_of end) (played.said ++ closing_text has_said end) in (
-      outcome,
-      (ran, played.runs, ap (λ b. showing (status_of end) (played.said ++ closing_text b end)) played.has),
-      follows_or_wants files before mid after played.said (closing_text has_said end) (status_of end) answer played.shows closes,
+leaves_none : (files : Option Files) (acts : List Act) → NoPuts acts → LeavesActs files files acts
+leaves_none None acts none = tt
+leaves_none (Some files) acts none = ap (λ (f : Files). Some f) (sym (files_by-none files acts none))
+
+pub run_follows : (program : ProgramValue) (options : RunOptions) (files : Option Files) (before after : Option Session) (stop : Stop)
+    (answer : Status) → answer ≡ status_of stop → HasRun program options.steps options.width before after stop
+    → FollowsSome (IsProgramOutcome program options) files files before after answer
+run_follows program options files before after stop answer same run =
+    let none = no_puts (record { width = options.width; input = run.input }) program options.steps (begun program) run.ran run.runs in (
+      run.input,
+      run.is_input,
+      ran_outcome run.ran,
+      (run.ran, run.runs, refl),
+      inl (record {
+        status = same ∙ ap status_of run.stop_is;
+        leaves = leaves_none files run.ran.acts none;
+        asks = run.asks;
+      }),
     )
 
 -- it was cut short
-pub run_cut : (program : ProgramValue) (steps : ℕ) (files : Option Files) (before after : Option Session) (answer : Status)
-    → HasBegun program steps before after → CutsShort answer
-    → FollowsSome (IsProgramOutcome program steps) files files before after answer
-run_cut program steps files before after answer begun cut =
-    let ran = begun.ran in
-    let closing = closing_text (is_nonempty ran.said) ran.end in
-    let is : shown_of ran ≡ begun.said ++ (begun.unsaid ++ closing) = ap (λ t. t ++ closing) begun.is ∙ append_assoc begun.said begun.unsaid closing in (
-      showing (status_of ran.end) (shown_of ran),
-      (ran, begun.runs, refl),
-      follows_cut files before after (shown_of ran) begun.said (begun.unsaid ++ closing) (status_of ran.end) answer cut is begun.shows,
-    )
+pub run_cut : (program : ProgramValue) (options : RunOptions) (files : Option Files) (before after : Option Session) (answer : Status)
+    → HasRunInto program options.steps options.width before after → CutsShort answer
+    → FollowsSome (IsProgramOutcome program options) files files before after answer
+run_cut program options files before after answer run cut =
+    (run.input, run.is_input, ran_outcome run.ran, (run.ran, run.runs, refl), inr (by files))
+  where
+    none : NoPuts run.ran.acts
+    none = no_puts (record { width = options.width; input = run.input }) program options.steps (begun program) run.ran run.runs
+
+    by : (files : Option Files) → Breaks run.ran.acts files files before after answer
+    by None = record { cut = cut; done = []; rest = run.ran.acts; acts_are = refl; said = run.said; stops = tt; asks = run.asks }
+    by (Some files) =
+        let at = cut_at files run.ran.acts run.said run.unsaid none run.is in
+        record { cut = cut; done = at.done; rest = at.rest; acts_are = at.is; said = run.said; stops = at.stops; asks = run.asks }
 
 -- an image that loads is run as its program
 pub image_follows : (image : ImageValue) (program : ProgramValue) (options : RunOptions) (files : Option Files)
     (before after : Option Session) (answer : Status) → IsLoaded image (Ok program)
-    → FollowsSome (IsProgramOutcome program options.steps) files files before after answer
+    → FollowsSome (IsProgramOutcome program options) files files before after answer
     → FollowsSome (IsRunOutcome image options) files files before after answer
-image_follows image program options files before after answer loaded (outcome, (ran, runs, is), follows) =
-    (outcome, inr (ran, record { program = program; loaded = loaded; runs = runs }, is), follows)
+image_follows image program options files before after answer loaded (input, is_input, outcome, (ran, runs, is), follows) =
+    (input, is_input, outcome, inr (ran, record { program = program; loaded = loaded; runs = runs }, is), follows)
 
 -- no memory was there to load it
 pub loading_cut : (image : ImageValue) (options : RunOptions) (files : Option Files) (before : Option Session) (answer : Status)
     → CutsShort answer
     → FollowsSome (IsRunOutcome image options) files files before before answer
 loading_cut image options files before answer cut =
-    let some = some_run_outcome image options in
-    (showing some.0 some.1, some.2, follows_cut files before before some.1 [] some.1 some.0 answer cut refl (shows_nothing before))
+    let input = input_in before in
+    let some = some_run_outcome image options input.0 in
+    (input.0, input.1, some.0, some.1, inr (cut_at_once some.0.acts files before answer cut))
 
 -- of one that doesn't a line says why, unless no memory was there
 pub unloaded_follows : (image : ImageValue) (why : LoadWhy) (options : RunOptions) (files : Option Files) (before after : Option Session)
@@ -245,8 +294,11 @@ unloaded_follows image why options files before after answer (inl none) wants sh
     subst (λ session. FollowsSome (IsRunOutcome image options) files files before session answer) (sym wanting.1)
     (loading_cut image options files before answer (subst CutsShort (sym wanting.0) tt))
 unloaded_follows image why options files before after answer (inr (broken, kept)) wants shown =
-    let known : why ≢ NoRoom = λ is. subst (Breaks image.blocks run_limits) is broken in
-    let refused : ◌≢◌ {A = Result ProgramValue LoadWhy} (Err why) (Err NoRoom) = λ same. known cc in (
+    let known : why ≢ NoRoom = λ is. subst (BreaksRule image.blocks run_limits) is broken in
+    let refused : ◌≢◌ {A = Result ProgramValue LoadWhy} (Err why) (Err NoRoom) = λ same. known cc in
+    let input = input_in before in (
+      input.0,
+      input.1,
       showing LoadRefused (load_line why),
       inl (why, (refused, inr (broken, kept)), refl),
       follows_or_wants files before before after [] (load_line why) LoadRefused answer (shows_nothing before) (shown known),
@@ -268,12 +320,21 @@ matched_follows command is found seen files left before after answer same matche
 pub line_matched : {Line Error : Type 0}
     → (command is : CommandValue) (found seen : ReadImage) (text_of : Line → List ℕ) (files : Option Files) (before after : Option Session)
     (line : Result Line Error) (text : List ℕ) (status answer : Status) → command ≡ is → found ≡ seen
-    → IsReadOutcome is seen (showing status text)
+    → ((input : List ℕ) → IsReadOutcome is seen input (showing status text))
     → IfOk line (λ l. text_of l ≡ text) → AnswersLine text_of before after line status answer
     → FollowsSome (IsReadOutcome command found) files files before after answer
 line_matched command is found seen text_of files before after line text status answer same matched gives told answers =
+    let input = input_in before in
     matched_follows command is found seen files files before after answer same matched
-    (showing status text, gives, line_follows text_of files before after line text status answer told answers)
+    (input.0, input.1, showing status text, gives input.0, line_follows text_of files before after line text status answer told answers)
+
+-- it was a file that is put, and a line
+pub put_matched : (command is : CommandValue) (found seen : ReadImage) (outcome : Outcome) (files left : Option Files) (before after : Option Session)
+    (answer : Status) → command ≡ is → found ≡ seen → ((input : List ℕ) → IsReadOutcome is seen input outcome)
+    → Follows outcome files left before after answer → FollowsSome (IsReadOutcome command found) files left before after answer
+put_matched command is found seen outcome files left before after answer same matched gives follows =
+    let input = input_in before in
+    matched_follows command is found seen files left before after answer same matched (input.0, input.1, outcome, gives input.0, follows)
 
 -- where that is wanted, what was counted is shown
 pub counts : (command : CommandValue) (totals : Totals) → WantsCount (wanted_of command)

@@ -1,9 +1,9 @@
 -- The values of options, word by word.
-use Rattle.std.proofs.Common.{◌≡◌, ℕ, Bool, true, false, cond, ◌&&◌, map, Bor, MatchOption, ◌+◌, ◌<◌, ◌≤◌, List, [], ◌∷◌, ◌++◌, length, take, drop, get_or, Option, Some, None, sym, ap, subst, ◌∙◌, arith}
-use Rattle.std.specs.List.{cons_option, list_all}
+use Rattle.std.proofs.Common.{◌≡◌, ℕ, Bool, true, false, cond, ◌&&◌, ◌||◌, map, Bor, MatchOption, ◌+◌, ◌<◌, ◌≤◌, List, [], ◌∷◌, ◌++◌, length, take, drop, get_or, Option, Some, None, sym, ap, subst, ◌∙◌, arith}
+use Rattle.std.specs.List.{cons_option, list_all, list_any}
 use Rattle.std.specs.Option.{option_copied}
 use Rattle.std.specs.Prelude.{is_some}
-use Rattle.std.proofs.lemmas.List.Folds.{list_all_more, list_all_at}
+use Rattle.std.proofs.lemmas.List.Folds.{list_all_more, list_all_at, list_any_more, list_any_at}
 use Rattle.std.specs.Str.{IsCharBoundary}
 use Rattle.std.specs.Str.Pattern.{FindsTextPrefix, StripsPrefix}
 use Rattle.std.proofs.lemmas.Str.Pattern.{starts_text}
@@ -91,6 +91,27 @@ all_pass p words at all so_far = ap (list_all p) (sym (take_all at words all)) �
 text_at : {X : Type 0} → (text_of : X → List ℕ) (words : List X) (at : ℕ) (word : X) → at < length words → word ≡ get_or words at word
     → get_or (map text_of words) at [] ≡ text_of word
 text_at text_of words at word within is = get_or-map text_of words at word [] within ∙ ap text_of (sym is)
+
+-- a text is as wished
+pub one_passes : {X : Type 0} → (text_of : X → List ℕ) (p : List ℕ → Bool) (words : List X) (at : ℕ) (default : X) → at < length words
+    → true ≡ p (text_of (get_or words at default)) → true ≡ list_any p (map text_of words)
+one_passes text_of p words at default within passes =
+    sym (list_any_at p (map text_of words) at [] (omega (arith, length-map words text_of))
+    (ap p (get_or-map text_of words at default [] within) ∙ sym passes))
+
+-- it is not
+pub one_more_fails : {X : Type 0} → (text_of : X → List ℕ) (p : List ℕ → Bool) (words : List X) (at : ℕ) (default : X) → at < length words
+    → list_any p (take at (map text_of words)) ≡ false → false ≡ p (text_of (get_or words at default))
+    → list_any p (take (at + 1) (map text_of words)) ≡ false
+one_more_fails text_of p words at default within so_far fails =
+    list_any_more p (map text_of words) at [] (omega (arith, length-map words text_of))
+    ∙ (λ i. so_far i || (ap p (get_or-map text_of words at default [] within) ∙ sym fails) i)
+
+-- all texts were looked at
+pub all_fail : {X : Type 0} → (text_of : X → List ℕ) (p : List ℕ → Bool) (words : List X) (at : ℕ) → length words ≤ at
+    → list_any p (take at (map text_of words)) ≡ false → false ≡ list_any p (map text_of words)
+all_fail text_of p words at all so_far =
+    sym (ap (list_any p) (sym (take_all at (map text_of words) (omega (arith, all, length-map words text_of)))) ∙ so_far)
 
 -- the next word has no value
 pub next_none : {X : Type 0} → (text_of : X → List ℕ) (prefix : List ℕ) (words : List X) (at : ℕ) (word : X) (found : Option (List ℕ))

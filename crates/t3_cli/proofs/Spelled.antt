@@ -10,7 +10,8 @@ use Rattle.std.proofs.lemmas.Fmt.{decimal_is_IsNumeral, decimal_digit, first_dec
 use Rattle.std.proofs.lemmas.Slice.Eq.{bytes_eq-Decides}
 use Rattle.std.proofs.lemmas.Str.Parse.{numerals_by_value, tells_digits, digit_at, parse_plain}
 use borrow.Author.Tests.{leb-true, le-leb, ltb-true, lt-ltb}
-use Rattle.t3_cli.specs.Number.{positive_of, byte_of}
+use Rattle.t3_cli.specs.Number.{spelled_number}
+use Rattle.t3_cli.specs.Inner.Parsing.{positive_of}
 
 -- the test of `positive_of`
 abbrev fits : List ℕ → Bool
@@ -93,65 +94,39 @@ parsed {E} text (Err error) parses first =
     let is = sym spells.is in
     plain (subst (AllDigits 10) is numeral.0.1, subst (λ t. 0 < length t) is numeral.0.0, spells.small)))
 
--- ---- numbers from 0 to 255
-
-both_true : (a b : Bool) → (a && b) ≡ true → (a ≡ true) × (b ≡ true)
-both_true true true e = (refl, refl)
-both_true true false e = absurd cc
-both_true false b e = absurd cc
-
--- the test of `byte_of`
-abbrev byte_fits : List ℕ → Bool
-byte_fits text = bytes_eq text (decimal (digits_value 10 text)) && nat_lt (digits_value 10 text) 256
-
-byte_spells : (text : List ℕ) → byte_fits text ≡ true → (text ≡ decimal (digits_value 10 text)) × (digits_value 10 text < 256)
-byte_spells text e =
-    let n = digits_value 10 text in
-    let both = both_true (bytes_eq text (decimal n)) (nat_lt n 256) e in
-    ((bytes_eq-Decides text (decimal n)).0 both.0, ltb-true n 256 both.1)
-
-byte_some : (text : List ℕ) → text ≡ decimal (digits_value 10 text) → digits_value 10 text < 256
-    → byte_of text ≡ Some (digits_value 10 text)
-byte_some text is small =
-    let n = digits_value 10 text in
-    let same : bytes_eq text (decimal n) ≡ true = (bytes_eq-Decides text (decimal n)).1 is in
-    let most : nat_lt n 256 ≡ true = lt-ltb n 256 small in
-    ap (λ b. cond (b && nat_lt n 256) (Some n) None) same ∙ ap (λ b. cond b (Some n) None) most
-
-byte_none : (text : List ℕ) → ((text ≡ decimal (digits_value 10 text)) → digits_value 10 text < 256 → ⊥) → byte_of text ≡ None
-byte_none text never = none_unless (byte_fits text) (digits_value 10 text) (λ e. let spells = byte_spells text e in never spells.0 spells.1)
+-- ---- and 0 besides
 
 -- the one digit 0
-pub zero_byte : (text : List ℕ) → text ≡ 48 ∷ [] → Some 0 ≡ byte_of text
-zero_byte text is = sym (byte_some (48 ∷ []) (sym (decimal_digit 0 (omega arith))) (omega arith)) ∙ ap byte_of (sym is)
+pub zero-spelled : (text : List ℕ) → text ≡ 48 ∷ [] → Some 0 ≡ spelled_number text
+zero-spelled text is =
+    let digit : decimal 0 ≡ 48 ∷ [] = decimal_digit 0 (omega arith) in
+    let same : bytes_eq (48 ∷ []) (decimal 0) ≡ true = (bytes_eq-Decides (48 ∷ []) (decimal 0)).1 (sym digit) in
+    sym (ap spelled_number is ∙ ap (λ b. cond (b && nat_lt 0 (2 ^ 32)) (Some 0) None) same)
 
 above_or_zero : (n : ℕ) (text : List ℕ) → text ≡ decimal n → (text ≡ 48 ∷ [] → ⊥) → 0 < n
 above_or_zero zero text is other = absurd (other (is ∙ decimal_digit 0 (omega arith)))
 above_or_zero (suc n) text is other = omega arith
 
--- a text that spells no number from 1 on, and isn't that digit
-pub none_byte : (text : List ℕ) → None ≡ positive_of text → (text ≡ 48 ∷ [] → ⊥) → None ≡ byte_of text
-none_byte text none other =
-    sym (byte_none text (λ is small.
-    let some = above_or_zero (digits_value 10 text) text is other in
-    let clash : None ≡ Some (digits_value 10 text) = none ∙ some_of text (record { is = is; some = some; small = omega (arith, small) }) in
-    absurd cc))
-
--- the number that `positive_of` gives is the one that is spelled
-given_spells : (text : List ℕ) (n : ℕ) → Some n ≡ positive_of text → (n ≡ digits_value 10 text) × Spells text
-given_spells text n given = by (fits text) refl given
+-- another text spells a number from 1 on, or none
+pub positive-spelled : (text : List ℕ) → (text ≡ 48 ∷ [] → ⊥) → positive_of text ≡ spelled_number text
+positive-spelled text other = by (bytes_eq text (decimal (digits_value 10 text))) refl
   where
-    by : (b : Bool) → fits text ≡ b → Some n ≡ cond b (Some (digits_value 10 text)) None → (n ≡ digits_value 10 text) × Spells text
-    by true e is = (cc, spells_of text e)
-    by false e is = absurd cc
+    n : ℕ
+    n = digits_value 10 text
 
--- a number from 1 on, where it is a byte
-pub small_byte : (text : List ℕ) (n : ℕ) → Some n ≡ positive_of text → n < 256 → Some n ≡ byte_of text
-small_byte text n given small =
-    let spells = given_spells text n given in
-    ap Some spells.0 ∙ sym (byte_some text spells.1.is (omega (arith, spells.0, small)))
+    by : (b : Bool) → bytes_eq text (decimal n) ≡ b → positive_of text ≡ spelled_number text
+    by true e =
+        let some = above_or_zero n text ((bytes_eq-Decides text (decimal n)).0 e) other in
+        ap (λ b. cond ((b && nat_le 1 n) && nat_lt n (2 ^ 32)) (Some n) None) e
+        ∙ ap (λ b. cond (b && nat_lt n (2 ^ 32)) (Some n) None) (le-leb 1 n some)
+        ∙ sym (ap (λ b. cond (b && nat_lt n (2 ^ 32)) (Some n) None) e)
+    by false e =
+        ap (λ b. cond ((b && nat_le 1 n) && nat_lt n (2 ^ 32)) (Some n) None) e
+        ∙ sym (ap (λ b. cond (b && nat_lt n (2 ^ 32)) (Some n) None) e)
 
-pub large_byte : (text : List ℕ) (n : ℕ) → Some n ≡ positive_of text → 256 ≤ n → None ≡ byte_of text
-large_byte text n given large =
-    let spells = given_spells text n given in
-    sym (byte_none text (λ is small. absurd (omega (arith, spells.0, large, small))))
+-- where it was found to be another one
+pub not-zero : (text : List ℕ) (same : Bool) → same ≡ bytes_eq text (48 ∷ []) → same ≡ false → text ≡ 48 ∷ [] → ⊥
+not-zero text same is other none = false_true (sym other ∙ is ∙ (bytes_eq-Decides text (48 ∷ [])).1 none)
+  where
+    false_true : false ≡ true → ⊥
+    false_true clash = absurd cc

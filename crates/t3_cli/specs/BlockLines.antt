@@ -10,7 +10,8 @@ use Rattle.t3_image_read.specs.declared.image.PlacedBlock.{PlacedBlock}
 use Rattle.t3_image_read.specs.ImageText.{ImageValue, prefix_text}
 use Rattle.t3_image_read.specs.Reader.{totals_of}
 use Rattle.t3_image_read.specs.declared.reader.Totals.{Totals}
-use Rattle.t3_cli.specs.Lines.{newline, ok_line}
+use Rattle.t3_run.specs.EndLines.{newline}
+use Rattle.t3_cli.specs.Lines.{ok_line}
 
 -- a byte of a name that isn't from 20 to 7E is shown as a question mark
 abbrev pub shown_byte : ℕ → ℕ

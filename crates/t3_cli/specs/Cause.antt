@@ -6,10 +6,10 @@ use Rattle.t3_image_read.specs.ImageText.{ImageValue}
 use Rattle.t3_image_read.specs.Refusal.{IsRefused}
 use Rattle.t3_asm.specs.declared.refusal.AsmRefusal.{AsmRefusal}
 use Rattle.t3_cli.specs.declared.status.Status.{Status}
-use Rattle.t3_cli.specs.declared.status.Status.TheVariants.{Done, Usage, Absent, ImageRefused, LoadRefused, Unhandled, BadCode, StoreFull, StepLimit, SourceRefused, DepotFault, ConsoleFault, NoMemory}
+use Rattle.t3_cli.specs.declared.status.Status.TheVariants.{Done, Usage, Absent, ImageRefused, LoadRefused, Unhandled, BadCode, StoreFull, StepLimit, InputLimit, SourceRefused, DepotFault, ConsoleFault, NoMemory}
 use Rattle.t3_cli.specs.Command.{CommandValue, Run, RunOptions}
 use Rattle.t3_load.specs.declared.refusal.LoadRefusal.{LoadRefusal as LoadWhy}
-use Rattle.t3_interp.specs.Run.{Ran}
+use Rattle.t3_run.specs.Run.{Ran}
 use Rattle.t3_cli.specs.Outcome.{InputFile, ImageFile, SourceFile, input_of, assembled, BeginsWith, IsLoaded, RunsImage, read_bytes, status_of}
 
 -- the file isn't there
@@ -41,10 +41,11 @@ abbrev pub IsUnloadable : CommandValue → Files → Type 0
 IsUnloadable command files =
     (image : ImageValue) × (options : RunOptions) × (why : LoadWhy) × RunsFile command files image options × IsLoaded image (Err why)
 
--- it is run, and the run ends by this status
-abbrev pub EndsBy : Status → CommandValue → Files → Type 0
-EndsBy status command files =
-    (image : ImageValue) × (options : RunOptions) × (ran : Ran) × RunsFile command files image options × RunsImage image options ran × (status_of ran.end ≡ status)
+-- it is run, and the run stops by this status
+abbrev pub EndsBy : Status → CommandValue → Files → List ℕ → Type 0
+EndsBy status command files input =
+    (image : ImageValue) × (options : RunOptions) × (ran : Ran) × RunsFile command files image options × RunsImage image options input ran
+    × (status_of ran.stop ≡ status)
 
 -- why a command isn't done; a failing device and want of memory have no cause here
 abbrev pub CommandCause : Status → CommandValue → Files → List ℕ → Type 0
@@ -53,10 +54,11 @@ CommandCause Usage command files input = ⊥
 CommandCause Absent command files input = IsAbsent (input_of command) files
 CommandCause ImageRefused command files input = IsRefusedImage (input_of command) files
 CommandCause LoadRefused command files input = IsUnloadable command files
-CommandCause Unhandled command files input = EndsBy Unhandled command files
-CommandCause BadCode command files input = EndsBy BadCode command files
-CommandCause StoreFull command files input = EndsBy StoreFull command files
-CommandCause StepLimit command files input = EndsBy StepLimit command files
+CommandCause Unhandled command files input = EndsBy Unhandled command files input
+CommandCause BadCode command files input = EndsBy BadCode command files input
+CommandCause StoreFull command files input = EndsBy StoreFull command files input
+CommandCause StepLimit command files input = EndsBy StepLimit command files input
+CommandCause InputLimit command files input = EndsBy InputLimit command files input
 CommandCause SourceRefused command files input = IsRefusedSource (input_of command) files
 CommandCause DepotFault command files input = ⊥
 CommandCause ConsoleFault command files input = ⊥

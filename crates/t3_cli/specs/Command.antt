@@ -1,18 +1,20 @@
 -- Which words are a command.
-use Rattle.std.specs.Prelude.{ℕ, codes, List, [], ◌∷◌, Option, Some, None, if◌then◌else◌}
+use Rattle.std.specs.Prelude.{ℕ, ◌<◌, codes, List, [], ◌∷◌, Option, Some, None, if◌then◌else◌}
 use Rattle.std.specs.Option.{option_map, option_and_then}
 use Rattle.std.specs.Str.{bytes_eq}
 use Rattle.t3_holder.specs.FileName.{is_file_name, IsFileName}
 use Rattle.t3_cli.specs.declared.commands.command.Command.{Command}
 use Rattle.t3_cli.specs.declared.commands.command.Command.TheVariants as words
 use Rattle.t3_cli.specs.declared.commands.command.RunOptions.{RunOptions as DeclaredOptions}
-use Rattle.t3_cli.specs.Number.{positive_of, byte_of}
-use Rattle.t3_cli.specs.Options.{values_of, option_of, are_all_given}
+use Rattle.t3_cli.specs.Number.{number_within}
+use Rattle.t3_cli.specs.Options.{values_of, option_of, are_all_given, number_option}
 
 -- what a run may be told besides its image
 pub record RunOptions : Type 0 where
   -- how many steps it makes at most
   pub steps : ℕ
+  -- how wide its lines are
+  pub width : ℕ
 
 -- a command with its names and options
 pub data CommandValue : Type 0 where
@@ -27,7 +29,7 @@ pub data CommandValue : Type 0 where
 -- ---- how the parsed commands stand for these
 
 abbrev pub options_value : DeclaredOptions → RunOptions
-options_value options = record { steps = options.steps }
+options_value options = record { steps = options.steps; width = options.width }
 
 abbrev pub command_value : Command → CommandValue
 command_value (words.Check image) = Check image.now
@@ -37,39 +39,46 @@ command_value (words.Rewrite image out mask) = Rewrite image.now out.now mask
 command_value (words.List image out) = Listing image.now out.now
 command_value (words.Asm source out) = Asm source.now out.now
 
--- each file that a command names has a name that a file may have
-abbrev pub HasFileNames : CommandValue → Type 0
-HasFileNames (Check name) = IsFileName name
-HasFileNames (Show name) = IsFileName name
-HasFileNames (Run name options) = IsFileName name
-HasFileNames (Rewrite name out mask) = IsFileName name × IsFileName out
-HasFileNames (Listing name out) = IsFileName name × IsFileName out
-HasFileNames (Asm name out) = IsFileName name × IsFileName out
+-- each file that a command names has a name that a file may have, and its lines have a width
+abbrev pub IsWellFormed : CommandValue → Type 0
+IsWellFormed (Check name) = IsFileName name
+IsWellFormed (Show name) = IsFileName name
+IsWellFormed (Run name options) = IsFileName name × (0 < options.width)
+IsWellFormed (Rewrite name out mask) = IsFileName name × IsFileName out
+IsWellFormed (Listing name out) = IsFileName name × IsFileName out
+IsWellFormed (Asm name out) = IsFileName name × IsFileName out
 
 -- ---- which words they are
-
--- how many steps a run makes at most where no option says it
-abbrev pub default_steps : ℕ
-default_steps = 100000000
 
 abbrev pub steps_prefix : List ℕ
 steps_prefix = codes "--steps="
 
+abbrev pub width_prefix : List ℕ
+width_prefix = codes "--width="
+
 abbrev pub mask_prefix : List ℕ
 mask_prefix = codes "--mask="
 
--- the options of a run
+-- from 1 to 4294967295, or 100000000 where none is given
+abbrev pub steps_of : List (List ℕ) → Option ℕ
+steps_of words = number_option steps_prefix 100000000 1 4294967295 words
+
+-- from 1 to 1000, or 79
+abbrev pub width_of : List (List ℕ) → Option ℕ
+width_of words = number_option width_prefix 79 1 1000 words
+
+-- the options of a run, in any order
 abbrev pub run_options : List (List ℕ) → Option RunOptions
 run_options words =
-    if are_all_given steps_prefix words
-    then option_map (λ steps. record { steps = steps }) (option_of default_steps positive_of (values_of steps_prefix words))
+    if are_all_given (steps_prefix ∷ width_prefix ∷ []) words
+    then option_and_then (λ steps. option_map (λ width. record { steps = steps; width = width }) (width_of words)) (steps_of words)
     else None
 
 -- the mask that a rewriting is given, if it is given one
 abbrev pub mask_of : List (List ℕ) → Option (Option ℕ)
 mask_of words =
-    if are_all_given mask_prefix words
-    then option_of None (λ value. option_map Some (byte_of value)) (values_of mask_prefix words)
+    if are_all_given (mask_prefix ∷ []) words
+    then option_of None (λ value. option_map Some (number_within 0 255 value)) (values_of mask_prefix words)
     else None
 
 -- a word, if a file may have that name

@@ -3,5 +3,4 @@ pub mod Parsing
 pub mod Reading
 pub mod Showing
 pub mod Following
-pub mod Playing
 pub mod Wanted

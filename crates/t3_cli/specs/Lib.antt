@@ -4,7 +4,6 @@ pub mod Options
 pub mod Command
 pub mod Lines
 pub mod BlockLines
-pub mod Act
 pub mod Outcome
 pub mod Cause
 pub mod Top

@@ -1,5 +1,5 @@
 -- The lines that are shown.
-use Rattle.std.specs.Prelude.{ℕ, Bool, true, false, List, [], ◌∷◌, ◌++◌, codes, Option, Some, None}
+use Rattle.std.specs.Prelude.{ℕ, List, ◌++◌, codes, Option, Some, None}
 use Rattle.std.specs.Fmt.{decimal}
 use Rattle.t3_image_read.specs.declared.refusal.ReadWhy.{ReadWhy}
 use Rattle.t3_asm.specs.declared.refusal.AsmWhy.{AsmWhy}
@@ -8,17 +8,8 @@ use Rattle.t3_pools.specs.declared.refusal.PoolRefusal.{PoolRefusal}
 use Rattle.t3_pools.specs.declared.refusal.PoolRefusal.TheVariants as pools
 use Rattle.t3_load.specs.declared.refusal.LoadRefusal.{LoadRefusal}
 use Rattle.t3_load.specs.declared.refusal.LoadRefusal.TheVariants as load
-use Rattle.t3_interp.specs.declared.event.End.{End}
-use Rattle.t3_interp.specs.declared.event.End.TheVariants.{Returned, Unhandled, BadCode, StoreFull}
-use Rattle.t3_ops.specs.declared.fault.Fault.{Fault}
-use Rattle.t3_ops.specs.Faults.{fault_number}
-use Rattle.t3_frame_instructions.specs.declared.effect.CodeWhy.{CodeWhy}
-use Rattle.t3_frame_instructions.specs.declared.effect.CodeWhy.TheVariants as why
+use Rattle.t3_run.specs.EndLines.{newline}
 use Rattle.t3_image_read.specs.declared.refusal.ReadWhy.TheVariants.{Signature, Version, TooLong, TooMany, UnknownMandatory, Malformed, EofSize, Truncated}
-
--- a line ends in a newline
-abbrev pub newline : List ℕ
-newline = 10 ∷ []
 
 abbrev pub usage_line : List ℕ
 usage_line = codes "usage: t3 check or show or list or run or rewrite or asm or drill" ++ newline
@@ -111,49 +102,3 @@ load_text (name, Some detail) = codes "load refused " ++ (name ++ (codes " " ++ 
 -- why no program is made of an image
 abbrev pub load_line : LoadRefusal → List ℕ
 load_line why = load_text (load_rule why)
-
--- the name of a cause
-abbrev pub cause_name : CodeWhy → List ℕ
-cause_name why.NoByte = codes "NoByte"
-cause_name (why.Opcode opcode) = codes "Opcode"
-cause_name why.Operand = codes "Operand"
-cause_name why.Header = codes "Header"
-cause_name why.Table = codes "Table"
-cause_name why.Underflow = codes "Underflow"
-cause_name why.Local = codes "Local"
-cause_name why.Argument = codes "Argument"
-cause_name why.Unbuilt = codes "Unbuilt"
-
--- the number of the fault by which an object was thrown, and 0 for one that an instruction threw
-abbrev pub thrown_number : Option Fault → ℕ
-thrown_number None = 0
-thrown_number (Some fault) = fault_number fault
-
--- an object was thrown, and nothing caught it
-abbrev pub unhandled_line : ℕ → ℕ → List ℕ
-unhandled_line object fault =
-    codes "[unhandled object=" ++ (decimal object ++ (codes " fault=" ++ (decimal fault ++ (codes "]" ++ newline))))
-
--- no instruction could be carried out at an address
-abbrev pub bad_code_line : ℕ → List ℕ → List ℕ
-bad_code_line at name = codes "[bad code at=" ++ (decimal at ++ (codes " why=" ++ (name ++ (codes "]" ++ newline))))
-
--- how a run ended, or that it had no step left; a return shows nothing
-abbrev pub end_line : Option End → List ℕ
-end_line (Some Returned) = []
-end_line (Some (Unhandled object fault)) = unhandled_line object (thrown_number fault)
-end_line (Some (BadCode at cause)) = bad_code_line at (cause_name cause)
-end_line (Some StoreFull) = codes "[store full]" ++ newline
-end_line None = codes "[step limit]" ++ newline
-
-abbrev pub is_nonempty : List ℕ → Bool
-is_nonempty [] = false
-is_nonempty (_ ∷ _) = true
-
--- after a text that isn't empty the line is ended
-abbrev pub newline_if : Bool → List ℕ
-newline_if true = newline
-newline_if false = []
-
-abbrev pub closing_text : Bool → Option End → List ℕ
-closing_text has_said end = newline_if has_said ++ end_line end

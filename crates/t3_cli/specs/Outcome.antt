@@ -14,20 +14,20 @@ use Rattle.t3_asm.specs.Refusals.{refusal}
 use Rattle.t3_asm.specs.Source.{source}
 use Rattle.t3_asm.specs.Listing.{listing}
 use Rattle.t3_cli.specs.declared.status.Status.{Status}
-use Rattle.t3_cli.specs.declared.status.Status.TheVariants.{Done, Usage, Absent, ImageRefused, LoadRefused, Unhandled, BadCode, StoreFull, StepLimit, SourceRefused}
-use Rattle.t3_interp.specs.declared.event.End.{End}
+use Rattle.t3_cli.specs.declared.status.Status.TheVariants.{Done, Usage, Absent, ImageRefused, LoadRefused, Unhandled, BadCode, StoreFull, StepLimit, InputLimit, SourceRefused}
 use Rattle.t3_interp.specs.declared.event.End.TheVariants as ends
-use Rattle.t3_cli.specs.Act.{Act, Shows, Puts}
+use Rattle.t3_run.specs.declared.stop.Stop.{Stop}
+use Rattle.t3_run.specs.declared.stop.Stop.TheVariants.{Ends, NoStep, NoLine}
+use Rattle.t3_run.specs.Act.{Act, Shows, Puts}
+use Rattle.t3_run.specs.Run.{Ran, Runs, begun}
 use Rattle.t3_cli.specs.Command.{CommandValue, Check, Show, Run, Rewrite, Listing, Asm, RunOptions}
-use Rattle.t3_cli.specs.Lines.{usage_line, absent_line, refused_line, put_line, bad_line, load_line, closing_text, is_nonempty}
+use Rattle.t3_cli.specs.Lines.{usage_line, absent_line, refused_line, put_line, bad_line, load_line}
 use Rattle.t3_cli.specs.BlockLines.{check_text, show_text}
 use Rattle.sha2.specs.Sha256.{sha256}
 use Rattle.t3_store.specs.declared.limits.StoreLimits.{StoreLimits}
 use Rattle.t3_load.specs.declared.refusal.LoadRefusal.{LoadRefusal}
 use Rattle.t3_load.specs.declared.refusal.LoadRefusal.TheVariants.{NoMemory as NoRoom}
 use Rattle.t3_load.specs.Loading.{ProgramValue, Loads}
-use Rattle.t3_interp.specs.Machine.{initial}
-use Rattle.t3_interp.specs.Run.{Ran, Runs}
 
 pub record Outcome : Type 0 where
   pub status : Status
@@ -58,17 +58,14 @@ pub record BeginsWith (bytes : List ℕ) (image : ImageValue) : Type 0 where
 abbrev pub written_text : Option ℕ → ImageValue → List ℕ
 written_text mask image = text (masked_image mask image)
 
--- what a run shows: what was said, and after it how it ended
-abbrev pub shown_of : Ran → List ℕ
-shown_of ran = ran.said ++ closing_text (is_nonempty ran.said) ran.end
-
--- the status of a run that ended so, or had no step left
-abbrev pub status_of : Option End → Status
-status_of (Some ends.Returned) = Done
-status_of (Some (ends.Unhandled object fault)) = Unhandled
-status_of (Some (ends.BadCode at cause)) = BadCode
-status_of (Some ends.StoreFull) = StoreFull
-status_of None = StepLimit
+-- the status of a run that stopped so
+abbrev pub status_of : Stop → Status
+status_of (Ends ends.Returned) = Done
+status_of (Ends (ends.Unhandled object fault)) = Unhandled
+status_of (Ends (ends.BadCode at cause)) = BadCode
+status_of (Ends ends.StoreFull) = StoreFull
+status_of NoStep = StepLimit
+status_of NoLine = InputLimit
 
 -- the fingerprint of an image: the digest of its bytes
 abbrev pub fingerprint_of : ImageValue → List ℕ
@@ -82,26 +79,34 @@ run_limits = record { objects = 1048576; units = 4194304; records = 65536; savep
 abbrev pub IsLoaded : ImageValue → Result ProgramValue LoadRefusal → Type 0
 IsLoaded image answer = (answer ≢ Err NoRoom) × Loads image.blocks (fingerprint_of image) run_limits answer
 
+-- a program is run by these options, with this input
+abbrev pub RunsProgram : ProgramValue → RunOptions → List ℕ → Ran → Type 0
+RunsProgram program options input ran = Runs (record { width = options.width; input = input }) program options.steps (begun program) ran
+
 -- an image is run as its program
-pub record RunsImage (image : ImageValue) (options : RunOptions) (ran : Ran) : Type 0 where
+pub record RunsImage (image : ImageValue) (options : RunOptions) (input : List ℕ) (ran : Ran) : Type 0 where
   pub program : ProgramValue
   pub loaded : IsLoaded image (Ok program)
-  pub runs : Runs program options.steps (initial program) ran
+  pub runs : RunsProgram program options input ran
+
+-- what a run does is what a command does that runs
+abbrev pub ran_outcome : Ran → Outcome
+ran_outcome ran = record { status = status_of ran.stop; acts = ran.acts }
 
 -- an image that is refused, or is run
-abbrev pub IsRunOutcome : ImageValue → RunOptions → Outcome → Type 0
-IsRunOutcome image options outcome =
+abbrev pub IsRunOutcome : ImageValue → RunOptions → List ℕ → Outcome → Type 0
+IsRunOutcome image options input outcome =
     ((why : LoadRefusal) × IsLoaded image (Err why) × (outcome ≡ showing LoadRefused (load_line why)))
-    ⊎ ((ran : Ran) × RunsImage image options ran × (outcome ≡ showing (status_of ran.end) (shown_of ran)))
+    ⊎ ((ran : Ran) × RunsImage image options input ran × (outcome ≡ ran_outcome ran))
 
--- what a command gives of the image that it reads, or that its source says
-abbrev pub IsImageOutcome : CommandValue → ImageValue → Outcome → Type 0
-IsImageOutcome (Check name) image outcome = outcome ≡ showing Done (check_text image)
-IsImageOutcome (Show name) image outcome = outcome ≡ showing Done (show_text image)
-IsImageOutcome (Rewrite name out mask) image outcome = outcome ≡ putting out (written_text mask image)
-IsImageOutcome (Run name options) image outcome = IsRunOutcome image options outcome
-IsImageOutcome (Listing name out) image outcome = outcome ≡ putting out (listing image)
-IsImageOutcome (Asm name out) image outcome = outcome ≡ putting out (text image)
+-- what a command gives of the image that it reads, or that its source says, and of the input
+abbrev pub IsImageOutcome : CommandValue → ImageValue → List ℕ → Outcome → Type 0
+IsImageOutcome (Check name) image input outcome = outcome ≡ showing Done (check_text image)
+IsImageOutcome (Show name) image input outcome = outcome ≡ showing Done (show_text image)
+IsImageOutcome (Rewrite name out mask) image input outcome = outcome ≡ putting out (written_text mask image)
+IsImageOutcome (Run name options) image input outcome = IsRunOutcome image options input outcome
+IsImageOutcome (Listing name out) image input outcome = outcome ≡ putting out (listing image)
+IsImageOutcome (Asm name out) image input outcome = outcome ≡ putting out (text image)
 
 -- the bytes are refused, at the place and by the rule that are shown
 pub record IsRefusalOutcome (bytes : List ℕ) (outcome : Outcome) : Type 0 where
@@ -111,10 +116,11 @@ pub record IsRefusalOutcome (bytes : List ℕ) (outcome : Outcome) : Type 0 wher
   pub is : outcome ≡ showing ImageRefused (refused_line why place)
 
 -- of a file that is there: its bytes are refused, or begin with an image
-abbrev pub IsFileOutcome : CommandValue → List ℕ → Option (List ℕ) → Outcome → Type 0
-IsFileOutcome command name None outcome = outcome ≡ showing Absent (absent_line name)
-IsFileOutcome command name (Some file) outcome =
-    IsRefusalOutcome (read_bytes file) outcome ⊎ ((image : ImageValue) × BeginsWith (read_bytes file) image × IsImageOutcome command image outcome)
+abbrev pub IsFileOutcome : CommandValue → List ℕ → Option (List ℕ) → List ℕ → Outcome → Type 0
+IsFileOutcome command name None input outcome = outcome ≡ showing Absent (absent_line name)
+IsFileOutcome command name (Some file) input outcome =
+    IsRefusalOutcome (read_bytes file) outcome
+    ⊎ ((image : ImageValue) × BeginsWith (read_bytes file) image × IsImageOutcome command image input outcome)
 
 -- how many bytes a source has at most
 abbrev pub source_limit : ℕ
@@ -124,14 +130,14 @@ source_limit = 268435456
 abbrev pub assembled : List ℕ → Result ImageValue AsmRefusal
 assembled bytes = if nat_lt source_limit (length bytes) then Err (refusal 0 rules.TooLong) else source bytes
 
-abbrev pub IsSourceOutcome : CommandValue → Result ImageValue AsmRefusal → Outcome → Type 0
-IsSourceOutcome command (Ok image) outcome = IsImageOutcome command image outcome
-IsSourceOutcome command (Err refused) outcome = outcome ≡ showing SourceRefused (bad_line refused.line refused.why)
+abbrev pub IsSourceOutcome : CommandValue → Result ImageValue AsmRefusal → List ℕ → Outcome → Type 0
+IsSourceOutcome command (Ok image) input outcome = IsImageOutcome command image input outcome
+IsSourceOutcome command (Err refused) input outcome = outcome ≡ showing SourceRefused (bad_line refused.line refused.why)
 
 -- of a source's file that is there: it says an image, or has a bad line
-abbrev pub IsTextOutcome : CommandValue → List ℕ → Option (List ℕ) → Outcome → Type 0
-IsTextOutcome command name None outcome = outcome ≡ showing Absent (absent_line name)
-IsTextOutcome command name (Some file) outcome = IsSourceOutcome command (assembled (read_bytes file)) outcome
+abbrev pub IsTextOutcome : CommandValue → List ℕ → Option (List ℕ) → List ℕ → Outcome → Type 0
+IsTextOutcome command name None input outcome = outcome ≡ showing Absent (absent_line name)
+IsTextOutcome command name (Some file) input outcome = IsSourceOutcome command (assembled (read_bytes file)) input outcome
 
 -- the file that a command reads, and what it is read as
 pub data InputFile : Type 0 where
@@ -146,14 +152,14 @@ input_of (Rewrite name out mask) = ImageFile name
 input_of (Listing name out) = ImageFile name
 input_of (Asm name out) = SourceFile name
 
-abbrev pub IsInputOutcome : CommandValue → InputFile → Files → Outcome → Type 0
-IsInputOutcome command (ImageFile name) files outcome = IsFileOutcome command name (get files name) outcome
-IsInputOutcome command (SourceFile name) files outcome = IsTextOutcome command name (get files name) outcome
+abbrev pub IsInputOutcome : CommandValue → InputFile → Files → List ℕ → Outcome → Type 0
+IsInputOutcome command (ImageFile name) files input outcome = IsFileOutcome command name (get files name) input outcome
+IsInputOutcome command (SourceFile name) files input outcome = IsTextOutcome command name (get files name) input outcome
 
--- what the words give with these files and this input, of which no command takes any yet
+-- what the words give with these files and this input
 abbrev pub IsResult : Option CommandValue → Files → List ℕ → Outcome → Type 0
 IsResult None files input outcome = outcome ≡ showing Usage usage_line
-IsResult (Some command) files input outcome = IsInputOutcome command (input_of command) files outcome
+IsResult (Some command) files input outcome = IsInputOutcome command (input_of command) files input outcome
 
 -- all that the files hold is bytes
 abbrev pub HoldBytes : Files → Type 0

@@ -1,10 +1,12 @@
 -- What the one public call promises of its answers and of the devices.
-use Rattle.std.specs.Prelude.{◌≡◌, ℕ, ◌⊎◌, List, [], ◌++◌, Option, Some, None}
+use Rattle.std.specs.Prelude.{◌≡◌, ℕ, ◌⊎◌, List, [], ◌++◌, Option, Some}
 use Rattle.t3_io.specs.Files.{Files}
-use Rattle.t3_io.specs.Session.{Session, after_showing}
+use Rattle.t3_io.specs.Session.{Session}
+use Rattle.t3_run.specs.Act.{Act, shown_by, files_by, StopsIn}
+use Rattle.t3_run.specs.Showing.{ShowsMore, ShowsPrefix}
+use Rattle.t3_run.specs.Asking.{IsInput, Moves, AsksBy}
 use Rattle.t3_cli.specs.declared.status.Status.{Status}
 use Rattle.t3_cli.specs.declared.status.Status.TheVariants.{DepotFault, ConsoleFault, NoMemory}
-use Rattle.t3_cli.specs.Act.{Act, shown_by, files_by, StopsIn, ShowsPrefix}
 use Rattle.t3_cli.specs.Command.{CommandValue}
 use Rattle.t3_cli.specs.Outcome.{Outcome, IsResult}
 
@@ -15,18 +17,9 @@ CutsShort ConsoleFault = Unit {0}
 CutsShort NoMemory = Unit {0}
 CutsShort _ = ⊥
 
--- the input that a console has left, where it tells it, and else any
-abbrev pub IsInput : Option Session → List ℕ → Type 0
-IsInput None input = Unit {0}
-IsInput (Some session) input = input ≡ session.left
-
--- so much more was shown, and nothing was read of the input; nothing is claimed of a console that doesn't tell
-abbrev pub ShowsMore : Option Session → Option Session → List ℕ → Type 0
-ShowsMore None after said = Unit {0}
-ShowsMore (Some before) after said = after ≡ Some (after_showing before said)
-
-abbrev pub ShowsSome : Option Session → Option Session → Type 0
-ShowsSome before after = (said : List ℕ) × ShowsMore before after said
+-- more was shown, and a prefix of the input was taken, of so many bytes at most as a run takes
+abbrev pub MovesSome : Option Session → Option Session → Type 0
+MovesSome before after = (said : List ℕ) × Moves before after said
 
 -- a text was shown whole, with the status that goes with it, or the call was cut short after a prefix of it
 pub record IsShownWhole (before after : Option Session) (text : List ℕ) (status answer : Status) : Type 0 where
@@ -55,7 +48,7 @@ pub record IsWhole (command : Option CommandValue) (files : Files) (before : Opt
   pub result : IsResult command files input outcome
   pub status : answer ≡ outcome.status
   pub files_are : left ≡ Some (files_by files outcome.acts)
-  pub shows : ShowsMore before after (shown_by outcome.acts)
+  pub asks : AsksBy outcome.acts before after (shown_by outcome.acts)
 
 -- the outcome was cut short within one of its acts, or after the last
 pub record IsCutWithin (command : Option CommandValue) (files : Files) (before : Option Session) (left : Option Files) (after : Option Session) : Type 0 where
@@ -68,7 +61,7 @@ pub record IsCutWithin (command : Option CommandValue) (files : Files) (before :
   pub acts_are : outcome.acts ≡ done ++ rest
   pub said : List ℕ
   pub stops : StopsIn (files_by files done) (shown_by done) rest left said
-  pub shows : ShowsMore before after said
+  pub asks : AsksBy outcome.acts before after said
 
 -- nothing was done yet, or the outcome was cut short
 abbrev pub IsCut : Option CommandValue → Files → Option Session → Option Files → Option Session → Type 0

@@ -1,12 +1,12 @@
 //! Shows text on a console, and makes the status of how that went.
 ghost use Rattle.std.specs.Prelude.{◌≡◌, ◌<◌, ◌-◌, ◌^◌, ◌⊎◌, string_bytes};
-ghost use Rattle.t3_io.specs.Cause.{MovesFaults};
 ghost use Rattle.t3_cli.specs.Top.{IsShown};
-ghost use Rattle.t3_cli.specs.Inner.Showing.{ShowsAll, AnswersLine};
+ghost use Rattle.t3_cli.specs.Inner.Showing.{AnswersLine};
 
 use crate::status::Status;
 use std::alloc::AllocError;
 use t3_io::{Console, DeviceRefusal};
+use t3_run::show;
 
 /// Shows a line, if there was memory for it, and answers the status that goes with it, or that of the
 /// failure.
@@ -43,17 +43,4 @@ pub(crate) fn end_with<C: Console>(console: &mut C, line: &str, status: Status) 
         Err(DeviceRefusal::Fault) => Status::ConsoleFault,
         Err(DeviceRefusal::NoMemory) => Status::NoMemory,
     }
-}
-
-/// Shows a text whole, piece by piece as the console takes it.
-pub(crate) fn show<C: Console>(console: &mut C, text: &[u8]) -> Result<(), DeviceRefusal>
-    requires { C.faults console.old < 2 ^ 64 - 1 }
-    ensures shown { ShowsAll (C.session console.old) (C.session console.new) text.now result }
-    ensures cause { MovesFaults (C.faults console.old) (C.faults console.new) result }
-{
-    let mut at = 0;
-    while at < text.len() {
-        at += console.write(&text[at..])?;
-    }
-    Ok(())
 }

@@ -21,6 +21,6 @@ mod status;
 mod story;
 mod top;
 
-pub use commands::number::{byte_number, positive_number};
+pub use commands::number::number_within;
 pub use status::Status;
 pub use top::{one_outcome, t3_main};

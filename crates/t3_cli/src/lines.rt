@@ -1,15 +1,12 @@
 //! The lines that are shown.
-ghost use Rattle.std.specs.Prelude.{◌≡◌, ◌++◌, Some, None, IfOk, codes, string_bytes};
+ghost use Rattle.std.specs.Prelude.{◌≡◌, Some, None, IfOk, codes, string_bytes};
 ghost use Rattle.std.specs.Fmt.{decimal};
-ghost use Rattle.t3_cli.specs.Lines.{absent_line, refused_line, ok_line, put_line, why_name as name_of, items_of, closing_text, end_line, unhandled_line, bad_code_line, newline_if as newline_by, bad_line as bad_line_of, source_why_name as name_of_rule, cause_name as name_of_cause, thrown_number as number_of_thrown, load_line, load_text, pool_rule_name};
+ghost use Rattle.t3_cli.specs.Lines.{absent_line, refused_line, ok_line, put_line, why_name as name_of, items_of, bad_line as bad_line_of, source_why_name as name_of_rule, load_line, load_text, pool_rule_name};
 
 use std::alloc::{AllocError, Global};
 use t3_asm::AsmWhy;
-use t3_frame_instructions::CodeWhy;
 use t3_image_read::ReadWhy;
-use t3_interp::End;
 use t3_load::LoadRefusal;
-use t3_ops::Fault;
 use t3_pools::PoolRefusal;
 
 /// Shown where the words are no command.
@@ -148,73 +145,5 @@ fn source_why_name(why: AsmWhy) -> &'static str
         AsmWhy::Jump => "Jump",
         AsmWhy::TooLong => "TooLong",
         AsmWhy::NoMemory => "NoMemory",
-    }
-}
-
-/// What is shown at the end of a run: a newline where anything was said, and how it ended.
-pub(crate) fn closing(alloc: Global, has_said: bool, end: Option<End>) -> Result<String, AllocError>
-    ensures { IfOk result (λ text. string_bytes text ≡ closing_text has_said end) }
-{
-    let newline = newline_if(has_said);
-    match end {
-        Some(end) => ended(alloc, newline, end),
-        None => format!(in alloc; "{newline}[step limit]\n"),
-    }
-}
-
-/// How a run ended, after a text.
-fn ended(alloc: Global, prefix: &str, end: End) -> Result<String, AllocError>
-    ensures { IfOk result (λ text. string_bytes text ≡ prefix.now ++ end_line (Some end)) }
-{
-    match end {
-        End::Returned => format!(in alloc; "{prefix}"),
-        End::Unhandled { object, fault } => unhandled(alloc, prefix, object, thrown_number(fault)),
-        End::BadCode { at, why } => bad_code(alloc, prefix, at, cause_name(why)),
-        End::StoreFull => format!(in alloc; "{prefix}[store full]\n"),
-    }
-}
-
-/// The number of the fault by which an object was thrown, and 0 for one that an instruction threw.
-fn thrown_number(fault: Option<Fault>) -> u16
-    ensures { result ≡ number_of_thrown fault }
-{
-    match fault {
-        Some(fault) => fault.number(),
-        None => 0,
-    }
-}
-
-fn unhandled(alloc: Global, prefix: &str, object: u32, fault: u16) -> Result<String, AllocError>
-    ensures { IfOk result (λ text. string_bytes text ≡ prefix.now ++ unhandled_line object fault) }
-{
-    format!(in alloc; "{prefix}[unhandled object={object} fault={fault}]\n")
-}
-
-fn bad_code(alloc: Global, prefix: &str, at: u32, why: &str) -> Result<String, AllocError>
-    ensures { IfOk result (λ text. string_bytes text ≡ prefix.now ++ bad_code_line at why.now) }
-{
-    format!(in alloc; "{prefix}[bad code at={at} why={why}]\n")
-}
-
-/// What ends a line that was begun.
-fn newline_if(begun: bool) -> &'static str
-    ensures { result.now ≡ newline_by begun }
-{
-    if begun { "\n" } else { "" }
-}
-
-fn cause_name(why: CodeWhy) -> &'static str
-    ensures { result.now ≡ name_of_cause why }
-{
-    match why {
-        CodeWhy::NoByte => "NoByte",
-        CodeWhy::Opcode(_) => "Opcode",
-        CodeWhy::Operand => "Operand",
-        CodeWhy::Header => "Header",
-        CodeWhy::Table => "Table",
-        CodeWhy::Underflow => "Underflow",
-        CodeWhy::Local => "Local",
-        CodeWhy::Argument => "Argument",
-        CodeWhy::Unbuilt => "Unbuilt",
     }
 }

@@ -24,6 +24,8 @@ pub enum Status {
     StoreFull = 7,
     /// The run had no step left.
     StepLimit = 8,
+    /// A line was wanted that the first 16,777,216 bytes of the input don't end, and the input has so many.
+    InputLimit = 9,
     /// The source breaks a rule.
     SourceRefused = 10,
     /// The files failed.

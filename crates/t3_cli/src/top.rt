@@ -6,7 +6,7 @@ ghost use Rattle.t3_cli.specs.Command.{CommandValue, command_of};
 ghost use Rattle.t3_cli.specs.Lines.{usage_line};
 ghost use Rattle.t3_cli.specs.Outcome.{Outcome, IsResult, HoldBytes};
 ghost use Rattle.t3_cli.specs.Cause.{Cause};
-ghost use Rattle.t3_cli.specs.Top.{CutsShort, HasExactCause, IsWhole, IsCut, IsShown, ShowsSome};
+ghost use Rattle.t3_cli.specs.Top.{CutsShort, HasExactCause, IsWhole, IsCut, IsShown, MovesSome};
 
 use crate::commands::carry::carry_out;
 use crate::commands::command::Command;
@@ -22,9 +22,10 @@ use t3_io::{Console, Depot};
 /// `check IMAGE` shows `ok blocks=B bytes=U`, and `show IMAGE` a line for each block before it. `rewrite
 /// IN OUT [--mask=N]` puts the image as written anew, its pages under the mask where one is given, and
 /// shows `ok bytes=N`; `list IMAGE OUT` does so with a source that assembles to the image, and `asm SOURCE
-/// OUT` with the image that a source says, or shows the source's first bad line. `run IMAGE [--steps=N]`
-/// runs the image by at most so many steps, and shows what it says and, if it didn't return, how it ended;
-/// of an image of which no program is made it shows `load refused RULE`, by the first rule that it breaks.
+/// OUT` with the image that a source says, or shows the source's first bad line. `run IMAGE [--steps=N]
+/// [--width=N]` runs the image by at most so many steps, shows what it says on lines of that width, gives it
+/// the console's lines of input where it wants them, and shows, if it didn't return, how it ended; of an image
+/// of which no program is made it shows `load refused RULE`, by the first rule that it breaks.
 /// Each shows that the file isn't there, and each but `asm` why it is no image. Words that are no command
 /// show how the program is used.
 ///
@@ -33,7 +34,8 @@ use t3_io::{Console, Depot};
 /// outcome, and exactly for its cause where the call wasn't cut short by one of these three. So where
 /// neither device counted a fault and the answer isn't `NoMemory`, the outcome is that of the words. After
 /// one of the three a prefix of the right text was shown, and at most the file that was being put differs,
-/// as a put may leave it.
+/// as a put may leave it. Input is taken only where a run wants a line that the bytes taken so far don't end,
+/// and when what comes before that line was shown; at most 16,777,216 bytes of it.
 pub fn t3_main<D: Depot, C: Console>(
     alloc: Global,
     words: &[String],
@@ -60,8 +62,9 @@ pub fn t3_main<D: Depot, C: Console>(
     ensures usage_shown { command_of (map string_bytes words.now) ≡ None
         → IsShown (C.session console.old) (C.session console.new) usage_line Status.Usage result }
 
-    // Whatever the depot tells, nothing is done to the console but that more is shown.
-    ensures shown { ShowsSome (C.session console.old) (C.session console.new) }
+    // Whatever the depot tells, nothing is done to the console but that more is shown, and that a prefix of the input
+    // is taken, of 16,777,216 bytes at most.
+    ensures moved { MovesSome (C.session console.old) (C.session console.new) }
 
     // A fault is answered exactly where one was counted.
     ensures depot_fault { result ≡ Status.DepotFault → D.faults depot.old < D.faults depot.new }

@@ -1,6 +1,6 @@
 //! Which texts are the numbers of options.
 use std::test::Fail;
-use t3_cli::{byte_number, positive_number};
+use t3_cli::number_within;
 
 #[test]
 fn a_number_has_no_sign_and_no_leading_zero(rt: HostRuntime) -> Result<(), Fail> {
@@ -21,14 +21,14 @@ fn a_number_has_no_sign_and_no_leading_zero(rt: HostRuntime) -> Result<(), Fail>
         ("a", None),
     ];
     for (text, number) in rows {
-        assert_eq!(rt; positive_number(text), number, "{text}");
+        assert_eq!(rt; number_within(text, 1, u32::MAX), number, "{text}");
     }
     Ok(())
 }
 
 #[test]
 fn a_mask_is_a_byte(rt: HostRuntime) -> Result<(), Fail> {
-    let rows: [(&str, Option<u8>); 10] = [
+    let rows: [(&str, Option<u32>); 10] = [
         ("0", Some(0)),
         ("1", Some(1)),
         ("255", Some(255)),
@@ -41,7 +41,7 @@ fn a_mask_is_a_byte(rt: HostRuntime) -> Result<(), Fail> {
         ("ff", None),
     ];
     for (text, number) in rows {
-        assert_eq!(rt; byte_number(text), number, "{text}");
+        assert_eq!(rt; number_within(text, 0, 255), number, "{text}");
     }
     Ok(())
 }

@@ -7,7 +7,7 @@ const USAGE: &str = "usage: t3 check or show or list or run or rewrite or asm or
 
 #[test]
 fn other_words_show_the_usage(rt: HostRuntime) -> Result<(), Fail> {
-    let rows: [&[&str]; 13] = [
+    let rows: [&[&str]; 19] = [
         &[],
         &["check"],
         &["check", "a.t3", "b.t3"],
@@ -18,6 +18,12 @@ fn other_words_show_the_usage(rt: HostRuntime) -> Result<(), Fail> {
         &["run", "a.t3", "--steps=7", "--steps=7"],
         &["run", "a.t3", "--steps=7", "7"],
         &["run", "--steps=7", "a.t3"],
+        &["run", "a.t3", "--width=0"],
+        &["run", "a.t3", "--width=1001"],
+        &["run", "a.t3", "--width=079"],
+        &["run", "a.t3", "--width"],
+        &["run", "a.t3", "--width=79", "--steps=7", "--width=79"],
+        &["check", "a.t3", "--width=79"],
         &["show", "a.t3", "--steps=7"],
         &["show", "a.t3", "b.t3"],
         &["show"],
@@ -27,6 +33,22 @@ fn other_words_show_the_usage(rt: HostRuntime) -> Result<(), Fail> {
         assert_eq!(rt; shown.as_slice(), USAGE.as_bytes());
         assert_eq!(rt; status, Status::Usage);
         assert_eq!(rt; status.code(), 1);
+    }
+    Ok(())
+}
+
+/// The options of a run come in any order.
+#[test]
+fn a_run_takes_both_options(rt: HostRuntime) -> Result<(), Fail> {
+    let rows: [&[&str]; 4] = [
+        &["run", "a.t3", "--width=1", "--steps=1"],
+        &["run", "a.t3", "--steps=4294967295", "--width=1000"],
+        &["run", "a.t3", "--width=1000"],
+        &["run", "a.t3"],
+    ];
+    for words in &rows {
+        let (status, _) = outcome(rt.alloc(), words, None)?;
+        assert_eq!(rt; status, Status::Absent);
     }
     Ok(())
 }

@@ -32,20 +32,18 @@ const BLOCKS: &str = "ENTP at=69 size=16 flags=1 code=0\n\
                       ok blocks=5 bytes=189\n";
 
 /// The console fails at its k-th call, for k from 0 until none is left to fail: `check` and `show` show
-/// their text at once, and `run` each text that is said, and then how it ended.
+/// their text at once, and so does a `run` that asks for no line and says little.
 #[test]
 fn stops_where_the_console_fails(rt: HostRuntime) -> Result<(), Fail> {
-    let rows: [(&str, u32, Status, &str); 8] = [
+    let rows: [(&str, u32, Status, &str); 6] = [
         ("check", 0, Status::ConsoleFault, ""),
         ("check", 1, Status::Done, "ok blocks=5 bytes=189\n"),
         ("show", 0, Status::ConsoleFault, ""),
         ("show", 1, Status::Done, BLOCKS),
         ("run", 0, Status::ConsoleFault, ""),
-        ("run", 1, Status::ConsoleFault, "1"),
-        ("run", 2, Status::ConsoleFault, "12"),
         (
             "run",
-            3,
+            1,
             Status::BadCode,
             "12\n[bad code at=19 why=Opcode]\n",
         ),

@@ -109,7 +109,7 @@ fn ends_by_faults_and_by_bad_code(rt: HostRuntime) -> Result<(), Fail> {
         ),
         (
             b"\xB1\x00\x04",
-            "[bad code at=10 why=Unbuilt]\n",
+            "[bad code at=13 why=NoByte]\n",
             Status::BadCode,
         ),
         (b"\xFF", "[bad code at=10 why=Opcode]\n", Status::BadCode),
@@ -263,8 +263,9 @@ fn sets_of_functions_are_one_list(rt: HostRuntime) -> Result<(), Fail> {
 #[test]
 fn an_entry_takes_nothing_and_catches_nothing(rt: HostRuntime) -> Result<(), Fail> {
     let alloc = rt.alloc();
-    let rows: [&[u8]; 3] = [
+    let rows: [&[u8]; 4] = [
         b"\x01\x00\x00\x00\x02\x00\x00\x00\x00\x00",
+        b"\x00\x01\x00\x00\x02\x00\x00\x00\x00\x00",
         b"\x80\x00\x00\x00\x02\x00\x00\x00\x00\x00",
         b"\x00\x00\x00\x00\x02\x00\x00\x01\x00\x00",
     ];

@@ -84,6 +84,40 @@ pub fn outcome(
     Ok((status, Vec::from_slice(alloc, console.shown())?))
 }
 
+/// What stands before the constants in the source of a story that asks: the entry, a page of code and one of
+/// constants, of at most 512 bytes each, and the function set for input and output.
+const BEFORE_CONSTANTS: &str =
+    "image / block \"ENTP\" 1 / entry @main 10 10 0 0 0 0 - / block \"CPDF\" 1 / pool 1 1 512 / \
+                      block \"CPDF\" 1 / pool 2 1 512 / block \"FNSD\" 1 / function-set \"tads-io/030007\" / \
+                      block \"CPPG\" 1 / page 2 0 0";
+
+/// A story of these constants and a method of two locals and this body.
+pub fn story(alloc: Global, constants: &str, body: &str) -> Result<Vec<u8>, Fail> {
+    let source = format!(in alloc;
+        "{BEFORE_CONSTANTS} / {constants} / block \"CPPG\" 1 / page 1 0 0 / main: / method 0 2 8 0 / {body} / end 0"
+    )?;
+    let (_, image) = written(alloc, "asm", &lines(alloc, &source)?)?;
+    Ok(image)
+}
+
+/// The status and what is shown where the image is run with these options and this input.
+pub fn played(
+    alloc: Global,
+    image: &[u8],
+    options: &[&str],
+    input: &[u8],
+) -> Result<(Status, Vec<u8>), Fail> {
+    let mut words = Vec::new(alloc);
+    words.push("run")?;
+    words.push("a.t3")?;
+    words.extend_from_slice(options)?;
+    let mut depot = SureDepot::new(alloc);
+    depot.keep(b"a.t3", image)?;
+    let mut console = SureConsole::new(alloc, input)?;
+    let status = t3_main(alloc, &owned(alloc, &words)?, &mut depot, &mut console);
+    Ok((status, Vec::from_slice(alloc, console.shown())?))
+}
+
 /// A method's body as lines that are parted by ` / `, and what its run shows.
 pub type Row = (&'static str, &'static str);
 

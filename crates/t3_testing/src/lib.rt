@@ -6,5 +6,5 @@ mod builder;
 
 pub use builder::{
     END, ENTRY, FUNCTIONS, METHOD, POOL, Row, SAYS_42, code_image, code_page, first_unlike,
-    first_unlike_beside, image, lines, outcome, owned, shown_beside, written,
+    first_unlike_beside, image, lines, outcome, owned, played, shown_beside, story, written,
 };

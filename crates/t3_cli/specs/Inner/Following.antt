@@ -9,12 +9,15 @@ use Rattle.t3_cli.specs.declared.images.read.ReadImage.{ReadImage}
 use Rattle.t3_cli.specs.declared.images.read.ReadImage.TheVariants as read
 use Rattle.t3_cli.specs.declared.status.Status.{Status}
 use Rattle.t3_cli.specs.declared.status.Status.TheVariants.{Done, Absent, ImageRefused, SourceRefused}
-use Rattle.t3_cli.specs.Act.{Act, shown_by, files_by, StopsIn}
+use Rattle.t3_run.specs.Act.{Act, shown_by, files_by, StopsIn}
+use Rattle.t3_run.specs.Asking.{IsInput, AsksBy}
 use Rattle.t3_cli.specs.BlockLines.{totals_text}
-use Rattle.t3_cli.specs.Command.{CommandValue, Check, Rewrite}
+use Rattle.t3_load.specs.Loading.{ProgramValue}
+use Rattle.t3_run.specs.Run.{Ran}
+use Rattle.t3_cli.specs.Command.{CommandValue, Check, Rewrite, RunOptions}
 use Rattle.t3_cli.specs.Lines.{absent_line, refused_line, bad_line}
-use Rattle.t3_cli.specs.Outcome.{Outcome, showing, putting, input_of, IsImageOutcome}
-use Rattle.t3_cli.specs.Top.{CutsShort, ShowsMore, IsWhole, IsCut}
+use Rattle.t3_cli.specs.Outcome.{Outcome, showing, putting, ran_outcome, input_of, RunsProgram, IsImageOutcome}
+use Rattle.t3_cli.specs.Top.{CutsShort, IsWhole, IsCut}
 use Rattle.t3_cli.specs.Inner.Parsing.{file_of}
 use Rattle.t3_cli.specs.Inner.Wanted.{wanted_of, WantsText}
 
@@ -32,7 +35,7 @@ StopsBehind (Some files) done rest left said = StopsIn (files_by files done) (sh
 pub record Completes (outcome : Outcome) (files left : Option Files) (before after : Option Session) (answer : Status) : Type 0 where
   pub status : answer ≡ outcome.status
   pub leaves : LeavesActs files left outcome.acts
-  pub shows : ShowsMore before after (shown_by outcome.acts)
+  pub asks : AsksBy outcome.acts before after (shown_by outcome.acts)
 
 -- the call was cut short within one of them
 pub record Breaks (acts : List Act) (files left : Option Files) (before after : Option Session) (answer : Status) : Type 0 where
@@ -42,16 +45,20 @@ pub record Breaks (acts : List Act) (files left : Option Files) (before after : 
   pub acts_are : acts ≡ done ++ rest
   pub said : List ℕ
   pub stops : StopsBehind files done rest left said
-  pub shows : ShowsMore before after said
+  pub asks : AsksBy acts before after said
 
 abbrev pub Follows : Outcome → Option Files → Option Files → Option Session → Option Session → Status → Type 0
 Follows outcome files left before after answer =
     Completes outcome files left before after answer ⊎ Breaks outcome.acts files left before after answer
 
--- it follows one of these outcomes
-abbrev pub FollowsSome : (Outcome → Type 0) → Option Files → Option Files → Option Session → Option Session → Status → Type 0
+-- it follows one of these outcomes, with the input that the console had left
+abbrev pub FollowsSome : (List ℕ → Outcome → Type 0) → Option Files → Option Files → Option Session → Option Session → Status → Type 0
 FollowsSome IsOutcome files left before after answer =
-    (outcome : Outcome) × IsOutcome outcome × Follows outcome files left before after answer
+    (input : List ℕ) × IsInput before input × (outcome : Outcome) × IsOutcome input outcome × Follows outcome files left before after answer
+
+-- the outcome of a program's run
+abbrev pub IsProgramOutcome : ProgramValue → RunOptions → List ℕ → Outcome → Type 0
+IsProgramOutcome program options input outcome = (ran : Ran) × RunsProgram program options input ran × (outcome ≡ ran_outcome ran)
 
 -- what a command gives of an image that was only counted, which is done to check it
 abbrev pub IsCountedOutcome : CommandValue → Totals → Outcome → Type 0
@@ -63,15 +70,15 @@ abbrev pub IsWrittenOutcome : CommandValue → Option ℕ → List ℕ → Outco
 IsWrittenOutcome (Rewrite name out mask) under written outcome = outcome ≡ putting out written
 IsWrittenOutcome _ under written outcome = ⊥
 
--- what a command gives of what was read
-abbrev pub IsReadOutcome : CommandValue → ReadImage → Outcome → Type 0
-IsReadOutcome command read.Absent outcome = outcome ≡ showing Absent (absent_line (file_of (input_of command)))
-IsReadOutcome command (read.Refused place why) outcome = outcome ≡ showing ImageRefused (refused_line why place)
-IsReadOutcome command (read.BadLine line why) outcome = outcome ≡ showing SourceRefused (bad_line line why)
-IsReadOutcome command (read.Counted totals) outcome = IsCountedOutcome command totals outcome
-IsReadOutcome command (read.Rewritten mask written) outcome =
+-- what a command gives of what was read, and of the input
+abbrev pub IsReadOutcome : CommandValue → ReadImage → List ℕ → Outcome → Type 0
+IsReadOutcome command read.Absent input outcome = outcome ≡ showing Absent (absent_line (file_of (input_of command)))
+IsReadOutcome command (read.Refused place why) input outcome = outcome ≡ showing ImageRefused (refused_line why place)
+IsReadOutcome command (read.BadLine line why) input outcome = outcome ≡ showing SourceRefused (bad_line line why)
+IsReadOutcome command (read.Counted totals) input outcome = IsCountedOutcome command totals outcome
+IsReadOutcome command (read.Rewritten mask written) input outcome =
     WantsText mask (wanted_of command) × IsWrittenOutcome command mask written.items outcome
-IsReadOutcome command (read.Image image) outcome = IsImageOutcome command image outcome
+IsReadOutcome command (read.Image image) input outcome = IsImageOutcome command image input outcome
 
 -- how many bytes were put, or why they weren't
 abbrev pub PutsSized : Option Files → Option Files → List ℕ → List ℕ → Result ℕ DeviceRefusal → Type 0

@@ -7,8 +7,8 @@ ghost use Rattle.t3_cli.specs.Outcome.{putting, input_of};
 ghost use Rattle.t3_cli.specs.Inner.Reading.{ReadsInput, IsDigested};
 ghost use Rattle.t3_cli.specs.Inner.Wanted.{wanted_of, IsAsWanted};
 ghost use Rattle.sha2.specs.Hashers.{Holds256};
-ghost use Rattle.t3_cli.specs.Top.{CutsShort, ShowsSome};
-ghost use Rattle.t3_cli.specs.Command.{command_value, HasFileNames};
+ghost use Rattle.t3_cli.specs.Top.{CutsShort, MovesSome};
+ghost use Rattle.t3_cli.specs.Command.{command_value, IsWellFormed};
 ghost use Rattle.t3_cli.specs.Inner.Following.{Answers, FollowsSome, Follows, IsReadOutcome};
 
 use crate::commands::command::Command;
@@ -35,12 +35,12 @@ pub(crate) fn carry_out<D: Depot, C: Console>(
     depot: &mut D,
     console: &mut C,
 ) -> Status
-    requires names { HasFileNames (command_value command) }
+    requires names { IsWellFormed (command_value command) }
     requires depot { D.faults depot.old < 2 ^ 64 - 1 }
     requires console { C.faults console.old < 2 ^ 64 - 1 }
     ensures answers { IfSome (D.files depot.old) (λ files.
         Answers (Some (command_value command.entry)) files (C.session console.old) result (D.files depot.new) (C.session console.new)) }
-    ensures shown { ShowsSome (C.session console.old) (C.session console.new) }
+    ensures moved { MovesSome (C.session console.old) (C.session console.new) }
     ensures no_usage { result ≢ Status.Usage }
     ensures depot_fault { result ≡ Status.DepotFault → D.faults depot.old < D.faults depot.new }
     ensures depot_rise { (result ≡ Status.DepotFault) ⊎ (D.faults depot.new ≡ D.faults depot.old) }
@@ -63,7 +63,7 @@ fn read_input<D: Depot>(
     depot: &mut D,
     hasher: &mut Sha256,
 ) -> Result<ReadImage, DeviceRefusal>
-    requires names { HasFileNames (command_value command) }
+    requires names { IsWellFormed (command_value command) }
     requires faults { D.faults depot.old < 2 ^ 64 - 1 }
     requires fresh { Holds256 hasher.old [] }
     ensures read { ReadsInput (D.files depot.old) (input_of (command_value command.entry)) result }
@@ -107,7 +107,7 @@ fn act<D: Depot, C: Console>(
     depot: &mut D,
     console: &mut C,
 ) -> Status
-    requires names { HasFileNames (command_value command) }
+    requires names { IsWellFormed (command_value command) }
     requires digest { IsDigested (command_value command) read hasher }
     requires wanted { IsAsWanted (wanted_of (command_value command)) read }
     requires depot { D.faults depot.old < 2 ^ 64 - 1 }

@@ -44,8 +44,10 @@ pub(crate) enum Command<'w> {
 /// What a run is told besides its image.
 #[derive(Clone, Copy, Debug)]
 pub(crate) struct RunOptions {
-    /// How many steps it makes at most.
+    /// How many steps it makes at most, from 1 on.
     pub(crate) steps: u32,
+    /// How wide its lines are, from 1 to 1000.
+    pub(crate) width: u16,
 }
 
 impl<'w> Command<'w> {

@@ -1,25 +1,38 @@
 //! The numbers of options.
-ghost use Rattle.std.specs.Prelude.{◌≡◌};
-ghost use Rattle.t3_cli.specs.Number.{positive_of, byte_of};
+ghost use Rattle.std.specs.Prelude.{◌≡◌, ◌≤◌, IfSome};
+ghost use Rattle.t3_cli.specs.Number.{number_within as number_of, spelled_number as spelled};
+ghost use Rattle.t3_cli.specs.Inner.Parsing.{positive_of};
 
-/// The number that a text spells in decimal, without a sign or a leading zero, from 1 to 4294967295.
+/// The number that a text spells in decimal, without a sign or a leading zero, from `least` to `most`.
+pub fn number_within(text: &str, least: u32, most: u32) -> Option<u32>
+    ensures number { result ≡ number_of least most text.now }
+    ensures most { IfSome result (λ number. number ≤ most) }
+{
+    let number = spelled_number(text)?;
+    if least <= number && number <= most {
+        Some(number)
+    } else {
+        None
+    }
+}
+
+/// The number that a text spells.
+fn spelled_number(text: &str) -> Option<u32>
+    ensures { result ≡ spelled text.now }
+{
+    if text == "0" {
+        return Some(0);
+    }
+    positive_number(text)
+}
+
+/// The number that a text spells from 1 on.
 #[tactic(auto, using(crate::proofs::Spelled::none_below, crate::proofs::Spelled::none_above, crate::proofs::Spelled::parsed))]
-pub fn positive_number(text: &str) -> Option<u32>
+fn positive_number(text: &str) -> Option<u32>
     ensures { result ≡ positive_of text.now }
 {
     match text.as_bytes() {
         [b'1'..=b'9', ..] => text.parse::<u32>().ok(),
         _ => None,
     }
-}
-
-/// The number that a text spells in decimal, without a sign or a leading zero, from 0 to 255.
-#[tactic(auto, using(crate::proofs::Spelled::zero_byte, crate::proofs::Spelled::none_byte, crate::proofs::Spelled::small_byte, crate::proofs::Spelled::large_byte))]
-pub fn byte_number(text: &str) -> Option<u8>
-    ensures { result ≡ byte_of text.now }
-{
-    if text == "0" {
-        return Some(0);
-    }
-    u8::try_from(positive_number(text)?).ok()
 }

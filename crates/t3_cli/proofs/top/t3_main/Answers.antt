@@ -39,8 +39,8 @@ returns-in-None-clause-cut g c = cut_of _ (g.D.Depot.files c.args.depot.now) _ _
 pub returns-in-None-clause-causes : goal.returns-in-None-clause-causes
 returns-in-None-clause-causes g c = causes_of _ (g.D.Depot.files c.args.depot.now) _ _ _ _ (no_command g c)
 
-pub returns-in-None-clause-shown : goal.returns-in-None-clause-shown
-returns-in-None-clause-shown g c = shown_some _ _ _ _ _ c.end_with.ensures.shown
+pub returns-in-None-clause-moved : goal.returns-in-None-clause-moved
+returns-in-None-clause-moved g c = shown_some _ _ _ _ _ c.end_with.ensures.shown
 
 pub returns-in-Some-clause-whole : goal.returns-in-Some-clause-whole
 returns-in-Some-clause-whole g c = whole_of _ (g.D.Depot.files c.args.depot.now) _ _ _ _ (some_command g c)

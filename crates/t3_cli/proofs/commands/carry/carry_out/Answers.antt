@@ -19,8 +19,8 @@ pub returns-in-Ok-clause-answers : goal.returns-in-Ok-clause-answers
 returns-in-Ok-clause-answers g c =
     read_answers (command_value c.args.command) (g.D.Depot.files c.args.depot.now) _ _ _ _ c.in-Ok.read c.in-Ok.ensures.read (follows g c)
 
-pub returns-in-Ok-clause-shown : goal.returns-in-Ok-clause-shown
-returns-in-Ok-clause-shown g c = follows_some (IsReadOutcome (command_value c.args.command) c.in-Ok.read) _ _ _ _ _ (follows g c)
+pub returns-in-Ok-clause-moved : goal.returns-in-Ok-clause-moved
+returns-in-Ok-clause-moved g c = follows_some (IsReadOutcome (command_value c.args.command) c.in-Ok.read) _ _ _ _ _ (follows g c)
 
 pub returns-in-Ok-clause-no_usage : goal.returns-in-Ok-clause-no_usage
 returns-in-Ok-clause-no_usage g c = follows_not_usage (command_value c.args.command) c.in-Ok.read _ _ _ _ _ (follows g c)
@@ -29,5 +29,5 @@ pub returns-in-Err-clause-answers : goal.returns-in-Err-clause-answers
 returns-in-Err-clause-answers g c =
     untouched_answers (Some (command_value c.args.command)) (g.D.Depot.files c.args.depot.now) _ (g.C.Console.session c.args.console.now) c.depot_status.result c.read_input.ensures.files c.depot_status.ensures.cut
 
-pub returns-in-Err-clause-shown : goal.returns-in-Err-clause-shown
-returns-in-Err-clause-shown g c = some_nothing (g.C.Console.session c.args.console.now)
+pub returns-in-Err-clause-moved : goal.returns-in-Err-clause-moved
+returns-in-Err-clause-moved g c = some_nothing (g.C.Console.session c.args.console.now)

@@ -1,6 +1,7 @@
-use Rattle.std.proofs.Common.{◌≡◌, true, nat_eq, take, string_bytes}
-use Rattle.std.specs.List.{list_all, starts_with}
+use Rattle.std.proofs.Common.{◌≡◌, true, take, map, string_bytes}
+use Rattle.std.specs.List.{list_all}
+use Rattle.t3_cli.specs.Options.{is_one_of}
 use Rattle.t3_cli.proofs.commands.options.are_all_given.Given as goal
 
 abbrev pub invariant-loop-word : goal.invariant-loop-word
-invariant-loop-word l = list_all (λ word. starts_with nat_eq (string_bytes word) l.prefix) (take l.word-index l.words) ≡ true
+invariant-loop-word l = list_all (λ word. is_one_of (map (λ p. p.now) l.prefixes) (string_bytes word)) (take l.word-index l.words) ≡ true

@@ -1,0 +1,7 @@
+pub mod Acts
+pub mod Shown
+pub mod Cutting
+pub mod Asks
+pub mod Runs
+mod Screens
+mod Played

@@ -1,0 +1,7 @@
+pub mod Act
+pub mod Showing
+pub mod Asking
+pub mod EndLines
+pub mod Run
+pub mod Running
+pub mod Inner
