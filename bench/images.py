@@ -21,6 +21,21 @@ def block(name, payload):
 
 HEAD = b"T3-image\r\n\x1a" + b"\x01\x00" + bytes(32) + b" " * 24
 END = block(b"EOF ", b"")
+PAGE_SIZE = 64
+
+
+def pool(which, data):
+    """The blocks of a pool with these bytes, in pages of one size, of which the last may have fewer."""
+    pages = [data[i : i + PAGE_SIZE] for i in range(0, len(data), PAGE_SIZE)]
+    return block(b"CPDF", number(2, which) + number(4, len(pages)) + number(4, PAGE_SIZE)) + b"".join(
+        block(b"CPPG", number(2, which) + number(4, i) + b"\x00" + page) for i, page in enumerate(pages)
+    )
+
+
+def story(code, locals_count=0, more=b""):
+    """A story with these blocks, whose method has this code, behind a header of ten bytes."""
+    code = bytes([0, 0, locals_count, 0, 2, 0, 0, 0, 0, 0]) + code
+    return HEAD + block(b"ENTP", number(4, 0) + number(2, 10) * 2 + bytes(8)) + more + pool(1, code) + END
 
 
 def timed(words, folder):

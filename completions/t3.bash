@@ -1,7 +1,7 @@
 # Completion of t3 for bash: its commands, the files of this folder, and options.
 
 _t3() {
-    local LC_ALL=C word=${COMP_WORDS[COMP_CWORD]} names option='' name
+    local LC_ALL=C word=${COMP_WORDS[COMP_CWORD]} names options='' name given
     COMPREPLY=()
     if ((COMP_CWORD == 1)); then
         COMPREPLY=($(compgen -W 'check show list run rewrite asm' -- "$word"))
@@ -10,8 +10,8 @@ _t3() {
     case ${COMP_WORDS[1]} in
         check | show) names=1 ;;
         list | asm) names=2 ;;
-        run) names=1 option=--steps= ;;
-        rewrite) names=2 option=--mask= ;;
+        run) names=1 options='--steps= --width=' ;;
+        rewrite) names=2 options=--mask= ;;
         *) return ;;
     esac
     if ((COMP_CWORD <= names + 1)); then
@@ -21,8 +21,14 @@ _t3() {
                 COMPREPLY+=("$name")
             fi
         done < <(compgen -f -- "$word")
-    elif [[ -n $option ]] && ((COMP_CWORD == names + 2)); then
-        COMPREPLY=($(compgen -W "$option" -- "$word"))
+    else
+        # Each option at most once. Bash parts words at `=` too.
+        for given in "${COMP_WORDS[@]:names+2:COMP_CWORD-names-2}"; do
+            if [[ $given == --* ]]; then
+                options=${options/"${given%%=*}="/}
+            fi
+        done
+        COMPREPLY=($(compgen -W "$options" -- "$word"))
         # A number follows at once.
         compopt -o nospace 2>/dev/null
     fi
