@@ -212,7 +212,7 @@ pub(crate) fn computed(op: ArithOp, left: Holder, right: Holder) -> Result<Holde
 
 /// The value by which a truth is told.
 #[inline(always)]
-fn truth_value(is: bool) -> Holder
+pub fn truth_value(is: bool) -> Holder
     ensures { result ≡ truth_value_of is }
 {
     if is { Holder::True } else { Holder::Nil }

@@ -25,7 +25,7 @@ mod relation;
 mod variables;
 
 pub use calling::ask_for_call;
-pub use computing::{give, math, put};
+pub use computing::{give, math, put, truth_value};
 pub use context::Core;
 pub use effect::{CodeWhy, Quiet};
 pub use jumping::{jump, target_from};

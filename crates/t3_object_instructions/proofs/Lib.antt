@@ -2,3 +2,4 @@ mod Searching
 mod Evaluating
 mod Turning
 mod Arguments
+mod Present

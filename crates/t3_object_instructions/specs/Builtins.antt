@@ -16,6 +16,8 @@ use Rattle.t3_frame_instructions.specs.declared.effect.CodeWhy.TheVariants.{Unbu
 use Rattle.t3_frame_instructions.specs.Context.{Context, Action, leaving, faults, stops, answers, pops}
 use Rattle.t3_frame_instructions.specs.Making.{makes}
 use Rattle.t3_object_instructions.specs.Creating.{arguments}
+use Rattle.t3_object_instructions.specs.Evaluating.{unless_argued}
+use Rattle.t3_object_instructions.specs.Savepoints.{savepoint_function, undo_function, saves, undoes}
 use Rattle.t3_object_instructions.specs.Saying.{sets_say}
 
 -- ---- saying one or more values, the topmost first
@@ -45,11 +47,17 @@ abbrev pub io_action : Pool → (index count : ℕ) → Context → Action
 io_action constants index count context =
     if index == 0 then says constants count context else (if index == 4 then takes_line count context else faults NoBuiltin context)
 
--- the general set: those that make one object at most, and 13 to 17, which save, restore and undo
+-- the general set besides: savepoints, and 15 to 17, which save, restore and restart
+abbrev pub savepoint_action : (index count : ℕ) → Context → Action
+savepoint_action index count context =
+    if index == savepoint_function then unless_argued count (saves context) context
+    else (if index == undo_function then unless_argued count (undoes context) context else unless_listed (nat_le 15 index && nat_le index 17) context)
+
+-- the general set: those that make one object at most, and the others
 abbrev pub gen_by : Pool → Option PureBuiltin → (index count : ℕ) → Context → Action
 gen_by constants (Some builtin) index count context =
     makes (pure_builtin_of constants context.store index (arguments count context)) (λ value context. answers value count context) context
-gen_by constants None index count context = unless_listed (nat_le 13 index && nat_le index 17) context
+gen_by constants None index count context = savepoint_action index count context
 
 -- one argument: by which function values are said
 abbrev pub takes_say : ℕ → Context → Action

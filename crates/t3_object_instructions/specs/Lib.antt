@@ -5,7 +5,9 @@ pub mod Setting
 pub mod Symbols
 pub mod Creating
 pub mod Exceptions
+pub mod Savepoints
 pub mod Builtins
 pub mod Instructions
+pub mod Steady
 pub mod Acting
 pub mod Inner

@@ -1,5 +1,7 @@
 //! Built-in functions.
-ghost use Rattle.std.specs.Prelude.{◌≡◌, ◌==◌, if◌then◌else◌, IfOk, IsSome, reverse, take};
+ghost use Rattle.std.specs.Prelude.{◌≡◌, ◌==◌, ◌<◌, ◌^◌, if◌then◌else◌, IfOk, IsSome, IsTrue, Ok, Some, reverse, take};
+ghost use Rattle.std.specs.List.{slice_get};
+ghost use Rattle.t3_load.specs.declared.sets.SetKind.TheVariants.{Gen};
 ghost use Rattle.t3_ops.specs.Builtins.{pure_at as pure_by, pure_builtin_of};
 ghost use Rattle.t3_ops.specs.declared.fault.Fault.TheVariants.{ArgCount, NoBuiltin};
 ghost use Rattle.t3_frame_instructions.specs.declared.effect.CodeWhy.TheVariants.{Unbuilt};
@@ -8,12 +10,14 @@ ghost use Rattle.t3_frame_instructions.specs.Effect.{Stop, WantLine, Fault as Fa
 ghost use Rattle.t3_frame_instructions.specs.Context.{answers};
 ghost use Rattle.t3_frame_instructions.specs.Making.{makes};
 ghost use Rattle.t3_frame_instructions.specs.Acting.{HasAction, HasDone, quiet_of};
-ghost use Rattle.t3_object_instructions.specs.Builtins.{builtin_action, gen_by, io_action, says, vm_action};
+ghost use Rattle.t3_object_instructions.specs.Builtins.{builtin_action, gen_by, io_action, savepoint_action, says, vm_action};
+ghost use Rattle.t3_object_instructions.specs.Steady.{is_savepoint_call};
 ghost use Rattle.t3_object_instructions.specs.Creating.{arguments};
 ghost use Rattle.t3_object_instructions.specs.Acting.{effect_of};
 
 use crate::effect::MakeEffect;
 use crate::evaluate::answer;
+use crate::savepoints::{make_savepoint, undo};
 use crate::saying::set_say_popped;
 use std::alloc::Global;
 use t3_frame_instructions::{CodeWhy, Core, Quiet};
@@ -31,6 +35,12 @@ const INPUT_LINE: u8 = 4;
 /// The index of the function that sets by which function values are said.
 const SET_SAY: u8 = 1;
 
+/// The index of the function that makes a savepoint.
+const SAVEPOINT: u8 = 13;
+
+/// The index of the function that undoes to the newest savepoint.
+const UNDO: u8 = 14;
+
 /// Calls a function of a set, with so many operands. The set is one of the image's table.
 pub(crate) fn builtin(
     alloc: Global,
@@ -40,8 +50,11 @@ pub(crate) fn builtin(
     index: u8,
     count: u16,
 ) -> Result<MakeEffect, NoMemory>
-    ensures { IfOk result (λ effect. HasAction (builtin_action program.now set index count) core.old
-        (effect_of effect core.new.call) core.new) }
+    requires { core.old.store.savepoints < 2 ^ 63 }
+    ensures done { IfOk result (λ effect. HasAction (builtin_action program.now set index count)
+        core.old (effect_of effect core.new.call) core.new) }
+    ensures steady { IsTrue (is_savepoint_call (slice_get program.now.sets set) index count)
+        → result ≡ Ok (MakeEffect.Quiet Quiet.Next) }
 {
     match program.sets.0.get(usize::from(set)) {
         Some(SetKind::Io) => io_builtin(alloc, &program.pools, core, index, count),
@@ -137,15 +150,30 @@ fn gen_builtin(
     index: u8,
     count: u16,
 ) -> Result<Quiet, NoMemory>
-    ensures { IfOk result (λ effect. HasDone
+    requires { core.old.store.savepoints < 2 ^ 63 }
+    ensures done { IfOk result (λ effect. HasDone
         (gen_by pools.now.constants (pure_by index) index count) core.old effect core.new) }
+    ensures steady { IsTrue (is_savepoint_call (Some Gen) index count) → result ≡ Ok Quiet.Next }
 {
     match pure_at(index) {
         Some(_) => {
             core.frames.turn_operands(count);
             call_pure(alloc, pools, core, index, count)
         }
-        None => Ok(refuse_unless((13..=17).contains(&index))),
+        None => Ok(savepoint_builtin(core, index, count)),
+    }
+}
+
+/// Calls a function of the general set that makes no object.
+fn savepoint_builtin(core: &mut Core, index: u8, count: u16) -> Quiet
+    requires { core.old.store.savepoints < 2 ^ 63 }
+    ensures done { HasDone (savepoint_action index count) core.old result core.new }
+    ensures steady { IsTrue (is_savepoint_call (Some Gen) index count) → result ≡ Quiet.Next }
+{
+    match index {
+        SAVEPOINT => make_savepoint(core, count),
+        UNDO => undo(core, count),
+        _ => refuse_unless((15..=17).contains(&index)),
     }
 }
 

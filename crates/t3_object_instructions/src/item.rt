@@ -1,5 +1,5 @@
 //! Elements of lists and vectors, and entries of tables, by their index.
-ghost use Rattle.std.specs.Prelude.{◌≡◌, ◌+◌, ◌≤◌, ◌<◌, ◌^◌, IfOk, IsTrue};
+ghost use Rattle.std.specs.Prelude.{◌≡◌, ◌≢◌, ◌+◌, ◌≤◌, ◌<◌, ◌^◌, [], IfOk, IsTrue, Ok};
 ghost use Rattle.t3_frames.specs.Frame.{values, room};
 ghost use Rattle.t3_undo.specs.declared.cell.Cell.TheVariants.{Key as KeyCell};
 ghost use Rattle.t3_store.specs.Value.{can_have_at};
@@ -12,6 +12,7 @@ ghost use Rattle.t3_holder.specs.declared.holder.Holder.TheVariants.{Obj};
 ghost use Rattle.t3_undo.specs.declared.key.Key.{Key};
 ghost use Rattle.t3_frame_instructions.specs.Context.{pops_two};
 ghost use Rattle.t3_frame_instructions.specs.Acting.{HasDone};
+ghost use Rattle.t3_object_instructions.specs.Steady.{has_element, sets_present_element};
 ghost use Rattle.t3_object_instructions.specs.Setting.{indexes, makes_list, puts_or_fills, sets_element, sets_entry, sets_in_object, sets_item, sets_popped_item};
 
 use std::alloc::Global;
@@ -43,8 +44,10 @@ pub(crate) fn index_popped(alloc: Global, pools: &Pools, core: &mut Core) -> Res
 #[inline(never)]
 pub(crate) fn set_item(alloc: Global, pools: &Pools, core: &mut Core) -> Result<Quiet, NoMemory>
     requires { core.old.store.writes + 131072 ≤ 2 ^ 63 }
-    ensures { IfOk result (λ effect. HasDone (pops_two (sets_popped_item pools.now.constants))
+    ensures done { IfOk result (λ effect. HasDone (pops_two (sets_popped_item pools.now.constants))
         core.old effect core.new) }
+    ensures steady { IsTrue (sets_present_element core.old.store.store
+        core.old.frames.newest.operands) → result ≡ Ok Quiet.Next }
 {
     match core.frames.pop_two() {
         Some((at, container)) => set_popped_item(alloc, pools, core, at, container),
@@ -61,8 +64,10 @@ fn set_popped_item(
     container: Holder,
 ) -> Result<Quiet, NoMemory>
     requires { core.old.store.writes + 131072 ≤ 2 ^ 63 }
-    ensures { IfOk result (λ effect. HasDone (sets_popped_item pools.now.constants at container)
+    ensures done { IfOk result (λ effect. HasDone (sets_popped_item pools.now.constants at container)
         core.old effect core.new) }
+    ensures steady { IsTrue (has_element core.old.store.store at container)
+        → core.old.frames.newest.operands ≢ [] → result ≡ Ok Quiet.Next }
 {
     match (core.frames.pop(), container) {
         (Some(value), Holder::Obj(number)) => {
@@ -84,8 +89,10 @@ fn set_in_object(
 ) -> Result<Quiet, NoMemory>
     requires few { core.old.store.writes + 131072 ≤ 2 ^ 63 }
     requires room { values core.old.frames < room }
-    ensures { IfOk result (λ effect. HasDone (λ context. sets_in_object pools.now.constants at number
+    ensures done { IfOk result (λ effect. HasDone (λ context. sets_in_object pools.now.constants at number
         value (value_at context.store number) context) core.old effect core.new) }
+    ensures steady { IsTrue (has_element core.old.store.store at (Obj number))
+        → result ≡ Ok Quiet.Next }
 {
     if let Some(length) = core.store.length(number) {
         return set_in_vector(core, at, number, length, value);
@@ -128,8 +135,10 @@ fn set_in_vector(
     requires few { core.old.store.writes + 131072 ≤ 2 ^ 63 }
     requires room { values core.old.frames < room }
     requires vector { IsVectorOf (value_at core.old.store.store number) length }
-    ensures { IfOk result (λ effect. HasDone (sets_element number length value
+    ensures done { IfOk result (λ effect. HasDone (sets_element number length value
         (vector_index_of (integer at))) core.old effect core.new) }
+    ensures steady { IsTrue (has_element core.old.store.store at (Obj number))
+        → result ≡ Ok Quiet.Next }
 {
     match vector_index(at) {
         Ok(index) => {

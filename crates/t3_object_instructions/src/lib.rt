@@ -20,6 +20,7 @@ mod item;
 mod laws;
 mod making;
 mod methods;
+mod savepoints;
 mod saying;
 mod search;
 mod set;

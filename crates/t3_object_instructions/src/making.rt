@@ -1,9 +1,10 @@
 //! Creating, saying, throwing, indexing, and calling built-in functions.
-ghost use Rattle.std.specs.Prelude.{IfOk};
+ghost use Rattle.std.specs.Prelude.{◌≡◌, ◌<◌, ◌^◌, IfOk, IsTrue, Ok};
 ghost use Rattle.t3_frame_instructions.specs.Context.{pops};
 ghost use Rattle.t3_frame_instructions.specs.Acting.{HasAction, HasDone};
 ghost use Rattle.t3_object_instructions.specs.Exceptions.{throws};
 ghost use Rattle.t3_object_instructions.specs.Instructions.{make_action};
+ghost use Rattle.t3_object_instructions.specs.Steady.{is_steady_make};
 ghost use Rattle.t3_object_instructions.specs.Acting.{effect_of};
 
 use crate::builtin::builtin;
@@ -24,15 +25,18 @@ use t3_ops::Fault;
 /// `CannotMake` comes where the image lists no metaclass of that index, or one that has no objects of its own;
 /// else the faults of creating, of [`t3_ops::index`], [`t3_ops::pure_builtin`] and [`t3_ops::said_text`];
 /// `NoBuiltin` where there is no such function; and of throwing `NotObject`, and `Stale` where the object
-/// isn't there.
+/// isn't there. Fewer than 2^63 savepoints were made. Making one, and undoing to the newest, take no memory.
 pub fn make(
     alloc: Global,
     program: &Program,
     core: &mut Core,
     code: MakeCode,
 ) -> Result<MakeEffect, NoMemory>
-    ensures { IfOk result (λ effect. HasAction (make_action program.now code) core.old
+    requires { core.old.store.savepoints < 2 ^ 63 }
+    ensures done { IfOk result (λ effect. HasAction (make_action program.now code) core.old
         (effect_of effect core.new.call) core.new) }
+    ensures steady { IsTrue (is_steady_make program.now code)
+        → result ≡ Ok (MakeEffect.Quiet Quiet.Next) }
 {
     let effect = match code {
         MakeCode::Builtina(count, index) => {

@@ -1,11 +1,12 @@
 //! Setting a property of an object.
-ghost use Rattle.std.specs.Prelude.{◌≡◌, ◌≤◌, ◌+◌, ◌^◌, IfOk, IsSome, option_and_then};
+ghost use Rattle.std.specs.Prelude.{◌≡◌, ◌≤◌, ◌+◌, ◌^◌, IfOk, IsSome, IsTrue, Ok, is_some, option_and_then};
 ghost use Rattle.t3_undo.specs.declared.cell.Cell.TheVariants.{Prop};
-ghost use Rattle.t3_store.specs.Value.{supers_of};
+ghost use Rattle.t3_store.specs.Value.{holder_at, supers_of};
 ghost use Rattle.t3_store.specs.Store.{value_at, written};
 ghost use Rattle.t3_frame_instructions.specs.Context.{pops};
 ghost use Rattle.t3_object_instructions.specs.Evaluating.{by_property};
 ghost use Rattle.t3_object_instructions.specs.Setting.{sets, sets_in, sets_popped, takes_store};
+ghost use Rattle.t3_object_instructions.specs.Steady.{has_property, sets_present, sets_present_by_top, sets_present_of_top};
 ghost use Rattle.t3_frame_instructions.specs.Acting.{HasDone};
 
 use t3_frame_instructions::{CodeWhy, Core, Quiet};
@@ -18,8 +19,10 @@ use t3_undo::Cell;
 #[inline(never)]
 pub(crate) fn set_of_popped(core: &mut Core, property: u16) -> Result<Quiet, NoMemory>
     requires { core.old.store.writes + 131072 ≤ 2 ^ 63 }
-    ensures { IfOk result
+    ensures done { IfOk result
         (λ effect. HasDone (pops (sets_popped property)) core.old effect core.new) }
+    ensures steady { IsTrue (sets_present_of_top core.old.store.store property
+        core.old.frames.newest.operands) → result ≡ Ok Quiet.Next }
 {
     match core.frames.pop() {
         Some(object) => set_popped(core, property, object),
@@ -31,8 +34,10 @@ pub(crate) fn set_of_popped(core: &mut Core, property: u16) -> Result<Quiet, NoM
 #[inline(never)]
 pub(crate) fn set_by_pointer(core: &mut Core) -> Result<Quiet, NoMemory>
     requires { core.old.store.writes + 131072 ≤ 2 ^ 63 }
-    ensures { IfOk result (λ effect. HasDone (pops (by_property (λ p. pops (sets_popped p))))
+    ensures done { IfOk result (λ effect. HasDone (pops (by_property (λ p. pops (sets_popped p))))
         core.old effect core.new) }
+    ensures steady { IsTrue (sets_present_by_top core.old.store.store
+        core.old.frames.newest.operands) → result ≡ Ok Quiet.Next }
 {
     match core.frames.pop() {
         Some(Holder::Prop(property)) => set_of_popped(core, property),
@@ -45,8 +50,10 @@ pub(crate) fn set_by_pointer(core: &mut Core) -> Result<Quiet, NoMemory>
 #[inline(never)]
 pub(crate) fn set_popped(core: &mut Core, property: u16, object: Holder) -> Result<Quiet, NoMemory>
     requires { core.old.store.writes + 131072 ≤ 2 ^ 63 }
-    ensures { IfOk result
+    ensures done { IfOk result
         (λ effect. HasDone (sets_popped property object) core.old effect core.new) }
+    ensures steady { IsTrue (sets_present core.old.store.store property object
+        core.old.frames.newest.operands) → result ≡ Ok Quiet.Next }
 {
     match core.frames.pop() {
         Some(value) => set(core, property, object, value),
@@ -57,8 +64,10 @@ pub(crate) fn set_popped(core: &mut Core, property: u16, object: Holder) -> Resu
 /// Sets a property of an object to a value.
 fn set(core: &mut Core, property: u16, object: Holder, value: Holder) -> Result<Quiet, NoMemory>
     requires { core.old.store.writes + 131072 ≤ 2 ^ 63 }
-    ensures { IfOk result
+    ensures done { IfOk result
         (λ effect. HasDone (sets property object value) core.old effect core.new) }
+    ensures steady { IsTrue (has_property core.old.store.store property object)
+        → result ≡ Ok Quiet.Next }
 {
     match object {
         Holder::Obj(number) => set_of_object(core, property, number, value),
@@ -75,8 +84,10 @@ fn set_of_object(
     value: Holder,
 ) -> Result<Quiet, NoMemory>
     requires { core.old.store.writes + 131072 ≤ 2 ^ 63 }
-    ensures { IfOk result (λ effect. HasDone (λ context. sets_in property number value
+    ensures done { IfOk result (λ effect. HasDone (λ context. sets_in property number value
         (value_at context.store number) context) core.old effect core.new) }
+    ensures steady { IsTrue (is_some (holder_at (value_at core.old.store.store number) (Prop property)))
+        → result ≡ Ok Quiet.Next }
 {
     if core.store.replace_prop(number, property, value) {
         return Ok(Quiet::Next);

@@ -1,7 +1,8 @@
 //! The variables of a method, the properties of objects, and elements and entries.
-ghost use Rattle.std.specs.Prelude.{◌+◌, ◌≤◌, ◌^◌, IfOk};
+ghost use Rattle.std.specs.Prelude.{◌≡◌, ◌+◌, ◌≤◌, ◌^◌, IfOk, IsTrue, Ok};
 ghost use Rattle.t3_frame_instructions.specs.Acting.{HasDone};
 ghost use Rattle.t3_object_instructions.specs.Instructions.{local_action};
+ghost use Rattle.t3_object_instructions.specs.Steady.{is_steady_local};
 
 use crate::item::set_item;
 use crate::set::{set_by_pointer, set_of_popped, set_popped};
@@ -19,7 +20,8 @@ use t3_pools::Pools;
 /// Of a variable `Kind` comes where integers are wanted and a value is none, `Overflow`, and the faults of
 /// [`t3_ops::sum`]. Of a property `NotObject` where there is no object, `CannotSet` where it has none to be set,
 /// and `Stale` where the object isn't there. Of an element or an entry the faults of
-/// [`t3_ops::list_with_element`], [`t3_ops::vector_index`] and [`t3_ops::key`].
+/// [`t3_ops::list_with_element`], [`t3_ops::vector_index`] and [`t3_ops::key`]. Where the property, or the
+/// element of a vector, is present, no memory is taken.
 #[inline(always)]
 pub fn local(
     alloc: Global,
@@ -28,7 +30,10 @@ pub fn local(
     code: LocalCode,
 ) -> Result<Quiet, NoMemory>
     requires { core.old.store.writes + 131072 ≤ 2 ^ 63 }
-    ensures { IfOk result (λ effect. HasDone (local_action pools.now code) core.old effect core.new) }
+    ensures done { IfOk result
+        (λ effect. HasDone (local_action pools.now code) core.old effect core.new) }
+    ensures steady { IsTrue (is_steady_local core.old.store.store core.old.frames.newest.this
+        core.old.frames.newest.operands code) → result ≡ Ok Quiet.Next }
 {
     match code {
         LocalCode::Inclcl(n) => Ok(add_number(core, n, 1)),

@@ -13,6 +13,7 @@ use Rattle.t3_frame_instructions.specs.Context.{Context}
 use Rattle.t3_frame_instructions.specs.Acting.{context_of, HasDone}
 use Rattle.t3_object_instructions.specs.Setting.{makes_list, sets_in_object}
 use Rattle.t3_object_instructions.proofs.Evaluating.{as_well}
+use Rattle.t3_object_instructions.proofs.Present.{no-element-at}
 use Rattle.t3_object_instructions.proofs.item.set_in_object.Goals as goal
 use Rattle.t3_object_instructions.proofs.item.set_in_object.Goals.{in_default-kind-via-in-Some+in_default, in_default-kind-via-in_default}
 
@@ -39,8 +40,13 @@ as_list_done constants index value number old new (Ok effect) short other done =
     (as_list constants index value number (value_at old.store.store number) (context_of old) short other) done
 as_list_done constants index value number old new (Err refusal) short other done = tt
 
-pub returns-in_default-kind : goal.returns-in_default-kind
-returns-in_default-kind c =
+pub returns-in_default-kind-clause-steady : goal.returns-in_default-kind-clause-steady
+returns-in_default-kind-clause-steady c =
+    λ there. absurd
+    (no-element-at (value_at c.args.core.now.store.store c.args.number) _ (sym c.length.ensures ∙ c.in_default.is) there)
+
+pub returns-in_default-kind-clause-done : goal.returns-in_default-kind-clause-done
+returns-in_default-kind-clause-done c =
     as_list_done c.args.pools.now.constants c.args.at c.args.value c.args.number c.args.core.now c.make_list.new.core c.make_list.result
     (sym c.length.ensures ∙ c.in_default.is)
     (λ table. elim c.in_default-kind.branch [
