@@ -2,4 +2,7 @@ mod Caching
 mod Stepping
 mod Joining
 mod Going
+mod Keeping
+mod InstructionsKeep
+mod TakingBack
 pub mod Runs

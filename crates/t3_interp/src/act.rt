@@ -1,8 +1,10 @@
 //! An instruction is carried out, and what comes of it.
-ghost use Rattle.std.specs.Prelude.{◌≡◌, ◌+◌, ◌≤◌, ◌<◌, ◌^◌, IfOk, OnOk};
+ghost use Rattle.std.specs.Prelude.{◌≡◌, ◌+◌, ◌≤◌, ◌<◌, ◌^◌, IfOk, IsOk, IsTrue, OnOk};
 ghost use Rattle.t3_interp.specs.declared.event.Event.TheVariants.{Went};
 ghost use Rattle.t3_interp.specs.declared.running.Stage.TheVariants.{Method};
 ghost use Rattle.t3_methods.specs.declared.instr.Instr.TheVariants.{Call, Make};
+ghost use Rattle.t3_object_instructions.specs.Steady.{is_steady_make};
+ghost use Rattle.t3_interp.specs.Steady.{is_steady};
 ghost use Rattle.t3_interp.specs.Inner.Acting.{IsCased, HasActed, Tells};
 
 use crate::running::Running;
@@ -27,8 +29,12 @@ pub(crate) fn act(
     requires cases { IsCased program.now.pools.code instr.now }
     requires next { running.old.core.frames.newest.next < 2 ^ 31 }
     requires few { running.old.core.store.writes + 131072 ≤ 2 ^ 63 }
+    requires marks { running.old.core.store.savepoints < 2 ^ 63 }
     ensures acted { OnOk result (HasActed program.now instr.now running.old running.new) }
     ensures told { IfOk result (Tells running.new) }
+    ensures steady { IsTrue (is_steady program.now running.old.core.store.store
+        running.old.core.frames.newest.this running.old.core.frames.newest.operands instr.now)
+        → IsOk result }
 {
     // What comes of an effect is settled beside the instructions of its kind, so that the compiler knows it
     // where there is but one. What `act_call` and `act_make` answer is made anew, so that the loop tests once what
@@ -87,8 +93,10 @@ fn act_make(
 ) -> Result<bool, NoMemory>
     requires method { running.old.stage ≡ Method }
     requires untold { running.old.event ≡ Went }
+    requires marks { running.old.core.store.savepoints < 2 ^ 63 }
     ensures acted { OnOk result (HasActed program.now (Make code.now) running.old running.new) }
     ensures told { IfOk result (Tells running.new) }
+    ensures steady { IsTrue (is_steady_make program.now code.now) → IsOk result }
 {
     match make(alloc, program, &mut running.core, *code)? {
         MakeEffect::Quiet(effect) => running.settle(alloc, program, effect),

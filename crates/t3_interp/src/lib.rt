@@ -12,8 +12,8 @@
 //!
 //! [`Machine::go`] makes many steps in one call. What a step is is defined in `specs/`, apart from the code;
 //! what a single instruction does, in `t3_frame_instructions` and `t3_object_instructions`. An instruction
-//! that wants a line of input waits until it is given one. So far no method of a metaclass is called, and no
-//! savepoint is made; an instruction that would do so stops the run by `Unbuilt`.
+//! that wants a line of input waits until it is given one. So far no method of a metaclass is called; an instruction
+//! that would do so stops the run by `Unbuilt`.
 #![tactic(auto)]
 
 mod act;
@@ -31,7 +31,7 @@ mod step;
 mod superinstruction;
 
 pub use event::{End, Event, Input, Want};
-pub use laws::one_cover;
+pub use laws::{one_cover, undo_takes_back};
 pub use machine::Machine;
 pub use t3_frame_instructions::CodeWhy;
 pub use t3_object_instructions::search_order;

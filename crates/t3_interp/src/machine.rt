@@ -1,9 +1,11 @@
 //! The machine: a program, and the state of its run.
-ghost use Rattle.std.specs.Prelude.{◌≡◌, ◌+◌, ◌<◌, ◌≤◌, ◌^◌, IfOk};
+ghost use Rattle.std.specs.Prelude.{◌≡◌, ◌+◌, ◌<◌, ◌≤◌, ◌^◌, IfOk, IsOk, length};
+ghost use Rattle.t3_store.specs.Store.{changed_cells};
 ghost use Rattle.t3_interp.specs.declared.event.Event.TheVariants.{Went};
 ghost use Rattle.t3_interp.specs.declared.event.Want.TheVariants.{Go};
 ghost use Rattle.t3_interp.specs.Machine.{initial};
 ghost use Rattle.t3_interp.specs.Step.{StepsBy, IsWanted, Goes, state_of};
+ghost use Rattle.t3_interp.specs.Steady.{IsSteady};
 ghost use Rattle.t3_interp.specs.Inner.Acting.{IsBetweenSteps};
 
 use crate::decode_cache::DecodeCache;
@@ -90,6 +92,20 @@ impl Machine {
         }
     }
 
+    /// How many savepoints are held.
+    pub fn held(&self) -> u32
+        ensures { result ≡ length self.now.state.store.marks }
+    {
+        self.whole.running.core.store.held()
+    }
+
+    /// How many cells of objects were changed first since one of them, together.
+    pub fn records(&self) -> u32
+        ensures { result ≡ changed_cells self.now.state.store.marks }
+    {
+        self.whole.running.core.store.records()
+    }
+
     /// How many steps were made.
     pub fn steps(&self) -> u64
         ensures { result ≡ self.now.state.steps }
@@ -100,13 +116,15 @@ impl Machine {
     /// Moves on by what the machine wants, which has to be what it is given. `Go` makes a step: it calls the
     /// entry method at first, and then carries out an instruction. A line, or that none is left, finishes the
     /// instruction that waits, which isn't counted as a step again. Fewer than 2^40 steps were made. Want of
-    /// memory takes the machine with it.
+    /// memory takes the machine with it. It doesn't come where the instruction makes a savepoint, undoes to
+    /// one, or sets a property or a vector's element that is present.
     pub fn step(mut self, input: Input) -> Result<(Machine, Event), NoMemory>
         requires wants { IsWanted self.state.wants input }
         requires few { self.state.steps < 2 ^ 40 }
         ensures program { IfOk result (λ stepped. stepped.0.program ≡ self.program) }
         ensures step { IfOk result (λ stepped. StepsBy self.program input self.state
             (record { state = stepped.0.state; event = stepped.1 })) }
+        ensures steady { IsSteady self.program self.state input → IsOk result }
     {
         let whole = &mut *self.whole;
         whole
@@ -127,6 +145,7 @@ impl Machine {
             (record { state = gone.0.state; event = gone.2 })) }
         ensures bound { IfOk result (λ gone. gone.1 ≤ most) }
         ensures all { IfOk result (λ gone. gone.2 ≡ Went → gone.1 ≡ most) }
+        ensures steady { most ≤ 1 → IsSteady self.program self.state Input.Go → IsOk result }
     {
         let whole = &mut *self.whole;
         let made = whole

@@ -11,7 +11,7 @@ returns-in-Say-clause-acted c =
     let program = c.args.program.now in
     let made = subst (λ (effect : MakeEffect). HasAction (make_action program c.args.code.now)
     c.args.running.now.core (effect_of effect c.make.new.core.call) c.make.new.core)
-    c.in-Say.is c.in_ok-effect.ensures in
+    c.in-Say.is c.in_ok-effect.ensures.done in
     record {
       after = c.say.ensures.after program ∙ (λ i. after_effect program (made.older i) c.args.running.now.steps (sym made.asks i) (made.leaves i));
       writes = subst (λ n. n < c.args.running.now.core.store.writes + 131072) (sym c.say.ensures.writes) made.writes;
