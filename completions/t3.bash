@@ -10,7 +10,7 @@ _t3() {
     case ${COMP_WORDS[1]} in
         check | show) names=1 ;;
         list | asm) names=2 ;;
-        run) names=1 options='--steps= --width=' ;;
+        run) names=1 options='--steps= --records= --savepoints= --width=' ;;
         rewrite) names=2 options=--mask= ;;
         *) return ;;
     esac

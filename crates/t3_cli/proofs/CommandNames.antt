@@ -1,13 +1,13 @@
 -- A command is well formed, and which words are no command.
 use borrow.Author.Tests.{leb-true}
-use Rattle.std.proofs.Common.{◌≡◌, ℕ, ◌<◌, Bool, true, false, cond, ◌&&◌, List, [], ◌∷◌, length, map, Option, Some, None, refl, subst, arith}
+use Rattle.std.proofs.Common.{◌≡◌, ℕ, ◌<◌, ◌≤◌, Bool, true, false, cond, ◌&&◌, List, [], ◌∷◌, length, map, Option, Some, None, refl, subst, arith}
 use Rattle.std.specs.Prelude.{codes, nat_le}
 use Rattle.std.specs.Option.{option_map, option_and_then}
 use Rattle.std.specs.Str.{bytes_eq}
 use Rattle.t3_holder.specs.FileName.{is_file_name, IsFileName}
 use Rattle.t3_cli.specs.Number.{number_within, spelled_number, when_within}
 use Rattle.t3_cli.specs.Options.{values_of, option_of, are_all_given}
-use Rattle.t3_cli.specs.Command.{RunOptions, steps_prefix, width_prefix, steps_of, width_of, CommandValue, Check, Show, Run, Rewrite, Listing, Asm, run_options, mask_of, file_name, only_name, two_names, run_of, rewrite_of, command_of}
+use Rattle.t3_cli.specs.Command.{RunOptions, AreWithin, options_by, steps_prefix, records_prefix, savepoints_prefix, width_prefix, steps_of, records_of, savepoints_of, width_of, CommandValue, Check, Show, Run, Rewrite, Listing, Asm, run_options, mask_of, file_name, only_name, two_names, run_of, rewrite_of, command_of}
 use Rattle.t3_cli.specs.Outcome.{input_of}
 use Rattle.t3_cli.specs.Command.{IsWellFormed}
 use Rattle.t3_cli.specs.Inner.Parsing.{file_of}
@@ -58,44 +58,52 @@ show_fits words command is =
     let made = of_map Show (only_name words) command is in
     subst IsWellFormed made.makes (only_fits words made.value made.there)
 
--- lines have a width
-within_some : (n width : ℕ) → when_within 1 1000 n ≡ Some width → 0 < width
-within_some n width is = by (nat_le 1 n) (nat_le n 1000) refl is
+-- a number of an option is within its bounds, where its default is
+number_bounds : (least most n number : ℕ) → when_within least most n ≡ Some number → (least ≤ number) × (number ≤ most)
+number_bounds least most n number is = by (nat_le least n) (nat_le n most) refl refl is
   where
-    by : (least most : Bool) → nat_le 1 n ≡ least → cond (least && most) (Some n) None ≡ Some width → 0 < width
-    by true true least same =
-        let one : n ≡ width = cc in
-        let some = leb-true 1 n least in
-        omega (arith, one, some)
-    by true false least same = absurd cc
-    by false most least same = absurd cc
+    by : (low high : Bool) → nat_le least n ≡ low → nat_le n most ≡ high → cond (low && high) (Some n) None ≡ Some number
+        → (least ≤ number) × (number ≤ most)
+    by true true low high same =
+        let one : n ≡ number = cc in (subst (λ m. least ≤ m) one (leb-true least n low), subst (λ m. m ≤ most) one (leb-true n most high))
+    by true false low high same = absurd cc
+    by false upper low high same = absurd cc
 
-width_some : (values : List (List ℕ)) (width : ℕ) → option_of 79 (number_within 1 1000) values ≡ Some width → 0 < width
-width_some [] width is = let same : 79 ≡ width = cc in omega (arith, same)
-width_some (value ∷ []) width is =
-    let read = of_then (when_within 1 1000) (spelled_number value) width is in
-    within_some read.value width read.makes
-width_some (value ∷ more ∷ values) width is = absurd cc
+option_bounds : (default least most : ℕ) (values : List (List ℕ)) (number : ℕ) → least ≤ default → default ≤ most
+    → option_of default (number_within least most) values ≡ Some number → (least ≤ number) × (number ≤ most)
+option_bounds default least most [] number above below is =
+    let same : default ≡ number = cc in (subst (λ m. least ≤ m) same above, subst (λ m. m ≤ most) same below)
+option_bounds default least most (value ∷ []) number above below is =
+    let read = of_then (when_within least most) (spelled_number value) number is in number_bounds least most read.value number read.makes
+option_bounds default least most (value ∷ more ∷ values) number above below is = absurd cc
 
-options_wide : (words : List (List ℕ)) (options : RunOptions) → run_options words ≡ Some options → 0 < options.width
-options_wide words options is = by (are_all_given (steps_prefix ∷ width_prefix ∷ []) words) is
+-- the options of a run are
+options_within : (words : List (List ℕ)) (options : RunOptions) → run_options words ≡ Some options → AreWithin options
+options_within words options is =
+    by (are_all_given (steps_prefix ∷ records_prefix ∷ savepoints_prefix ∷ width_prefix ∷ []) words) (steps_of words) (records_of words)
+    (savepoints_of words) (width_of words) refl refl refl is
   where
-    with_steps : ℕ → Option RunOptions
-    with_steps steps = option_map (λ width. record { steps = steps; width = width }) (width_of words)
-
-    by : (given : Bool) → cond given (option_and_then with_steps (steps_of words)) None ≡ Some options → 0 < options.width
-    by true same =
-        let steps = of_then with_steps (steps_of words) options same in
-        let width = of_map (λ (width : ℕ). record { steps = steps.value; width = width }) (width_of words) options steps.makes in
-        subst (λ (o : RunOptions). 0 < o.width) width.makes (width_some (values_of width_prefix words) width.value width.there)
-    by false same = absurd cc
+    by : (given : Bool) (steps records savepoints width : Option ℕ) → records_of words ≡ records → savepoints_of words ≡ savepoints
+        → width_of words ≡ width → cond given (options_by steps records savepoints width) None ≡ Some options → AreWithin options
+    by true (Some steps) (Some records) (Some savepoints) (Some width) many held wide same =
+        let options_are : record { steps = steps; records = records; savepoints = savepoints; width = width } ≡ options = cc in
+        let keeps = option_bounds 65536 1 1048576 (values_of records_prefix words) records (omega arith) (omega arith) many in
+        let holds = option_bounds 128 1 1024 (values_of savepoints_prefix words) savepoints (omega arith) (omega arith) held in
+        let lays = option_bounds 79 1 1000 (values_of width_prefix words) width (omega arith) (omega arith) wide in
+        subst AreWithin options_are
+        (record { width = lays.0; one_record = keeps.0; records = keeps.1; one_savepoint = holds.0; savepoints = holds.1 })
+    by true (Some steps) (Some records) (Some savepoints) None many held wide same = absurd cc
+    by true (Some steps) (Some records) None width many held wide same = absurd cc
+    by true (Some steps) None savepoints width many held wide same = absurd cc
+    by true None records savepoints width many held wide same = absurd cc
+    by false steps records savepoints width many held wide same = absurd cc
 
 run_fits : (words : List (List ℕ)) (command : CommandValue) → run_of words ≡ Some command → IsWellFormed command
 run_fits [] command is = absurd cc
 run_fits (name ∷ options) command is =
     let image = of_then (λ image. option_map (Run image) (run_options options)) (file_name name) command is in
     let made = of_map (Run image.value) (run_options options) command image.makes in
-    subst IsWellFormed made.makes (file_fits name image.value image.there, options_wide options made.value made.there)
+    subst IsWellFormed made.makes (file_fits name image.value image.there, options_within options made.value made.there)
 
 rewrite_fits : (words : List (List ℕ)) (command : CommandValue) → rewrite_of words ≡ Some command → IsWellFormed command
 rewrite_fits [] command is = absurd cc

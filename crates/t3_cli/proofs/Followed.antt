@@ -268,7 +268,7 @@ run_cut program options files before after answer run cut =
 
 -- an image that loads is run as its program
 pub image_follows : (image : ImageValue) (program : ProgramValue) (options : RunOptions) (files : Option Files)
-    (before after : Option Session) (answer : Status) → IsLoaded image (Ok program)
+    (before after : Option Session) (answer : Status) → IsLoaded options image (Ok program)
     → FollowsSome (IsProgramOutcome program options) files files before after answer
     → FollowsSome (IsRunOutcome image options) files files before after answer
 image_follows image program options files before after answer loaded (input, is_input, outcome, (ran, runs, is), follows) =
@@ -285,7 +285,7 @@ loading_cut image options files before answer cut =
 
 -- of one that doesn't a line says why, unless no memory was there
 pub unloaded_follows : (image : ImageValue) (why : LoadWhy) (options : RunOptions) (files : Option Files) (before after : Option Session)
-    (answer : Status) → Loads image.blocks (fingerprint_of image) run_limits (Err why)
+    (answer : Status) → Loads image.blocks (fingerprint_of image) (run_limits options) (Err why)
     → (why ≡ NoRoom → (answer ≡ NoMemory) × (after ≡ before))
     → (why ≢ NoRoom → ShowsOrWants before after (load_line why) LoadRefused answer)
     → FollowsSome (IsRunOutcome image options) files files before after answer
@@ -294,7 +294,7 @@ unloaded_follows image why options files before after answer (inl none) wants sh
     subst (λ session. FollowsSome (IsRunOutcome image options) files files before session answer) (sym wanting.1)
     (loading_cut image options files before answer (subst CutsShort (sym wanting.0) tt))
 unloaded_follows image why options files before after answer (inr (broken, kept)) wants shown =
-    let known : why ≢ NoRoom = λ is. subst (BreaksRule image.blocks run_limits) is broken in
+    let known : why ≢ NoRoom = λ is. subst (BreaksRule image.blocks (run_limits options)) is broken in
     let refused : ◌≢◌ {A = Result ProgramValue LoadWhy} (Err why) (Err NoRoom) = λ same. known cc in
     let input = input_in before in (
       input.0,

@@ -35,24 +35,26 @@ use Rattle.t3_run.proofs.Runs.{one_run, some_run}
 -- ---- one outcome
 
 -- loading gives one answer
-one_loaded : (image : ImageValue) (a b : Result ProgramValue LoadRefusal) → IsLoaded image a → IsLoaded image b → a ≡ b
-one_loaded image a b is_a is_b = one_answer image.blocks (fingerprint_of image) run_limits a b is_a.0 is_b.0 is_a.1 is_b.1
+one_loaded : (options : RunOptions) (image : ImageValue) (a b : Result ProgramValue LoadRefusal) → IsLoaded options image a
+    → IsLoaded options image b → a ≡ b
+one_loaded options image a b is_a is_b =
+    one_answer image.blocks (fingerprint_of image) (run_limits options) a b is_a.0 is_b.0 is_a.1 is_b.1
 
 one_run_outcome : (image : ImageValue) (options : RunOptions) (input : List ℕ) (a b : Outcome) → IsRunOutcome image options input a
     → IsRunOutcome image options input b → a ≡ b
 one_run_outcome image options input a b (inl x) (inl y) =
-    let both : ◌≡◌ {A = Result ProgramValue LoadRefusal} (Err x.0) (Err y.0) = one_loaded image (Err x.0) (Err y.0) x.1 y.1 in
+    let both : ◌≡◌ {A = Result ProgramValue LoadRefusal} (Err x.0) (Err y.0) = one_loaded options image (Err x.0) (Err y.0) x.1 y.1 in
     let same : x.0 ≡ y.0 = cc in
     x.2 ∙ ap (λ why. showing LoadRefused (load_line why)) same ∙ sym y.2
 one_run_outcome image options input a b (inl x) (inr y) =
     let clash : ◌≡◌ {A = Result ProgramValue LoadRefusal} (Err x.0) (Ok y.1.program) =
-    one_loaded image (Err x.0) (Ok y.1.program) x.1 y.1.loaded in absurd cc
+    one_loaded options image (Err x.0) (Ok y.1.program) x.1 y.1.loaded in absurd cc
 one_run_outcome image options input a b (inr x) (inl y) =
     let clash : ◌≡◌ {A = Result ProgramValue LoadRefusal} (Ok x.1.program) (Err y.0) =
-    one_loaded image (Ok x.1.program) (Err y.0) x.1.loaded y.1 in absurd cc
+    one_loaded options image (Ok x.1.program) (Err y.0) x.1.loaded y.1 in absurd cc
 one_run_outcome image options input a b (inr x) (inr y) =
     let both : ◌≡◌ {A = Result ProgramValue LoadRefusal} (Ok y.1.program) (Ok x.1.program) =
-    one_loaded image (Ok y.1.program) (Ok x.1.program) y.1.loaded x.1.loaded in
+    one_loaded options image (Ok y.1.program) (Ok x.1.program) y.1.loaded x.1.loaded in
     let program : y.1.program ≡ x.1.program = cc in
     let P : ProgramValue → Type 0 = λ p. RunsProgram p options input y.0 in
     let terms : Terms = record { width = options.width; input = input } in
@@ -110,9 +112,9 @@ one_outcome (Some command) files input a b x y = one_input_outcome command (inpu
 -- ---- some outcome
 
 pub some_run_outcome : (image : ImageValue) (options : RunOptions) (input : List ℕ) → (outcome : Outcome) × IsRunOutcome image options input outcome
-some_run_outcome image options input = by_answer (some_answer image.blocks (fingerprint_of image) run_limits)
+some_run_outcome image options input = by_answer (some_answer image.blocks (fingerprint_of image) (run_limits options))
   where
-    by_answer : ((answer : Result ProgramValue LoadRefusal) × (answer ≢ Err NoRoom) × Loads image.blocks (fingerprint_of image) run_limits answer)
+    by_answer : ((answer : Result ProgramValue LoadRefusal) × IsLoaded options image answer)
         → (outcome : Outcome) × IsRunOutcome image options input outcome
     by_answer (Ok program, known, loads) =
         let run = some_run (record { width = options.width; input = input }) program options.steps (begun program) in

@@ -39,7 +39,7 @@ pub record RunsFile (command : CommandValue) (files : Files) (image : ImageValue
 -- no program is made of that image
 abbrev pub IsUnloadable : CommandValue → Files → Type 0
 IsUnloadable command files =
-    (image : ImageValue) × (options : RunOptions) × (why : LoadWhy) × RunsFile command files image options × IsLoaded image (Err why)
+    (image : ImageValue) × (options : RunOptions) × (why : LoadWhy) × RunsFile command files image options × IsLoaded options image (Err why)
 
 -- it is run, and the run stops by this status
 abbrev pub EndsBy : Status → CommandValue → Files → List ℕ → Type 0

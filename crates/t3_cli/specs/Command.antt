@@ -1,5 +1,5 @@
 -- Which words are a command.
-use Rattle.std.specs.Prelude.{ℕ, ◌<◌, codes, List, [], ◌∷◌, Option, Some, None, if◌then◌else◌}
+use Rattle.std.specs.Prelude.{ℕ, ◌<◌, ◌≤◌, codes, List, [], ◌∷◌, Option, Some, None, if◌then◌else◌}
 use Rattle.std.specs.Option.{option_map, option_and_then}
 use Rattle.std.specs.Str.{bytes_eq}
 use Rattle.t3_holder.specs.FileName.{is_file_name, IsFileName}
@@ -13,6 +13,9 @@ use Rattle.t3_cli.specs.Options.{values_of, option_of, are_all_given, number_opt
 pub record RunOptions : Type 0 where
   -- how many steps it makes at most
   pub steps : ℕ
+  -- how many cells changed since its savepoints it keeps at most, and how many savepoints it holds
+  pub records : ℕ
+  pub savepoints : ℕ
   -- how wide its lines are
   pub width : ℕ
 
@@ -29,7 +32,8 @@ pub data CommandValue : Type 0 where
 -- ---- how the parsed commands stand for these
 
 abbrev pub options_value : DeclaredOptions → RunOptions
-options_value options = record { steps = options.steps; width = options.width }
+options_value options =
+    record { steps = options.steps; records = options.records; savepoints = options.savepoints; width = options.width }
 
 abbrev pub command_value : Command → CommandValue
 command_value (words.Check image) = Check image.now
@@ -39,11 +43,19 @@ command_value (words.Rewrite image out mask) = Rewrite image.now out.now mask
 command_value (words.List image out) = Listing image.now out.now
 command_value (words.Asm source out) = Asm source.now out.now
 
--- each file that a command names has a name that a file may have, and its lines have a width
+-- the options of a run are within their bounds
+pub record AreWithin (options : RunOptions) : Type 0 where
+  pub width : 0 < options.width
+  pub one_record : 1 ≤ options.records
+  pub records : options.records ≤ 1048576
+  pub one_savepoint : 1 ≤ options.savepoints
+  pub savepoints : options.savepoints ≤ 1024
+
+-- each file that a command names has a name that a file may have, and its options are within their bounds
 abbrev pub IsWellFormed : CommandValue → Type 0
 IsWellFormed (Check name) = IsFileName name
 IsWellFormed (Show name) = IsFileName name
-IsWellFormed (Run name options) = IsFileName name × (0 < options.width)
+IsWellFormed (Run name options) = IsFileName name × AreWithin options
 IsWellFormed (Rewrite name out mask) = IsFileName name × IsFileName out
 IsWellFormed (Listing name out) = IsFileName name × IsFileName out
 IsWellFormed (Asm name out) = IsFileName name × IsFileName out
@@ -52,6 +64,12 @@ IsWellFormed (Asm name out) = IsFileName name × IsFileName out
 
 abbrev pub steps_prefix : List ℕ
 steps_prefix = codes "--steps="
+
+abbrev pub records_prefix : List ℕ
+records_prefix = codes "--records="
+
+abbrev pub savepoints_prefix : List ℕ
+savepoints_prefix = codes "--savepoints="
 
 abbrev pub width_prefix : List ℕ
 width_prefix = codes "--width="
@@ -63,15 +81,32 @@ mask_prefix = codes "--mask="
 abbrev pub steps_of : List (List ℕ) → Option ℕ
 steps_of words = number_option steps_prefix 100000000 1 4294967295 words
 
+-- from 1 to 1048576, or 65536
+abbrev pub records_of : List (List ℕ) → Option ℕ
+records_of words = number_option records_prefix 65536 1 1048576 words
+
+-- from 1 to 1024, or 128
+abbrev pub savepoints_of : List (List ℕ) → Option ℕ
+savepoints_of words = number_option savepoints_prefix 128 1 1024 words
+
 -- from 1 to 1000, or 79
 abbrev pub width_of : List (List ℕ) → Option ℕ
 width_of words = number_option width_prefix 79 1 1000 words
 
+-- each of them is a number within its bounds
+abbrev pub options_by : (steps records savepoints width : Option ℕ) → Option RunOptions
+options_by None records savepoints width = None
+options_by (Some steps) None savepoints width = None
+options_by (Some steps) (Some records) None width = None
+options_by (Some steps) (Some records) (Some savepoints) None = None
+options_by (Some steps) (Some records) (Some savepoints) (Some width) =
+    Some (record { steps = steps; records = records; savepoints = savepoints; width = width })
+
 -- the options of a run, in any order
 abbrev pub run_options : List (List ℕ) → Option RunOptions
 run_options words =
-    if are_all_given (steps_prefix ∷ width_prefix ∷ []) words
-    then option_and_then (λ steps. option_map (λ width. record { steps = steps; width = width }) (width_of words)) (steps_of words)
+    if are_all_given (steps_prefix ∷ records_prefix ∷ savepoints_prefix ∷ width_prefix ∷ []) words
+    then options_by (steps_of words) (records_of words) (savepoints_of words) (width_of words)
     else None
 
 -- the mask that a rewriting is given, if it is given one

@@ -72,12 +72,13 @@ abbrev pub fingerprint_of : ImageValue → List ℕ
 fingerprint_of image = sha256 (text image)
 
 -- how much a story has room for
-abbrev pub run_limits : StoreLimits
-run_limits = record { objects = 1048576; units = 4194304; records = 65536; savepoints = 128 }
+abbrev pub run_limits : RunOptions → StoreLimits
+run_limits options =
+    record { objects = 1048576; units = 4194304; records = options.records; savepoints = options.savepoints }
 
 -- an image is loaded as this program, or refused by this rule
-abbrev pub IsLoaded : ImageValue → Result ProgramValue LoadRefusal → Type 0
-IsLoaded image answer = (answer ≢ Err NoRoom) × Loads image.blocks (fingerprint_of image) run_limits answer
+abbrev pub IsLoaded : RunOptions → ImageValue → Result ProgramValue LoadRefusal → Type 0
+IsLoaded options image answer = (answer ≢ Err NoRoom) × Loads image.blocks (fingerprint_of image) (run_limits options) answer
 
 -- a program is run by these options, with this input
 abbrev pub RunsProgram : ProgramValue → RunOptions → List ℕ → Ran → Type 0
@@ -86,7 +87,7 @@ RunsProgram program options input ran = Runs (record { width = options.width; in
 -- an image is run as its program
 pub record RunsImage (image : ImageValue) (options : RunOptions) (input : List ℕ) (ran : Ran) : Type 0 where
   pub program : ProgramValue
-  pub loaded : IsLoaded image (Ok program)
+  pub loaded : IsLoaded options image (Ok program)
   pub runs : RunsProgram program options input ran
 
 -- what a run does is what a command does that runs
@@ -96,7 +97,7 @@ ran_outcome ran = record { status = status_of ran.stop; acts = ran.acts }
 -- an image that is refused, or is run
 abbrev pub IsRunOutcome : ImageValue → RunOptions → List ℕ → Outcome → Type 0
 IsRunOutcome image options input outcome =
-    ((why : LoadRefusal) × IsLoaded image (Err why) × (outcome ≡ showing LoadRefused (load_line why)))
+    ((why : LoadRefusal) × IsLoaded options image (Err why) × (outcome ≡ showing LoadRefused (load_line why)))
     ⊎ ((ran : Ran) × RunsImage image options input ran × (outcome ≡ ran_outcome ran))
 
 -- what a command gives of the image that it reads, or that its source says, and of the input

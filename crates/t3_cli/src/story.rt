@@ -4,7 +4,7 @@ ghost use Rattle.t3_io.specs.Files.{Files};
 ghost use Rattle.t3_load.specs.Loading.{Loads};
 ghost use Rattle.t3_cli.specs.Outcome.{IsRunOutcome, fingerprint_of, run_limits, status_of as status_by};
 ghost use Rattle.t3_cli.specs.Lines.{load_line};
-ghost use Rattle.t3_cli.specs.Command.{options_value};
+ghost use Rattle.t3_cli.specs.Command.{AreWithin, options_value};
 ghost use Rattle.t3_cli.specs.Inner.Showing.{ShowsOrWants};
 ghost use Rattle.t3_cli.specs.Inner.Following.{FollowsSome, IsProgramOutcome};
 
@@ -20,13 +20,11 @@ use t3_load::{LoadRefusal, Program, load};
 use t3_run::{Stop, run};
 use t3_store::StoreLimits;
 
-/// How much a story has room for.
-const LIMITS: StoreLimits = StoreLimits {
-    objects: 1_048_576,
-    units: 4_194_304,
-    records: 65_536,
-    savepoints: 128,
-};
+/// How many objects a story has at most.
+const OBJECTS: u32 = 1_048_576;
+
+/// How many units its objects count at most.
+const UNITS: u32 = 4_194_304;
 
 /// Runs an image, and shows what it says and how it ends.
 pub(crate) fn launch<C: Console>(
@@ -37,7 +35,7 @@ pub(crate) fn launch<C: Console>(
     console: &mut C,
 ) -> Status
     requires fingerprint { fingerprint ≡ fingerprint_of image }
-    requires width { 0 < options.width }
+    requires within { AreWithin (options_value options) }
     requires faults { C.faults console.old < 2 ^ 64 - 1 }
     ensures follows { (files : Option Files) → FollowsSome
         (IsRunOutcome image (options_value options)) files files (C.session console.old)
@@ -46,17 +44,29 @@ pub(crate) fn launch<C: Console>(
     ensures rise { (result ≡ Status.ConsoleFault) ⊎ (C.faults console.new ≡ C.faults console.old) }
     ensures no_depot { result ≢ Status.DepotFault }
 {
-    match program_of(alloc, image, fingerprint) {
+    match program_of(alloc, image, fingerprint, options) {
         Ok(program) => play(alloc, program, options, console),
         Err(why) => unloaded(alloc, why, console),
     }
 }
 
 /// The program of an image, which isn't kept while it runs.
-fn program_of(alloc: Global, image: Image, fingerprint: [u8; 32]) -> Result<Program, LoadRefusal>
-    ensures { Loads image.blocks fingerprint run_limits result }
+fn program_of(
+    alloc: Global,
+    image: Image,
+    fingerprint: [u8; 32],
+    options: RunOptions,
+) -> Result<Program, LoadRefusal>
+    requires { AreWithin (options_value options) }
+    ensures { Loads image.blocks fingerprint (run_limits (options_value options)) result }
 {
-    load(alloc, &image, fingerprint, LIMITS)
+    let limits = StoreLimits {
+        objects: OBJECTS,
+        units: UNITS,
+        records: options.records,
+        savepoints: options.savepoints,
+    };
+    load(alloc, &image, fingerprint, limits)
 }
 
 /// Shows why no program was made, unless that was for want of memory.

@@ -7,7 +7,7 @@ const USAGE: &str = "usage: t3 check or show or list or run or rewrite or asm or
 
 #[test]
 fn other_words_show_the_usage(rt: HostRuntime) -> Result<(), Fail> {
-    let rows: [&[&str]; 19] = [
+    let rows: [&[&str]; 25] = [
         &[],
         &["check"],
         &["check", "a.t3", "b.t3"],
@@ -23,6 +23,12 @@ fn other_words_show_the_usage(rt: HostRuntime) -> Result<(), Fail> {
         &["run", "a.t3", "--width=079"],
         &["run", "a.t3", "--width"],
         &["run", "a.t3", "--width=79", "--steps=7", "--width=79"],
+        &["run", "a.t3", "--records=0"],
+        &["run", "a.t3", "--records=1048577"],
+        &["run", "a.t3", "--savepoints=0"],
+        &["run", "a.t3", "--savepoints=1025"],
+        &["run", "a.t3", "--savepoints=2", "--savepoints=2"],
+        &["run", "a.t3", "--records"],
         &["check", "a.t3", "--width=79"],
         &["show", "a.t3", "--steps=7"],
         &["show", "a.t3", "b.t3"],
@@ -39,8 +45,11 @@ fn other_words_show_the_usage(rt: HostRuntime) -> Result<(), Fail> {
 
 /// The options of a run come in any order.
 #[test]
-fn a_run_takes_both_options(rt: HostRuntime) -> Result<(), Fail> {
-    let rows: [&[&str]; 4] = [
+fn a_run_takes_its_options(rt: HostRuntime) -> Result<(), Fail> {
+    let rows: [&[&str]; 7] = [
+        &["run", "a.t3", "--records=1", "--savepoints=1"],
+        &["run", "a.t3", "--savepoints=1024", "--records=1048576"],
+        &["run", "a.t3", "--width=9", "--savepoints=9", "--steps=9", "--records=9"],
         &["run", "a.t3", "--width=1", "--steps=1"],
         &["run", "a.t3", "--steps=4294967295", "--width=1000"],
         &["run", "a.t3", "--width=1000"],

@@ -46,6 +46,10 @@ pub(crate) enum Command<'w> {
 pub(crate) struct RunOptions {
     /// How many steps it makes at most, from 1 on.
     pub(crate) steps: u32,
+    /// How many cells changed since its savepoints it keeps at most, from 1 to 1,048,576.
+    pub(crate) records: u32,
+    /// How many savepoints it holds at most, from 1 to 1024.
+    pub(crate) savepoints: u32,
     /// How wide its lines are, from 1 to 1000.
     pub(crate) width: u16,
 }

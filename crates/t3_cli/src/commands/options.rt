@@ -11,6 +11,10 @@ use crate::commands::number::number_within;
 
 const STEPS: &str = "--steps=";
 
+const RECORDS: &str = "--records=";
+
+const SAVEPOINTS: &str = "--savepoints=";
+
 const WIDTH: &str = "--width=";
 
 const MASK: &str = "--mask=";
@@ -19,13 +23,17 @@ const MASK: &str = "--mask=";
 pub(crate) fn run_options(words: &[String]) -> Option<RunOptions>
     ensures { option_map options_value result ≡ run_options_of (map string_bytes words.now) }
 {
-    if !are_all_given(&[STEPS, WIDTH], words) {
+    if !are_all_given(&[STEPS, RECORDS, SAVEPOINTS, WIDTH], words) {
         return None;
     }
     let steps = number_option(STEPS, 100_000_000, 1, u32::MAX, words)?;
+    let records = number_option(RECORDS, 65_536, 1, 1_048_576, words)?;
+    let savepoints = number_option(SAVEPOINTS, 128, 1, 1024, words)?;
     let width = number_option(WIDTH, 79, 1, 1000, words)?;
     Some(RunOptions {
         steps,
+        records,
+        savepoints,
         width: width as u16,
     })
 }

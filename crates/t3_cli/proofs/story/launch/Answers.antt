@@ -10,7 +10,7 @@ use Rattle.t3_cli.proofs.story.launch.Goals as goal
 pub returns-in-Ok-clause-follows : goal.returns-in-Ok-clause-follows
 returns-in-Ok-clause-follows g c files =
     let known : ◌≢◌ {A = Result ProgramValue LoadRefusal} (Ok c.in-Ok.program) (Err NoMemory) = λ same. absurd cc in
-    let loads = subst (λ (f : List ℕ). Loads c.args.image.blocks f run_limits (Ok c.in-Ok.program)) c.requires.fingerprint c.in-Ok.ensures in
+    let loads = subst (λ (f : List ℕ). Loads c.args.image.blocks f (run_limits (options_value c.args.options)) (Ok c.in-Ok.program)) c.requires.fingerprint c.in-Ok.ensures in
     image_follows c.args.image c.in-Ok.program (options_value c.args.options) files _ _ c.play.result (known, loads)
     (c.play.ensures.follows files)
 
