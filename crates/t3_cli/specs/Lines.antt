@@ -92,7 +92,6 @@ load_rule (load.SuperMissing number) = (codes "SuperMissing", Some (decimal numb
 load_rule (load.SuperCycle number) = (codes "SuperCycle", Some (decimal number))
 load_rule (load.TransientSuper number) = (codes "TransientSuper", Some (decimal number))
 load_rule load.Full = (codes "Full", None)
-load_rule load.Unbuilt = (codes "Unbuilt", None)
 load_rule load.NoMemory = (codes "NoMemory", None)
 
 abbrev pub load_text : List ℕ × Option (List ℕ) → List ℕ

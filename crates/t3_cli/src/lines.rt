@@ -71,7 +71,6 @@ pub(crate) fn load_refused(alloc: Global, why: LoadRefusal) -> Result<String, Al
         LoadRefusal::SuperCycle(number) => load_number(alloc, "SuperCycle", number),
         LoadRefusal::TransientSuper(number) => load_number(alloc, "TransientSuper", number),
         LoadRefusal::Full => load_rule(alloc, "Full"),
-        LoadRefusal::Unbuilt => load_rule(alloc, "Unbuilt"),
         LoadRefusal::NoMemory => load_rule(alloc, "NoMemory"),
     }
 }

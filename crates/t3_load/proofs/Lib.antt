@@ -25,4 +25,3 @@ pub mod DecidedItems
 pub mod DecidedObjects
 pub mod OneAnswer
 pub mod SomeAnswer
-pub mod CodeBytes

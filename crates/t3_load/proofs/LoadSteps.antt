@@ -1,8 +1,8 @@
 -- How the rules that are kept one after the other make a program of an image, or its refusal.
-use Rattle.std.proofs.Common.{◌≡◌, ℕ, zero, suc, ◌<◌, ◌^◌, ◌⊎◌, ◌||◌, Bool, true, false, List, [], ◌∷◌, Option, Result, Ok, Err, nat_eq, refl, sym, ap, ◌∙◌, subst, inl, inr, arith}
+use Rattle.std.proofs.Common.{◌≡◌, ℕ, zero, suc, ◌<◌, ◌^◌, ◌⊎◌, Bool, true, false, List, [], ◌∷◌, Option, Result, Ok, Err, nat_eq, refl, sym, ap, ◌∙◌, subst, inl, inr, arith}
 use Rattle.std.specs.Prelude.{IsTrue, None, Contains}
 use Rattle.std.specs.Result.{IsErrAnd}
-use Rattle.std.specs.List.{IsDistinct, list_any}
+use Rattle.std.specs.List.{IsDistinct}
 use Rattle.std.proofs.lemmas.List.Elements.{All-map}
 use Rattle.t3_image_read.specs.declared.image.PlacedBlock.{PlacedBlock}
 use Rattle.t3_store.specs.Value.{Objects}
@@ -14,11 +14,6 @@ use Rattle.t3_load.specs.declared.objects.ImageObject.{ImageObject}
 use Rattle.t3_load.specs.declared.kinds.MetaKind.{MetaKind}
 use Rattle.t3_load.specs.declared.refusal.LoadRefusal.{LoadRefusal}
 use Rattle.t3_load.specs.declared.refusal.LoadRefusal.TheVariants.{NoMemory}
-use Rattle.t3_pools.specs.Pool.{pool_in}
-use Rattle.t3_load.specs.declared.basis.Basis.{Basis}
-use Rattle.t3_load.specs.Entries.{entries}
-use Rattle.t3_load.specs.Unbuilt.{is_later_method, is_unbuilt}
-use Rattle.t3_load.specs.Inner.Deciding.{IsBasis}
 use Rattle.t3_load.specs.Names.{metas_in}
 use Rattle.t3_load.specs.Statics.{StaticValue, statics_in, kind_at, AreObjectsOf}
 use Rattle.t3_load.specs.ImageObjects.{supers_by, lacks_super, has_transient_super, is_past, IsHalf, value_of}
@@ -55,25 +50,6 @@ room_kept blocks objects limits are fits =
     kept_one blocks limits 13 (λ why of broken.
     let past : IsTrue (is_past limits objects) =
     of_these blocks objects (λ os. IsTrue (is_past limits os)) are (subst (λ w. Breaks blocks limits w) of broken) in absurd cc)
-
--- rule 14 is kept
-pub built_kept : (blocks : List PlacedBlock) (limits : StoreLimits) → is_unbuilt blocks ≡ false → KeepsRules blocks limits 14 15
-built_kept blocks limits built =
-    kept_one blocks limits 14 (λ why of broken.
-    let unbuilt : IsTrue (is_unbuilt blocks) = subst (λ w. Breaks blocks limits w) of broken in absurd cc)
-
--- what is asked of the entry method that was found is asked of the image
-pub same_unbuilt : (blocks : List PlacedBlock) (basis : Basis) → IsBasis blocks basis
-    → is_unbuilt blocks ≡ is_later_method basis.pools.code basis.entry
-same_unbuilt blocks basis is =
-    let entry : list_any (λ e. is_later_method (pool_in 1 blocks) e.code) (entries blocks) ≡ is_later_method (pool_in 1 blocks) basis.entry =
-    ap (list_any (λ e. is_later_method (pool_in 1 blocks) e.code)) is.entry ∙ or_false _ in
-    let code : pool_in 1 blocks ≡ basis.pools.code = sym (ap (λ p. p.code) is.pools) in
-    entry ∙ ap (λ c. is_later_method c basis.entry) code
-  where
-    or_false : (b : Bool) → (b || false) ≡ b
-    or_false true = refl
-    or_false false = refl
 
 -- each object of a half is one with which bytes begin
 sound : (kind : ℕ → Option MetaKind) (statics : List StaticValue) (objects : List ImageObject) → AreObjectsOf kind statics objects

@@ -14,7 +14,7 @@ use Rattle.t3_store.specs.Value.{Value, Objects}
 use Rattle.t3_store.specs.declared.limits.StoreLimits.{StoreLimits}
 use Rattle.t3_load.specs.declared.objects.ImageObject.{ImageObject}
 use Rattle.t3_load.specs.declared.refusal.LoadRefusal.{LoadRefusal}
-use Rattle.t3_load.specs.declared.refusal.LoadRefusal.TheVariants.{NoEntry, TwoEntries, HeaderSizes, Pool, Metaclass, FunctionSet, ObjectNumber, ObjectTwice, ObjectData, SuperMissing, SuperCycle, TransientSuper, Full, Unbuilt, NoMemory}
+use Rattle.t3_load.specs.declared.refusal.LoadRefusal.TheVariants.{NoEntry, TwoEntries, HeaderSizes, Pool, Metaclass, FunctionSet, ObjectNumber, ObjectTwice, ObjectData, SuperMissing, SuperCycle, TransientSuper, Full, NoMemory}
 use Rattle.t3_load.specs.Entries.{EntryValue}
 use Rattle.t3_load.specs.ImageObjects.{IsHalf, IsOwnAncestor, lacks_super, has_transient_super}
 use Rattle.t3_load.specs.Loading.{ProgramValue, LoadsAs, Loads}
@@ -132,7 +132,6 @@ same_refusal blocks limits (SuperCycle m) b same p q =
 same_refusal blocks limits (TransientSuper m) b same p q =
     numbered_once blocks limits TransientSuper m b (of_rule 12 b same) q (λ n e. one_by blocks has_transient_super m n p e)
 same_refusal blocks limits Full b same p q = sym (of_rule 13 b same)
-same_refusal blocks limits Unbuilt b same p q = sym (of_rule 14 b same)
 same_refusal blocks limits NoMemory b same p q = absurd p
 
 -- ---- one program
@@ -190,12 +189,12 @@ one_program blocks fingerprint limits a b is_a is_b =
 
 -- ---- one answer
 
-known_rule : (why : LoadRefusal) → why ≢ NoMemory → (1 ≤ rule_of why) × (rule_of why < 15)
+known_rule : (why : LoadRefusal) → why ≢ NoMemory → (1 ≤ rule_of why) × (rule_of why < 14)
 known_rule NoMemory known = absurd (known refl)
 known_rule why known = (omega arith, omega arith)
 
 -- an image that keeps all rules isn't refused
-not_refused : (blocks : List PlacedBlock) (limits : StoreLimits) (why : LoadRefusal) → why ≢ NoMemory → KeepsRules blocks limits 1 15
+not_refused : (blocks : List PlacedBlock) (limits : StoreLimits) (why : LoadRefusal) → why ≢ NoMemory → KeepsRules blocks limits 1 14
     → (why ≡ NoMemory) ⊎ (Breaks blocks limits why × KeepsRules blocks limits 1 (rule_of why)) → ⊥
 not_refused blocks limits why known kept (inl none) = known none
 not_refused blocks limits why known kept (inr broken) =

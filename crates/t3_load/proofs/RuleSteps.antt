@@ -5,7 +5,7 @@ use Rattle.t3_image_read.specs.declared.image.PlacedBlock.{PlacedBlock}
 use Rattle.t3_pools.specs.declared.refusal.PoolRefusal.{PoolRefusal}
 use Rattle.t3_store.specs.declared.limits.StoreLimits.{StoreLimits}
 use Rattle.t3_load.specs.declared.refusal.LoadRefusal.{LoadRefusal}
-use Rattle.t3_load.specs.declared.refusal.LoadRefusal.TheVariants.{NoEntry, TwoEntries, HeaderSizes, Pool, Metaclass, FunctionSet, ObjectNumber, ObjectTwice, ObjectData, SuperMissing, SuperCycle, TransientSuper, Full, Unbuilt, NoMemory}
+use Rattle.t3_load.specs.declared.refusal.LoadRefusal.TheVariants.{NoEntry, TwoEntries, HeaderSizes, Pool, Metaclass, FunctionSet, ObjectNumber, ObjectTwice, ObjectData, SuperMissing, SuperCycle, TransientSuper, Full, NoMemory}
 use Rattle.std.specs.Result.{IsErrAnd}
 use Rattle.t3_load.specs.Rules.{Breaks, KeepsRules, rule_of}
 use Rattle.t3_load.specs.Inner.Deciding.{IsFirstBroken, Decides}
@@ -19,7 +19,7 @@ refusals =
     (λ why. ⊥) ∷ (λ why. why ≡ NoEntry) ∷ (λ why. why ≡ TwoEntries) ∷ (λ why. why ≡ HeaderSizes)
     ∷ (λ why. (cause : PoolRefusal) × (why ≡ Pool cause)) ∷ numbered Metaclass ∷ numbered FunctionSet ∷ numbered ObjectNumber
     ∷ numbered ObjectTwice ∷ numbered ObjectData ∷ numbered SuperMissing ∷ numbered SuperCycle ∷ numbered TransientSuper
-    ∷ (λ why. why ≡ Full) ∷ (λ why. why ≡ Unbuilt) ∷ (λ why. why ≡ NoMemory) ∷ []
+    ∷ (λ why. why ≡ Full) ∷ (λ why. why ≡ NoMemory) ∷ []
 
 abbrev pub IsOfRule : ℕ → LoadRefusal → Type 0
 IsOfRule rule why = get_or refusals rule (λ _. ⊥) why

@@ -12,7 +12,7 @@ use Rattle.t3_load.specs.declared.kinds.KindEntry.{KindEntry}
 use Rattle.t3_load.specs.declared.sets.SetKind.{SetKind}
 use Rattle.t3_load.specs.declared.objects.ImageObject.{ImageObject}
 use Rattle.t3_load.specs.declared.refusal.LoadRefusal.{LoadRefusal}
-use Rattle.t3_load.specs.declared.refusal.LoadRefusal.TheVariants.{NoEntry, TwoEntries, HeaderSizes, Pool, Metaclass, FunctionSet, ObjectNumber, ObjectTwice, ObjectData, SuperMissing, SuperCycle, TransientSuper, Full, Unbuilt, NoMemory}
+use Rattle.t3_load.specs.declared.refusal.LoadRefusal.TheVariants.{NoEntry, TwoEntries, HeaderSizes, Pool, Metaclass, FunctionSet, ObjectNumber, ObjectTwice, ObjectData, SuperMissing, SuperCycle, TransientSuper, Full, NoMemory}
 use Rattle.t3_load.specs.Entries.{EntryValue, entries, has_sizes}
 use Rattle.t3_load.specs.ImageObjects.{object_numbers, value_of, lacks_super, has_transient_super, IsOwnAncestor, is_past}
 use Rattle.t3_load.specs.Inner.Halves.{AreHalves}
@@ -24,7 +24,6 @@ use Rattle.t3_load.specs.Rules.{Breaks, KeepsRules, AreObjectsIn, first_bad, fir
 use Rattle.t3_load.specs.Sets.{set_named}
 use Rattle.t3_load.specs.Statics.{statics_in, static_numbers, kind_at}
 use Rattle.t3_load.specs.Symbols.{firsts}
-use Rattle.t3_load.specs.Unbuilt.{is_unbuilt}
 use Rattle.t3_pools.proofs.Firsts.{first_or_all}
 use Rattle.t3_load.proofs.Decided.{numbers_or_twice, all_known}
 use Rattle.t3_load.proofs.DecidedCycles.{own_or_not}
@@ -35,7 +34,7 @@ use Rattle.t3_load.proofs.FirstSymbols.{raw_of-firsts}
 use Rattle.t3_pools.proofs.Firsts.{none_first}
 use Rattle.t3_load.proofs.Firsts.{not_twice}
 use Rattle.t3_load.proofs.Halving.{fresh, no_halves, transient_more, persistent_more}
-use Rattle.t3_load.proofs.LoadSteps.{room_kept, built_kept}
+use Rattle.t3_load.proofs.LoadSteps.{room_kept}
 use Rattle.t3_load.proofs.NameRules.{kinds_kept, sets_kept}
 use Rattle.t3_load.proofs.ObjectRules.{numbers_kept, distinct_kept, objects_kept, same_numbers}
 use Rattle.t3_load.proofs.RuleSteps.{kept_one, kept_both, kept_none}
@@ -115,7 +114,7 @@ record Parts (blocks : List PlacedBlock) : Type 0 where
   objects : List ImageObject
   are : AreObjectsIn blocks objects
 
-loaded : (blocks : List PlacedBlock) (fingerprint : List ℕ) (limits : StoreLimits) → Parts blocks → KeepsRules blocks limits 1 15
+loaded : (blocks : List PlacedBlock) (fingerprint : List ℕ) (limits : StoreLimits) → Parts blocks → KeepsRules blocks limits 1 14
     → Answer blocks fingerprint limits
 loaded blocks fingerprint limits parts kept =
     let halves = some_halves parts.objects (subst (IsDistinct nat_eq)
@@ -154,18 +153,11 @@ loaded blocks fingerprint limits parts kept =
       ),
     )
 
--- ---- rules 10 to 14, of the objects
+-- ---- rules 10 to 13, of the objects
 
 module _ (blocks : List PlacedBlock) (fingerprint : List ℕ) (limits : StoreLimits) where
   further : (from until : ℕ) → KeepsRules blocks limits 1 from → KeepsRules blocks limits from until → KeepsRules blocks limits 1 until
   further from until kept more = kept_both blocks limits 1 from until kept more
-
-  rule_14 : (parts : Parts blocks) → KeepsRules blocks limits 1 14 → Answer blocks fingerprint limits
-  rule_14 parts kept = by_test (is_unbuilt blocks) refl
-    where
-      by_test : (b : Bool) → is_unbuilt blocks ≡ b → Answer blocks fingerprint limits
-      by_test true e = refused blocks fingerprint limits Unbuilt (λ same. absurd cc) e kept
-      by_test false e = loaded blocks fingerprint limits parts (further 14 15 kept (built_kept blocks limits e))
 
   rule_13 : (parts : Parts blocks) → KeepsRules blocks limits 1 13 → Answer blocks fingerprint limits
   rule_13 parts kept = by_test (is_past limits parts.objects) refl
@@ -174,7 +166,8 @@ module _ (blocks : List PlacedBlock) (fingerprint : List ℕ) (limits : StoreLim
       by_test true e =
           refused blocks fingerprint limits Full (λ same. absurd cc)
           (record { objects = parts.objects; are = parts.are; holds = e }) kept
-      by_test false e = rule_14 parts (further 13 14 kept (room_kept blocks parts.objects limits parts.are e))
+      by_test false e =
+          loaded blocks fingerprint limits parts (further 13 14 kept (room_kept blocks parts.objects limits parts.are e))
 
   rule_12 : (parts : Parts blocks) → KeepsRules blocks limits 1 12 → Answer blocks fingerprint limits
   rule_12 parts kept = by_first (first_by (has_transient_super parts.objects) parts.objects) refl

@@ -6,7 +6,6 @@ pub mod Layout
 pub mod Entries
 pub mod Statics
 pub mod ImageObjects
-pub mod Unbuilt
 pub mod Rules
 pub mod Loading
 pub mod Inner

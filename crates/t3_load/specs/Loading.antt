@@ -87,5 +87,5 @@ pub record LoadsAs (blocks : List PlacedBlock) (fingerprint : List ℕ) (limits 
 
 -- the program of an image that keeps all rules, or the first rule that it breaks; memory may always be wanting
 abbrev pub Loads : List PlacedBlock → List ℕ → StoreLimits → Result ProgramValue LoadRefusal → Type 0
-Loads blocks fingerprint limits (Ok program) = KeepsRules blocks limits 1 15 × LoadsAs blocks fingerprint limits program
+Loads blocks fingerprint limits (Ok program) = KeepsRules blocks limits 1 14 × LoadsAs blocks fingerprint limits program
 Loads blocks fingerprint limits (Err why) = (why ≡ NoMemory) ⊎ (Breaks blocks limits why × KeepsRules blocks limits 1 (rule_of why))

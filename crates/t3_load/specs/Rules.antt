@@ -8,14 +8,13 @@ use Rattle.t3_pools.specs.declared.refusal.PoolRefusal.TheVariants as pools
 use Rattle.t3_store.specs.declared.limits.StoreLimits.{StoreLimits}
 use Rattle.t3_load.specs.Statics.{static_numbers}
 use Rattle.t3_load.specs.declared.refusal.LoadRefusal.{LoadRefusal}
-use Rattle.t3_load.specs.declared.refusal.LoadRefusal.TheVariants.{NoEntry, TwoEntries, HeaderSizes, Pool, Metaclass, FunctionSet, ObjectNumber, ObjectTwice, ObjectData, SuperMissing, SuperCycle, TransientSuper, Full, Unbuilt, NoMemory}
+use Rattle.t3_load.specs.declared.refusal.LoadRefusal.TheVariants.{NoEntry, TwoEntries, HeaderSizes, Pool, Metaclass, FunctionSet, ObjectNumber, ObjectTwice, ObjectData, SuperMissing, SuperCycle, TransientSuper, Full, NoMemory}
 use Rattle.t3_load.specs.declared.objects.ImageObject.{ImageObject}
 use Rattle.t3_load.specs.Entries.{entries, has_sizes}
 use Rattle.t3_load.specs.Names.{metas_in, names_in, unknown_from}
 use Rattle.t3_load.specs.Kinds.{kind_entry_of}
 use Rattle.t3_load.specs.Sets.{set_named}
 use Rattle.t3_load.specs.Statics.{StaticValue, statics_in, kind_at, IsObjectOf, AreObjectsOf}
-use Rattle.t3_load.specs.Unbuilt.{is_unbuilt}
 use Rattle.t3_load.specs.ImageObjects.{lacks_super, has_transient_super, IsOwnAncestor, is_past}
 
 -- the first number that stands a second time
@@ -69,7 +68,6 @@ Breaks blocks limits (SuperCycle number) = OfObjects blocks (λ objects.
     (object : ImageObject) × (object.number ≡ number) × IsFirst (IsOwnAncestor objects) objects object)
 Breaks blocks limits (TransientSuper number) = OfObjects blocks (λ objects. first_by (has_transient_super objects) objects ≡ Some number)
 Breaks blocks limits Full = OfObjects blocks (λ objects. IsTrue (is_past limits objects))
-Breaks blocks limits Unbuilt = IsTrue (is_unbuilt blocks)
 Breaks blocks limits NoMemory = ⊥
 
 -- the rules in their order, from 1 on
@@ -87,8 +85,7 @@ rule_of (SuperMissing _) = 10
 rule_of (SuperCycle _) = 11
 rule_of (TransientSuper _) = 12
 rule_of Full = 13
-rule_of Unbuilt = 14
-rule_of NoMemory = 15
+rule_of NoMemory = 14
 
 -- an image keeps the rules from one on and before another
 abbrev pub KeepsRules : List PlacedBlock → StoreLimits → ℕ → ℕ → Type 0

@@ -27,7 +27,6 @@ mod standing;
 mod statics;
 mod supers;
 mod symbols;
-mod unbuilt;
 
 pub use kinds::{KindEntry, Kinds, MetaKind, PropNumbers};
 pub use laws::one_answer;

@@ -9,7 +9,6 @@ use crate::refusal::LoadRefusal;
 use crate::sets::Sets;
 use crate::supers::checked_objects;
 use crate::symbols::SymbolTable;
-use crate::unbuilt::is_later_method;
 use std::alloc::Global;
 use std::marker::Model;
 use t3_image_read::Image;
@@ -84,9 +83,6 @@ pub fn load(
     let objects = checked_objects(alloc, image, &kinds)?;
     if is_past(objects.as_slice(), limits) {
         return Err(LoadRefusal::Full);
-    }
-    if is_later_method(&pools, entry) {
-        return Err(LoadRefusal::Unbuilt);
     }
     let symbols = SymbolTable::of(alloc, image)?;
     let next = next_number(objects.as_slice());

@@ -47,9 +47,6 @@ pub enum LoadRefusal {
     /// The objects together are more than the limits say, or their units are.
     #[error("the store is full")]
     Full,
-    /// The entry method can't be called yet, since it may take arguments or has an exception table.
-    #[error("not built yet")]
-    Unbuilt,
     /// An allocation was refused.
     #[error("out of memory")]
     NoMemory,

@@ -5,6 +5,8 @@
 #[cfg(test)]
 mod images;
 #[cfg(test)]
+mod loads;
+#[cfg(test)]
 mod objects;
 #[cfg(test)]
 mod rules;
@@ -12,5 +14,3 @@ mod rules;
 mod stores;
 #[cfg(test)]
 mod tables;
-#[cfg(test)]
-mod unbuilt;

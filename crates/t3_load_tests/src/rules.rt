@@ -1,5 +1,5 @@
 //! Which rule an image breaks first, and the program of one that breaks none.
-use crate::images::{GOOD, Parts, loaded, refusal, with};
+use crate::images::{GOOD, Parts, loaded, refusal, refusal_with, with};
 use std::test::Fail;
 use t3_holder::Holder;
 use t3_load::{LoadRefusal, Program};
@@ -234,6 +234,33 @@ fn a_superclass_breaks_a_rule(rt: HostRuntime) -> Result<(), Fail> {
     for (parts, why) in &rows {
         assert_eq!(rt; refusal(rt.alloc(), parts)?, *why);
     }
+    Ok(())
+}
+
+#[test]
+fn a_long_cycle_is_found(rt: HostRuntime) -> Result<(), Fail> {
+    let alloc = rt.alloc();
+    let mut layouts = Vec::new(alloc);
+    for number in 1..10_001u32 {
+        let above = number % 10_000 + 1;
+        let mut layout = Vec::from_slice(alloc, &[1, 0, 0, 0, 0, 0])?;
+        layout.extend_from_slice(&above.to_le_bytes())?;
+        layouts.push(layout)?;
+    }
+    let mut things = Vec::new(alloc);
+    let mut number: u32 = 0;
+    for layout in &layouts {
+        number = number.saturating_add(1);
+        things.push((0, number % 2 == 0, number, layout.as_slice()))?;
+    }
+    let parts = Parts {
+        objects: 10_000,
+        ..GOOD
+    };
+    assert_eq!(rt;
+        refusal_with(alloc, &parts, &things)?,
+        Some(LoadRefusal::SuperCycle(1))
+    );
     Ok(())
 }
 

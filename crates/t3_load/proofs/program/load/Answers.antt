@@ -2,11 +2,10 @@ use Rattle.std.proofs.Common.{◌≡◌, ◌∙◌, true, false, refl, sym, ap, 
 use Rattle.t3_load.specs.ImageObjects.{object_numbers, is_past}
 use Rattle.t3_load.specs.Names.{metas_in}
 use Rattle.t3_load.specs.Statics.{statics_in, kind_at}
-use Rattle.t3_load.specs.Unbuilt.{is_unbuilt}
 use Rattle.t3_load.specs.Loading.{next_above}
 use Rattle.t3_load.specs.Inner.Halves.{AreMade}
 use Rattle.t3_load.proofs.RuleSteps.{kept_both, kept_none}
-use Rattle.t3_load.proofs.LoadSteps.{refuses, room_kept, built_kept, same_unbuilt, can_start}
+use Rattle.t3_load.proofs.LoadSteps.{refuses, room_kept, can_start}
 use Rattle.t3_load.proofs.ObjectRules.{same_numbers}
 use Rattle.t3_load.proofs.program.load.Goals as goal
 
@@ -28,20 +27,6 @@ returns-then-is_past c =
     let past : is_past c.args.limits c.in_ok-objects.objects ≡ true =
     ap (is_past c.args.limits) (sym c.as_slice.ensures.objects) ∙ sym c.is_past.ensures ∙ c.if-is_past.true in
     inr (record { objects = c.in_ok-objects.objects; are = (c.in_ok-objects.ensures).objects; holds = past }, kept)
-
-pub returns-then-is_later_method : goal.returns-then-is_later_method
-returns-then-is_later_method c =
-    let blocks = c.args.image.now.blocks in
-    let objects = c.in_ok-objects.objects in
-    let are = (c.in_ok-objects.ensures).objects in
-    let room : is_past c.args.limits objects ≡ false =
-    ap (is_past c.args.limits) (sym c.as_slice.ensures.objects) ∙ sym c.is_past.ensures ∙ c.if-is_past.false in
-    let kept = kept_both blocks c.args.limits 1 13 14 (kept_both blocks c.args.limits 1 7 13
-    ((c.in_ok-entry.ensures).decides c.args.limits) ((c.in_ok-objects.ensures).decides c.args.limits))
-    (room_kept blocks objects c.args.limits are room) in
-    let unbuilt : is_unbuilt blocks ≡ true =
-    same_unbuilt blocks c.in_ok-entry.field-0 (c.in_ok-entry.ensures).basis ∙ sym c.is_later_method.ensures ∙ c.if-is_later_method.true in
-    inr (unbuilt, kept)
 
 pub next_number-next-requires : goal.next_number-next-requires
 next_number-next-requires c = subst AreMade (sym c.as_slice-2.ensures.objects) (c.in_ok-objects.ensures).made
@@ -69,11 +54,9 @@ returns c =
     let are = (c.in_ok-objects.ensures).objects in
     let room : is_past c.args.limits objects ≡ false =
     ap (is_past c.args.limits) (sym c.as_slice.ensures.objects) ∙ sym c.is_past.ensures ∙ c.if-is_past.false in
-    let built : is_unbuilt blocks ≡ false =
-    same_unbuilt blocks c.in_ok-entry.field-0 basis ∙ sym c.is_later_method.ensures ∙ c.if-is_later_method.false in
-    let kept = kept_both blocks c.args.limits 1 14 15 (kept_both blocks c.args.limits 1 13 14 (kept_both blocks c.args.limits 1 7 13
+    let kept = kept_both blocks c.args.limits 1 13 14 (kept_both blocks c.args.limits 1 7 13
     ((c.in_ok-entry.ensures).decides c.args.limits) ((c.in_ok-objects.ensures).decides c.args.limits))
-    (room_kept blocks objects c.args.limits are room)) (built_kept blocks c.args.limits built) in
+    (room_kept blocks objects c.args.limits are room) in
     let next = c.next_number-next.ensures ∙ ap (λ os. next_above (object_numbers os)) c.as_slice-2.ensures.objects in (
       kept,
       record {
