@@ -11,14 +11,14 @@ use Rattle.std.proofs.lemmas.List.Elements.{Contains-append_left, Contains-push,
 use Rattle.std.proofs.lemmas.List.Sorted.{IsPermutation-map, length_permutation, sum_by-IsPermutation, All-permutation, Contains-permutation, IsPermutation-sym}
 use Rattle.std.proofs.lemmas.List.Sums.{sum_by_push, sum_by-take-le, sum_by_more}
 use Rattle.std.proofs.lemmas.Map.Keys.{IsDistinct-IsPermutation}
-use Rattle.t3_store.specs.Value.{Value, Objects, units_of, units_in, is_past}
+use Rattle.t3_store.specs.Value.{Value, Objects, units_of, units_in}
 use Rattle.t3_store.specs.declared.limits.StoreRefusal.{StoreRefusal}
 use Rattle.t3_store.specs.declared.limits.StoreRefusal.TheVariants as store
 use Rattle.t3_store.proofs.Added.{added_here, added_there, added_len, added_units, none_units}
 use Rattle.t3_load.specs.ImageObjects.{object_numbers}
 use Rattle.t3_load.specs.declared.objects.ImageObject.{ImageObject}
 use Rattle.t3_load.specs.ImageObjects.{value_of, units_together, IsAmong, IsHalf}
-use Rattle.t3_load.specs.Inner.Halves.{IsMade, AreMade, AreHalves, refusal_by_store}
+use Rattle.t3_load.specs.Inner.Halves.{IsMade, AreMade, AreHalves, CanAdd, half_of, refusal_by_store}
 use Rattle.t3_load.specs.declared.refusal.LoadRefusal.{LoadRefusal}
 use Rattle.t3_load.specs.declared.refusal.LoadRefusal.TheVariants as refusals
 use Rattle.t3_load.proofs.Firsts.{parts_at, not_twice}
@@ -136,55 +136,45 @@ half_same transient done half object is other = record {
     })
     holds n value among (inr same) = absurd (other (ap (λ (o : ImageObject). o.transient) same ∙ among.half))
 
-pub transient_more : (done : List ImageObject) (first passing new : Objects) (object : ImageObject) → AreHalves done first passing
-    → get passing object.number ≡ None → object.transient ≡ true → new ≡ insert passing object.number (value_of object)
-    → AreHalves (done ++ object ∷ []) first new
-transient_more done first passing new object halves none own inserted = record {
-  persistent = half_same false done first object halves.persistent (λ other. absurd cc);
-  transient = half_more true done passing new object halves.transient none own inserted;
+-- an object more, under a number that is new in its half
+pub halves_more : (own : Bool) (done : List ImageObject) (first passing new : Objects) (object : ImageObject) → AreHalves done first passing
+    → get (half_of first passing own) object.number ≡ None → object.transient ≡ own
+    → new ≡ insert (half_of first passing own) object.number (value_of object)
+    → AreHalves (done ++ object ∷ []) (half_of new first own) (half_of passing new own)
+halves_more own done first passing new object halves none is inserted = record {
+  each = each own none is inserted;
   count = omega (
     arith,
     halves.count,
-    ap len inserted,
-    added_len passing object.number (value_of object) none,
+    more len 1 own (ap len inserted ∙ added_len (half_of first passing own) object.number (value_of object) none),
     length-append done (object ∷ []),
   );
   units = omega (
     arith,
     halves.units,
-    ap units_in inserted,
-    added_units passing object.number (value_of object) none,
+    more units_in (units_of (value_of object)) own
+        (ap units_in inserted ∙ added_units (half_of first passing own) object.number (value_of object) none),
     sum_by_push (λ (o : ImageObject). units_of (value_of o)) done object,
   );
 }
+  where
+    each : (own : Bool) → get (half_of first passing own) object.number ≡ None → object.transient ≡ own
+        → new ≡ insert (half_of first passing own) object.number (value_of object)
+        → (t : Bool) → IsHalf t (done ++ object ∷ []) (half_of (half_of new first own) (half_of passing new own) t)
+    each true none is inserted true = half_more true done passing new object (halves.each true) none is inserted
+    each true none is inserted false = half_same false done first object (halves.each false) (λ other. absurd cc)
+    each false none is inserted true = half_same true done passing object (halves.each true) (λ other. absurd cc)
+    each false none is inserted false = half_more false done first new object (halves.each false) none is inserted
 
-pub persistent_more : (done : List ImageObject) (first passing new : Objects) (object : ImageObject) → AreHalves done first passing
-    → get first object.number ≡ None → object.transient ≡ false → new ≡ insert first object.number (value_of object)
-    → AreHalves (done ++ object ∷ []) new passing
-persistent_more done first passing new object halves none own inserted = record {
-  persistent = half_more false done first new object halves.persistent none own inserted;
-  transient = half_same true done passing object halves.transient (λ other. absurd cc);
-  count = omega (
-    arith,
-    halves.count,
-    ap len inserted,
-    added_len first object.number (value_of object) none,
-    length-append done (object ∷ []),
-  );
-  units = omega (
-    arith,
-    halves.units,
-    ap units_in inserted,
-    added_units first object.number (value_of object) none,
-    sum_by_push (λ (o : ImageObject). units_of (value_of o)) done object,
-  );
-}
+    more : (measure : Objects → ℕ) (k : ℕ) (own : Bool) → measure new ≡ measure (half_of first passing own) + k
+        → measure (half_of new first own) + measure (half_of passing new own) ≡ measure first + measure passing + k
+    more measure k true e = omega (arith, e)
+    more measure k false e = omega (arith, e)
 
 -- no objects
 pub no_halves : (first passing : Objects) → first ≡ empty → passing ≡ empty → AreHalves [] first passing
 no_halves first passing none gone = record {
-  persistent = no_half false first none;
-  transient = no_half true passing gone;
+  each = each;
   count = omega (arith, ap len none, ap len gone, len-empty nat_cmp Value);
   units = omega (arith, ap units_in none, ap units_in gone, none_units);
 }
@@ -194,6 +184,10 @@ no_halves first passing none gone = record {
       holds = λ n value among. absurd (omega (arith, among.among.1));
       only = λ n value e. let gone : get half n ≡ None = ap (λ m. get m n) is ∙ get-empty nat_cmp n in absurd cc;
     }
+
+    each : (transient : Bool) → IsHalf transient [] (half_of first passing transient)
+    each false = no_half false first none
+    each true = no_half true passing gone
 
 -- the next of the objects in the order of their numbers, behind those that are done
 pub record IsNext (objects done : List ImageObject) (object : ImageObject) : Type 0 where
@@ -228,20 +222,23 @@ next_of objects sorted done object distinct made moved so_far turn =
       );
     }
 
--- there is room for it in either half
-pub not_past : (objects done : List ImageObject) (object : ImageObject) (first passing half : Objects) → IsNext objects done object
-    → AreHalves done first passing → (half ≡ first) ⊎ (half ≡ passing) → length objects ≤ 1048576 → units_together objects ≤ 4194304
-    → is_past half (units_of (value_of object)) ≡ false
-not_past objects done object first passing half next halves which few units =
-    within (len half + 1) (units_in half + units_of (value_of object)) (len_fits which) (units_fit which)
+-- it can be added to its half
+pub can_add : (objects done : List ImageObject) (object : ImageObject) (first passing : Objects) → IsNext objects done object
+    → AreHalves done first passing → length objects ≤ 1048576 → units_together objects ≤ 4194304
+    → CanAdd object (half_of first passing object.transient)
+can_add objects done object first passing next halves few units =
+    let half = half_of first passing object.transient in
+    record {
+      made = next.made;
+      new = fresh object.transient done half object.number (halves.each object.transient) next.new;
+      room = within (len half + 1) (units_in half + units_of (value_of object))
+          (omega (arith, smaller len object.transient, halves.count, next.count, few))
+          (omega (arith, smaller units_in object.transient, halves.units, next.units, units));
+    }
   where
-    len_fits : (half ≡ first) ⊎ (half ≡ passing) → len half + 1 ≤ 1048576
-    len_fits (inl is) = omega (arith, ap len is, halves.count, next.count, few)
-    len_fits (inr is) = omega (arith, ap len is, halves.count, next.count, few)
-
-    units_fit : (half ≡ first) ⊎ (half ≡ passing) → units_in half + units_of (value_of object) ≤ 4194304
-    units_fit (inl is) = omega (arith, ap units_in is, halves.units, next.units, units)
-    units_fit (inr is) = omega (arith, ap units_in is, halves.units, next.units, units)
+    smaller : (measure : Objects → ℕ) (t : Bool) → measure (half_of first passing t) ≤ measure first + measure passing
+    smaller measure true = omega arith
+    smaller measure false = omega arith
 
     within : (a b : ℕ) → a ≤ 1048576 → b ≤ 4194304 → (nat_lt 1048576 a || nat_lt 4194304 b) ≡ false
     within a b p q = ap (λ x. x || nat_lt 4194304 b) (le-ltb 1048576 a p) ∙ le-ltb 4194304 b q
@@ -266,8 +263,7 @@ all_halves objects sorted done first passing moved whole halves =
     let back : IsPermutation done objects =
     subst (λ os. IsPermutation os objects) (sym (sym (map_same done) ∙ whole)) (IsPermutation-sym objects sorted moved) in
     record {
-      persistent = moved_half false done objects first back halves.persistent;
-      transient = moved_half true done objects passing back halves.transient;
+      each = λ t. moved_half t done objects (half_of first passing t) back (halves.each t);
       count = halves.count ∙ sym (length_permutation done objects back);
       units = halves.units ∙ sym (sum_by-IsPermutation (λ (o : ImageObject). units_of (value_of o)) done objects back);
     }

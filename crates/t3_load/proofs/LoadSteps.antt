@@ -77,19 +77,19 @@ can_start blocks objects limits first passing next limited are made distinct the
     let whole = all_whole objects there acyclic in
     let within = within_limits limits objects room in
     let both : supers_among first passing ≡ supers_by objects =
-    λ i n. among_both objects first passing distinct halves.persistent halves.transient n i in
+    λ i n. among_both objects first passing distinct (halves.each false) (halves.each true) n i in
     let below = bounded (object_numbers objects) 0 (2 ^ 31) (omega arith)
     (All-map (λ n. n < 2 ^ 31) (λ (o : ImageObject). o.number) objects (λ k d less. (made k d less).below)) in
     record {
       limits_are = limited;
       next_is = (omega (arith, next_is), omega (arith, next_is, below));
-      first_below = subst (λ n. AreBelow n first) (sym next_is) (half_below false objects first halves.persistent);
-      passing_below = subst (λ n. AreBelow n passing) (sym next_is) (half_below true objects passing halves.transient);
-      apart = halves_apart objects first passing distinct halves.persistent halves.transient;
-      whole = persistent_whole objects first distinct halves.persistent persistent whole;
+      first_below = subst (λ n. AreBelow n first) (sym next_is) (half_below false objects first (halves.each false));
+      passing_below = subst (λ n. AreBelow n passing) (sym next_is) (half_below true objects passing (halves.each true));
+      apart = halves_apart objects first passing distinct (halves.each false) (halves.each true);
+      whole = persistent_whole objects first distinct (halves.each false) persistent whole;
       both = subst IsWhole (sym both) whole;
       objects = omega (arith, halves.count, within.0);
       units = omega (arith, halves.units, within.1);
-      first_sound = half_sound blocks objects false first are halves.persistent;
-      passing_sound = half_sound blocks objects true passing are halves.transient;
+      first_sound = half_sound blocks objects false first are (halves.each false);
+      passing_sound = half_sound blocks objects true passing are (halves.each true);
     }

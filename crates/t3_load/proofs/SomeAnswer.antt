@@ -15,7 +15,7 @@ use Rattle.t3_load.specs.declared.refusal.LoadRefusal.{LoadRefusal}
 use Rattle.t3_load.specs.declared.refusal.LoadRefusal.TheVariants.{NoEntry, TwoEntries, HeaderSizes, Pool, Metaclass, FunctionSet, ObjectNumber, ObjectTwice, ObjectData, SuperMissing, SuperCycle, TransientSuper, Full, NoMemory}
 use Rattle.t3_load.specs.Entries.{EntryValue, entries, has_sizes}
 use Rattle.t3_load.specs.ImageObjects.{object_numbers, value_of, lacks_super, has_transient_super, IsOwnAncestor, is_past}
-use Rattle.t3_load.specs.Inner.Halves.{AreHalves}
+use Rattle.t3_load.specs.Inner.Halves.{AreHalves, half_of}
 use Rattle.t3_load.specs.Kinds.{kind_entry_of}
 use Rattle.t3_load.specs.Loading.{ProgramValue, Loads, next_above}
 use Rattle.t3_load.specs.Names.{metas_in, names_in, symbols_in, unknown_from}
@@ -33,7 +33,7 @@ use Rattle.t3_load.proofs.EntryRules.{some_entry, one_entry, good_entry}
 use Rattle.t3_load.proofs.FirstSymbols.{raw_of-firsts}
 use Rattle.t3_pools.proofs.Firsts.{none_first}
 use Rattle.t3_load.proofs.Firsts.{not_twice}
-use Rattle.t3_load.proofs.Halving.{fresh, no_halves, transient_more, persistent_more}
+use Rattle.t3_load.proofs.Halving.{fresh, no_halves, halves_more}
 use Rattle.t3_load.proofs.LoadSteps.{room_kept}
 use Rattle.t3_load.proofs.NameRules.{kinds_kept, sets_kept}
 use Rattle.t3_load.proofs.ObjectRules.{numbers_kept, distinct_kept, objects_kept, same_numbers}
@@ -50,38 +50,27 @@ record Halves (objects : List ImageObject) : Type 0 where
 
 -- one object more, which has a number of its own
 one_more : (done : List ImageObject) (object : ImageObject) (rest : List ImageObject) → Halves done
-    → IsDistinct nat_eq (object_numbers (done ++ object ∷ rest)) → (t : Bool) → object.transient ≡ t → Halves (done ++ object ∷ [])
-one_more done object rest halves distinct t own = by_half t own
-  where
-    numbers : object_numbers (done ++ object ∷ rest) ≡ object_numbers done ++ object.number ∷ object_numbers rest
-    numbers = map-append (λ (o : ImageObject). o.number) done (object ∷ rest)
-
-    by_half : (t : Bool) → object.transient ≡ t → Halves (done ++ object ∷ [])
-    by_half true own =
-        let none = fresh true done halves.passing object.number halves.are.transient
-        (not_twice (object_numbers done) (object_numbers rest) object.number (subst (IsDistinct nat_eq) numbers distinct)) in
-        let passing = insert halves.passing object.number (value_of object) in
-        record {
-          first = halves.first;
-          passing = passing;
-          are = transient_more done halves.first halves.passing passing object halves.are none own refl;
-        }
-    by_half false own =
-        let none = fresh false done halves.first object.number halves.are.persistent
-        (not_twice (object_numbers done) (object_numbers rest) object.number (subst (IsDistinct nat_eq) numbers distinct)) in
-        let first = insert halves.first object.number (value_of object) in
-        record {
-          first = first;
-          passing = halves.passing;
-          are = persistent_more done halves.first halves.passing first object halves.are none own refl;
-        }
+    → IsDistinct nat_eq (object_numbers (done ++ object ∷ rest)) → Halves (done ++ object ∷ [])
+one_more done object rest halves distinct =
+    let own = object.transient in
+    let half = half_of halves.first halves.passing own in
+    let new = insert half object.number (value_of object) in
+    let numbers : object_numbers (done ++ object ∷ rest) ≡ object_numbers done ++ object.number ∷ object_numbers rest =
+    map-append (λ (o : ImageObject). o.number) done (object ∷ rest) in
+    let none = fresh own done half object.number (halves.are.each own)
+    (not_twice (object_numbers done) (object_numbers rest) object.number (subst (IsDistinct nat_eq) numbers distinct)) in
+    record {
+      first = half_of new halves.first own;
+      passing = half_of halves.passing new own;
+      are = halves_more own done halves.first halves.passing new object halves.are none refl refl;
+    }
 
 halves_after : (done rest : List ImageObject) → Halves done → IsDistinct nat_eq (object_numbers (done ++ rest)) → Halves (done ++ rest)
 halves_after done [] halves distinct = subst Halves (sym (append-nil done)) halves
 halves_after done (object ∷ rest) halves distinct =
     let joined = append_assoc done (object ∷ []) rest in
     subst Halves joined
-    (halves_after (done ++ object ∷ []) rest (one_more done object rest halves distinct object.transient refl)
+    (halves_after (done ++ object ∷ []) rest (one_more done object rest halves distinct)
     (subst (λ os. IsDistinct nat_eq (object_numbers os)) (sym joined) distinct))
 
 some_halves : (objects : List ImageObject) → IsDistinct nat_eq (object_numbers objects) → Halves objects
@@ -144,8 +133,8 @@ loaded blocks fingerprint limits parts kept =
           named = raw_of-firsts (symbols_in blocks);
           objects = parts.objects;
           are = parts.are;
-          first = halves.are.persistent;
-          passing = halves.are.transient;
+          first = halves.are.each false;
+          passing = halves.are.each true;
           next = refl;
           fingerprint_is = refl;
           limits_are = refl;

@@ -1,9 +1,10 @@
 //! The objects of a program, in two halves.
-ghost use Rattle.std.specs.Prelude.{◌≡◌, ◌≤◌, IfOk, IfErr, length, map};
+ghost use Rattle.std.specs.Prelude.{◌≡◌, ◌≤◌, ◌∷◌, [], ◌++◌, List, IfOk, IfErr, OnOk, length, map};
 ghost use Rattle.t3_load.specs.ImageObjects.{object_numbers, units_together, is_past};
 ghost use Rattle.t3_load.specs.Loading.{next_above};
+ghost use Rattle.t3_load.specs.declared.objects.ImageObject.{ImageObject as AnyObject};
 ghost use Rattle.t3_load.specs.declared.refusal.LoadRefusal.TheVariants as refusals;
-ghost use Rattle.t3_load.specs.Inner.Halves.{AreMade, AreHalves};
+ghost use Rattle.t3_load.specs.Inner.Halves.{AreMade, AreHalves, CanAdd, half_of};
 
 use crate::objects::{ImageObject, ImageObjects};
 use crate::refusal::LoadRefusal;
@@ -15,6 +16,24 @@ use t3_store::{Persistent, StoreLimits};
 pub(crate) struct Halves {
     pub(crate) first: Persistent,
     pub(crate) passing: Persistent,
+}
+
+impl Halves {
+    /// Adds an object to the half that it belongs to.
+    fn add(&mut self, object: ImageObject) -> Result<(), LoadRefusal>
+        requires { CanAdd object (half_of self.old.first self.old.passing object.transient) }
+        ensures added { OnOk result ((objects : List AnyObject)
+            → AreHalves objects self.old.first self.old.passing
+            → AreHalves (objects ++ object ∷ []) self.new.first self.new.passing) }
+        ensures room { IfErr result (λ why. why ≡ refusals.NoMemory) }
+    {
+        if object.transient {
+            self.passing.add(object.number, object.object)?;
+        } else {
+            self.first.add(object.number, object.object)?;
+        }
+        Ok(())
+    }
 }
 
 /// Whether the objects or their units pass the limits: rule 13.
@@ -57,14 +76,12 @@ pub(crate) fn halve(alloc: Global, objects: ImageObjects) -> Result<Halves, Load
 {
     let mut objects = objects.into_vec();
     objects.sort_by_key(|object| object.number)?;
-    let mut first = Persistent::new(alloc);
-    let mut passing = Persistent::new(alloc);
+    let mut halves = Halves {
+        first: Persistent::new(alloc),
+        passing: Persistent::new(alloc),
+    };
     for object in objects {
-        if object.transient {
-            passing.add(object.number, object.object)?;
-        } else {
-            first.add(object.number, object.object)?;
-        }
+        halves.add(object)?;
     }
-    Ok(Halves { first, passing })
+    Ok(halves)
 }
