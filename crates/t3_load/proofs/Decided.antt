@@ -9,7 +9,7 @@ use Rattle.std.proofs.lemmas.List.Elements.{Contains-append_right}
 use Rattle.std.proofs.lemmas.Map.Keys.{IsDistinct-push}
 use Rattle.t3_load.specs.Names.{unknown_from}
 use Rattle.t3_load.specs.Rules.{IsFirstTwice}
-use Rattle.t3_load.proofs.Firsts.{among, not_twice}
+use Rattle.t3_load.proofs.Firsts.{among}
 
 pub both : {A B : Type 0} → A ⊎ ¬ A → B ⊎ ¬ B → (A × B) ⊎ ¬ (A × B)
 both (inl a) (inl b) = inl (a, b)
@@ -79,14 +79,6 @@ none_distinct = tt
 
 pub numbers_or_twice : (numbers : List ℕ) → ((n : ℕ) × IsFirstTwice numbers n) ⊎ IsDistinct nat_eq numbers
 numbers_or_twice numbers = twice_or_distinct [] numbers none_distinct
-
-pub distinct_or_not : (numbers : List ℕ) → IsDistinct nat_eq numbers ⊎ ¬ IsDistinct nat_eq numbers
-distinct_or_not numbers =
-    elim (numbers_or_twice numbers) [
-      | inl found ↦ let twice = found.1 in
-          inr (λ distinct. not_twice twice.before twice.after found.0 (subst (IsDistinct nat_eq) twice.is distinct) twice.twice)
-      | inr distinct ↦ inl distinct
-    ]
 
 -- all items of a list mean something
 pub all_known : {Item Entry : Type 0} (meaning : Item → Option Entry) (items : List Item) (at : ℕ)

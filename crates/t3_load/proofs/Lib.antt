@@ -1,9 +1,8 @@
 mod Tables
 mod Named
 mod FirstSymbols
-mod RowLemmas
-mod Spelled
-mod Layouts
+mod Reading
+mod ReadObjects
 mod Repeated
 pub mod RuleSteps
 pub mod EntryRules
@@ -21,7 +20,6 @@ pub mod LoadSteps
 pub mod Decided
 pub mod DecidedPools
 pub mod DecidedCycles
-pub mod DecidedItems
 pub mod DecidedObjects
 pub mod OneAnswer
 pub mod SomeAnswer

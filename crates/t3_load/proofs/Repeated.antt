@@ -2,7 +2,6 @@
 use Rattle.std.proofs.Common.{◌≡◌, ℕ, zero, suc, ◌<◌, Bool, true, false, ◌||◌, List, [], ◌∷◌, not, length, map, take, get_or, nat_eq, refl, sym, ap, ◌∙◌, arith}
 use Rattle.std.proofs.lemmas.Bool.{eqb-true, eq-eqb}
 use Rattle.std.proofs.lemmas.List.{take-map, get_or-map, length-map}
-use Rattle.std.specs.Bool.{MatchBool}
 use Rattle.std.specs.List.{IsDistinct, AllByRecursion, list_any}
 use Rattle.t3_tadsobj.specs.declared.props.PropValue.{PropValue}
 
@@ -49,7 +48,3 @@ repeated props i d keys added less keys_are is absent =
     by_not : (b : Bool) → not b ≡ false → b ≡ true
     by_not true is = refl
     by_not false is = absurd cc
-
-pub by_false : (b : Bool) (P Q : Type 0) → MatchBool b P Q → b ≡ false → Q
-by_false true P Q is not_so = absurd cc
-by_false false P Q is not_so = is

@@ -1,5 +1,5 @@
 pub mod Listing
-pub mod Rows
+pub mod Reading
 pub mod Deciding
 pub mod Objects
 pub mod Numbers

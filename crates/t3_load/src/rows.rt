@@ -1,9 +1,7 @@
 //! Items of so many bytes each, one after the other.
-ghost use Rattle.std.specs.Prelude.{◌≡◌, ℕ, ◌<◌, ◌^◌, ◌++◌, length, IfOk, MatchOption};
+ghost use Rattle.std.specs.Prelude.{◌≡◌, length, Some, IfOk};
 ghost use Rattle.t3_holder.specs.HolderText.{raw_text, IsRaw};
-ghost use Rattle.t3_holder.specs.declared.holder.Holder.{Holder as AnyHolder};
-ghost use Rattle.t3_load.specs.Layout.{SpellsHolder};
-ghost use Rattle.t3_load.specs.Inner.Rows.{TakesRow, SplitsItem};
+ghost use Rattle.t3_load.specs.Inner.Reading.{Gives, number_read, holder_read, front_read, row_read};
 
 use std::alloc::Global;
 use t3_holder::{Holder, NoMemory, Raw, holder_of, read_raw, u16_at, u32_at};
@@ -11,7 +9,7 @@ use t3_tadsobj::PropValue;
 
 /// An item of a row.
 pub(crate) trait Item {
-    ghost use Rattle.std.specs.Prelude.{◌≡◌, ℕ, List, length, MatchOption};
+    ghost use Rattle.std.specs.Prelude.{◌≡◌, ℕ, List, Option, length};
 
     type Value: Drop;
 
@@ -20,14 +18,12 @@ pub(crate) trait Item {
 
     const WIDTH: usize;
 
-    /// Whether bytes spell it.
-    ghost spells: { Self.Value → List ℕ → Type 0 };
-
     /// The item that bytes spell.
+    ghost item: { List ℕ → Option Self.Value };
+
     fn read(bytes: &[u8]) -> Option<Self::Value>
         requires { length bytes.now ≡ WIDTH }
-        ensures { MatchOption result ((value : Self.Value) → ¬ spells value bytes.now)
-            (λ value. spells value bytes.now) };
+        ensures { result ≡ item bytes.now };
 }
 
 /// So many items with which bytes begin, and the rest. Room for them is made at once, but for no more of them than
@@ -37,7 +33,8 @@ pub(crate) fn take_row<'a, I: Item>(
     count: u16,
     bytes: &'a [u8],
 ) -> Result<Option<(Vec<I::Value>, &'a [u8])>, NoMemory>
-    ensures { IfOk result (TakesRow I.WIDTH I.spells count bytes.now) }
+    ensures { IfOk result (λ taken. Gives (λ row. (row.0.items, row.1.now)) taken
+        (row_read I.WIDTH I.item count bytes.now)) }
 {
     let count = usize::from(count);
     let mut items = Vec::with_capacity(alloc, count.min(bytes.len()))?;
@@ -53,8 +50,9 @@ pub(crate) fn take_row<'a, I: Item>(
 }
 
 /// The item with which bytes begin, and the rest.
+#[tactic(auto, unfolding(crate::specs::Inner::Reading::front_read))]
 fn split_item<I: Item>(bytes: &[u8]) -> Option<(I::Value, &[u8])>
-    ensures { SplitsItem I.WIDTH I.spells bytes.now result }
+    ensures { Gives (λ split. (split.0, split.1.now)) result (front_read I.WIDTH I.item bytes.now) }
 {
     let (front, behind) = bytes.split_at_checked(I::WIDTH)?;
     let item = I::read(front)?;
@@ -65,7 +63,7 @@ fn split_item<I: Item>(bytes: &[u8]) -> Option<(I::Value, &[u8])>
 pub(crate) struct SuperItem;
 
 impl Item for SuperItem {
-    ghost use Rattle.t3_load.specs.Layout.{SpellsNumber};
+    ghost use Rattle.t3_load.specs.Inner.Reading.{number_read};
 
     type Value = u32;
 
@@ -73,7 +71,7 @@ impl Item for SuperItem {
 
     const WIDTH: usize = 4;
 
-    ghost spells = { SpellsNumber };
+    ghost item = { number_read 4 };
 
     fn read(bytes: &[u8]) -> Option<u32> {
         Some(u32_at(bytes, 0))
@@ -84,7 +82,7 @@ impl Item for SuperItem {
 pub(crate) struct HolderItem;
 
 impl Item for HolderItem {
-    ghost use Rattle.t3_load.specs.Layout.{SpellsHolder};
+    ghost use Rattle.t3_load.specs.Inner.Reading.{holder_read};
 
     type Value = Holder;
 
@@ -92,7 +90,7 @@ impl Item for HolderItem {
 
     const WIDTH: usize = 5;
 
-    ghost spells = { SpellsHolder };
+    ghost item = { holder_read };
 
     fn read(bytes: &[u8]) -> Option<Holder> {
         read_holder(bytes)
@@ -103,7 +101,7 @@ impl Item for HolderItem {
 pub(crate) struct PropItem;
 
 impl Item for PropItem {
-    ghost use Rattle.t3_load.specs.Layout.{SpellsProp};
+    ghost use Rattle.t3_load.specs.Inner.Reading.{prop_read};
 
     type Value = PropValue;
 
@@ -111,10 +109,11 @@ impl Item for PropItem {
 
     const WIDTH: usize = 7;
 
-    ghost spells = { SpellsProp };
+    ghost item = { prop_read };
 
+    #[tactic(auto, unfolding(crate::specs::Inner::Reading::prop_read))]
     fn read(bytes: &[u8]) -> Option<PropValue> {
-        let number = u16_at(bytes, 0);
+        let number = number_in(&bytes[..2]);
         if number == 0 {
             return None;
         }
@@ -126,8 +125,7 @@ impl Item for PropItem {
 /// The holder that five bytes mean.
 fn read_holder(bytes: &[u8]) -> Option<Holder>
     requires { length bytes.now ≡ 5 }
-    ensures { MatchOption result ((holder : AnyHolder) → ¬ SpellsHolder holder bytes.now)
-        (λ holder. SpellsHolder holder bytes.now) }
+    ensures { result ≡ holder_read bytes.now }
 {
     holder_of(raw_in(bytes))
 }
@@ -139,4 +137,12 @@ fn raw_in(bytes: &[u8]) -> Raw
     ensures text { raw_text result ≡ bytes.now }
 {
     read_raw(&[bytes[0], bytes[1], bytes[2], bytes[3], bytes[4]])
+}
+
+/// The number in two bytes.
+pub(crate) fn number_in(bytes: &[u8]) -> u16
+    requires { length bytes.now ≡ 2 }
+    ensures { number_read 2 bytes.now ≡ Some result }
+{
+    u16_at(bytes, 0)
 }

@@ -1,20 +1,18 @@
 //! The objects that stand in an image, taken from their bytes.
-ghost use Rattle.std.specs.Prelude.{◌≡◌, ◌<◌, ◌^◌, ◌↔◌, ◌++◌, ◌==◌, length, nat_eq, map, IsTrue, MatchOption, MatchBool, IfOk};
+ghost use Rattle.std.specs.Prelude.{◌≡◌, ◌↔◌, ◌==◌, map, IsTrue, IfOk};
 ghost use Rattle.std.specs.Int.{bit_at};
-ghost use Rattle.std.specs.List.{IsDistinct};
 ghost use Rattle.std.specs.List.Sorted.{IsStrictlyIncreasing};
-ghost use Rattle.std.specs.Str.{IsUtf8};
-ghost use Rattle.t3_holder.specs.NumberText.{little_endian};
+ghost use Rattle.std.specs.Str.{is_utf8};
 ghost use Rattle.t3_load.specs.Layout.{GivesObject};
 ghost use Rattle.t3_load.specs.declared.kinds.MetaKind.TheVariants as kinds;
-ghost use Rattle.t3_load.specs.Inner.Rows.{TakesList, HasHead};
+ghost use Rattle.t3_load.specs.Inner.Reading.{Gives, count_read, head_read, are_distinct, object_read, list_read};
 
 use crate::kinds::MetaKind;
-use crate::rows::{HolderItem, PropItem, SuperItem, take_row};
+use crate::rows::{HolderItem, PropItem, SuperItem, number_in, take_row};
 use indexmap::IndexSet;
 use std::alloc::Global;
 use std::hash::{BuildHasherDefault, DefaultHasher};
-use t3_holder::{Bytes, Holder, NoMemory, u16_at};
+use t3_holder::{Bytes, Holder, NoMemory};
 use t3_lists::Holders;
 use t3_store::NewObject;
 use t3_tadsobj::{PropValue, Props};
@@ -35,10 +33,7 @@ pub(crate) fn static_object(
     match kind {
         MetaKind::Tads => tads_object(alloc, bytes),
         MetaKind::Text => text(alloc, bytes),
-        MetaKind::List => match holders(alloc, bytes)? {
-            Some(items) => Ok(Some(NewObject::List(items))),
-            None => Ok(None),
-        },
+        MetaKind::List => list(alloc, bytes),
         MetaKind::Vector => vector(alloc, bytes),
         MetaKind::Root | MetaKind::Collection | MetaKind::Table => Ok(None),
     }
@@ -52,8 +47,9 @@ struct TadsHead {
     flags: u16,
 }
 
+#[tactic(auto, unfolding(crate::specs::Inner::Reading::tads_read))]
 fn tads_object(alloc: Global, bytes: &[u8]) -> Result<Option<NewObject>, NoMemory>
-    ensures { GivesObject kinds.Tads bytes.now result }
+    ensures { IfOk result (λ object. Gives (λ o. o) object (object_read kinds.Tads bytes.now)) }
 {
     let Some((head, rest)) = split_head(bytes) else {
         return Ok(None);
@@ -75,9 +71,9 @@ fn tads_object(alloc: Global, bytes: &[u8]) -> Result<Option<NewObject>, NoMemor
 }
 
 /// The head of a tads-object, and the rest.
+#[tactic(auto, unfolding(crate::specs::Inner::Reading::head_read))]
 fn split_head(bytes: &[u8]) -> Option<(TadsHead, &[u8])>
-    ensures { MatchOption result (length bytes.now < 6)
-        (λ parts. HasHead parts.0.supers parts.0.props parts.0.flags bytes.now parts.1.now) }
+    ensures { Gives (λ parts. (parts.0, parts.1.now)) result (head_read bytes.now) }
 {
     let (supers, rest) = split_number(bytes)?;
     let (props, rest) = split_number(rest)?;
@@ -99,9 +95,7 @@ fn is_class(flags: u16) -> bool
 
 /// Whether no two properties have one number. Most images have them by rising number: then no set is made.
 fn are_distinct(alloc: Global, props: &[PropValue]) -> Result<bool, NoMemory>
-    ensures { IfOk result (λ distinct. MatchBool distinct
-        (IsDistinct nat_eq (map (λ prop. prop.number) props.now))
-        (¬ IsDistinct nat_eq (map (λ prop. prop.number) props.now))) }
+    ensures { IfOk result (λ distinct. distinct ≡ are_distinct (map (λ prop. prop.number) props.now)) }
 {
     if are_rising(props) {
         return Ok(true);
@@ -123,8 +117,9 @@ fn are_rising(props: &[PropValue]) -> bool
     props.is_sorted_by(|prop, next| prop.number < next.number)
 }
 
+#[tactic(auto, unfolding(crate::specs::Inner::Reading::text_read, crate::specs::Inner::Reading::front_read))]
 fn text(alloc: Global, bytes: &[u8]) -> Result<Option<NewObject>, NoMemory>
-    ensures { GivesObject kinds.Text bytes.now result }
+    ensures { IfOk result (λ object. Gives (λ o. o) object (object_read kinds.Text bytes.now)) }
 {
     let Some((count, rest)) = split_number(bytes) else {
         return Ok(None);
@@ -140,14 +135,15 @@ fn text(alloc: Global, bytes: &[u8]) -> Result<Option<NewObject>, NoMemory>
 }
 
 fn is_utf8(bytes: &[u8]) -> bool
-    ensures { MatchBool result (IsUtf8 bytes.now) (¬ IsUtf8 bytes.now) }
+    ensures { result ≡ is_utf8 bytes.now }
 {
     str::from_utf8(bytes).is_ok()
 }
 
 /// The holders of a list.
+#[tactic(auto, unfolding(crate::specs::Inner::Reading::list_read))]
 fn holders(alloc: Global, bytes: &[u8]) -> Result<Option<Holders>, NoMemory>
-    ensures { IfOk result (TakesList bytes.now) }
+    ensures { IfOk result (λ items. Gives (λ i. i) items (list_read bytes.now)) }
 {
     let Some((count, rest)) = split_number(bytes) else {
         return Ok(None);
@@ -158,8 +154,18 @@ fn holders(alloc: Global, bytes: &[u8]) -> Result<Option<Holders>, NoMemory>
     }
 }
 
+fn list(alloc: Global, bytes: &[u8]) -> Result<Option<NewObject>, NoMemory>
+    ensures { IfOk result (λ object. Gives (λ o. o) object (object_read kinds.List bytes.now)) }
+{
+    match holders(alloc, bytes)? {
+        Some(items) => Ok(Some(NewObject::List(items))),
+        None => Ok(None),
+    }
+}
+
+#[tactic(auto, unfolding(crate::specs::Inner::Reading::vector_read))]
 fn vector(alloc: Global, bytes: &[u8]) -> Result<Option<NewObject>, NoMemory>
-    ensures { GivesObject kinds.Vector bytes.now result }
+    ensures { IfOk result (λ object. Gives (λ o. o) object (object_read kinds.Vector bytes.now)) }
 {
     let Some((_allocated, rest)) = split_number(bytes) else {
         return Ok(None);
@@ -171,10 +177,10 @@ fn vector(alloc: Global, bytes: &[u8]) -> Result<Option<NewObject>, NoMemory>
 }
 
 /// A number of two bytes, and the rest.
+#[tactic(auto, unfolding(crate::specs::Inner::Reading::front_read))]
 fn split_number(bytes: &[u8]) -> Option<(u16, &[u8])>
-    ensures { MatchOption result (length bytes.now < 2)
-        (λ parts. (parts.0 < 2 ^ 16) × (bytes.now ≡ little_endian 2 parts.0 ++ parts.1.now)) }
+    ensures { Gives (λ parts. (parts.0, parts.1.now)) result (count_read bytes.now) }
 {
     let (number, rest) = bytes.split_at_checked(2)?;
-    Some((u16_at(number, 0), rest))
+    Some((number_in(number), rest))
 }
