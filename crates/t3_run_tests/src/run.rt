@@ -265,50 +265,52 @@ const COUNTS_ARGUMENTS: &[u8] = b"\x87\xB1\x01\x00\x51";
 
 const DIVIDES: &[u8] = b"\x02\x01\x2A\x51";
 
+/// Headers of entry methods, bodies, and what comes of a run: the methods take one argument, perhaps one, any
+/// number, none and two, and the last has a table that isn't there.
+const ENTRIES: [(&[u8], &[u8], &str, Status); 7] = [
+    (
+        b"\x01\x00\x00\x00\x02\x00\x00\x00\x00\x00",
+        COUNTS_ARGUMENTS,
+        "1\n",
+        Status::Done,
+    ),
+    (
+        b"\x00\x01\x00\x00\x02\x00\x00\x00\x00\x00",
+        COUNTS_ARGUMENTS,
+        "1\n",
+        Status::Done,
+    ),
+    (
+        b"\x80\x00\x00\x00\x02\x00\x00\x00\x00\x00",
+        COUNTS_ARGUMENTS,
+        "1\n",
+        Status::Done,
+    ),
+    (METHOD, COUNTS_ARGUMENTS, "0\n", Status::Done),
+    (
+        b"\x02\x00\x00\x00\x02\x00\x00\x00\x00\x00",
+        COUNTS_ARGUMENTS,
+        "[unhandled object=1 fault=2]\n",
+        Status::Unhandled,
+    ),
+    (
+        b"\x00\x00\x00\x00\x02\x00\x00\x01\x00\x00",
+        COUNTS_ARGUMENTS,
+        "0\n",
+        Status::Done,
+    ),
+    (
+        b"\x00\x00\x00\x00\x02\x00\x00\x01\x00\x00",
+        DIVIDES,
+        "[bad code at=0 why=Table]\n",
+        Status::BadCode,
+    ),
+];
+
 #[test]
 fn an_entry_may_take_an_argument_and_catch(rt: HostRuntime) -> Result<(), Fail> {
     let alloc = rt.alloc();
-    // The headers take one argument, perhaps one, any number, none and two, and one has a table that isn't there.
-    let rows: [(&[u8], &[u8], &str, Status); 7] = [
-        (
-            b"\x01\x00\x00\x00\x02\x00\x00\x00\x00\x00",
-            COUNTS_ARGUMENTS,
-            "1\n",
-            Status::Done,
-        ),
-        (
-            b"\x00\x01\x00\x00\x02\x00\x00\x00\x00\x00",
-            COUNTS_ARGUMENTS,
-            "1\n",
-            Status::Done,
-        ),
-        (
-            b"\x80\x00\x00\x00\x02\x00\x00\x00\x00\x00",
-            COUNTS_ARGUMENTS,
-            "1\n",
-            Status::Done,
-        ),
-        (METHOD, COUNTS_ARGUMENTS, "0\n", Status::Done),
-        (
-            b"\x02\x00\x00\x00\x02\x00\x00\x00\x00\x00",
-            COUNTS_ARGUMENTS,
-            "[unhandled object=1 fault=2]\n",
-            Status::Unhandled,
-        ),
-        (
-            b"\x00\x00\x00\x00\x02\x00\x00\x01\x00\x00",
-            COUNTS_ARGUMENTS,
-            "0\n",
-            Status::Done,
-        ),
-        (
-            b"\x00\x00\x00\x00\x02\x00\x00\x01\x00\x00",
-            DIVIDES,
-            "[bad code at=0 why=Table]\n",
-            Status::BadCode,
-        ),
-    ];
-    for (method_header, body, want, status) in rows {
+    for (method_header, body, want, status) in ENTRIES {
         let file = code_image(alloc, &[ENTRY, POOL, FUNCTIONS], method_header, body)?;
         let (got, shown) = ran(alloc, &file, &[])?;
         assert_eq!(rt; shown.as_slice(), want.as_bytes());
