@@ -54,6 +54,7 @@ test:
 
 bench: build/t3 build/t3_page build/t3_store_bench
 	bench/asm
+	bench/calls
 	bench/check
 	bench/load
 	bench/page
