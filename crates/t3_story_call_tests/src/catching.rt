@@ -7,12 +7,18 @@ const CALLS_ROW: &str = "call 0 @f / getr0 / builtin_a 1 0 / retnil";
 
 const UNCAUGHT: &str = "[unhandled object=8 fault=3]\n";
 
-const CATCHES: [CallRow; 23] = [
+const CATCHES: [CallRow; 24] = [
     // The exception of a fault has a class and the fault's number.
     (
         CALLS_ROW,
         "f: / method 0 0 8 ~t / a: / push_1 / push_0 / div / b: / retnil / h: / getprop 9 / getr0 / retval / t: / table 1 / handler ~a ~b 5 ~h",
         "4\n",
+    ),
+    // The last place that is covered is that of the sum.
+    (
+        "call 0 @f / retnil",
+        "f: / method 0 0 4 ~t / a: / pushint 2147483647 / push_1 / b: / add / retnil / h: / getprop 9 / getr0 / builtin_a 1 0 / retnil / t: / table 1 / handler ~a ~b 0 ~h",
+        "5\n",
     ),
     // Two calls up: the caller in between has an entry for other places, and one for a class that doesn't fit.
     (
