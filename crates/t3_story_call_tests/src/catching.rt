@@ -7,7 +7,7 @@ const CALLS_ROW: &str = "call 0 @f / getr0 / builtin_a 1 0 / retnil";
 
 const UNCAUGHT: &str = "[unhandled object=8 fault=3]\n";
 
-const CATCHES: [CallRow; 24] = [
+const CATCHES: [CallRow; 22] = [
     // The exception of a fault has a class and the fault's number.
     (
         CALLS_ROW,
@@ -64,17 +64,6 @@ const CATCHES: [CallRow; 24] = [
         CALLS_ROW,
         "f: / method 0 0 8 ~t / a: / pushobj 7 / throw / b: / retnil / h: / retnil / t: / table 1 / handler ~a ~b 5 ~h",
         "[unhandled object=7 fault=0]\n",
-    ),
-    // The third class of four, and for all behind one that doesn't fit.
-    (
-        CALLS_ROW,
-        "f: / method 0 0 8 ~t / a: / pushobj 4 / throw / b: / retnil / h: / getprop 3 / getr0 / retval / t: / table 2 / handler ~a ~b 6 ~b / handler ~a ~b 3 ~h",
-        "43\n",
-    ),
-    (
-        CALLS_ROW,
-        "f: / method 0 0 8 ~t / a: / pushobj 4 / throw / b: / retnil / h: / getprop 3 / getr0 / retval / t: / table 2 / handler ~a ~b 5 ~b / handler ~a ~b 0 ~h",
-        "43\n",
     ),
     // A table that isn't whole is told where it is reached: in the method itself, in its caller, and not in the
     // caller of one that catches.
