@@ -23,9 +23,10 @@ use t3_io::{Console, Depot};
 /// IN OUT [--mask=N]` puts the image as written anew, its pages under the mask where one is given, and
 /// shows `ok bytes=N`; `list IMAGE OUT` does so with a source that assembles to the image, and `asm SOURCE
 /// OUT` with the image that a source says, or shows the source's first bad line. `run IMAGE [--steps=N]
-/// [--width=N]` runs the image by at most so many steps, shows what it says on lines of that width, gives it
-/// the console's lines of input where it wants them, and shows, if it didn't return, how it ended; of an image
-/// of which no program is made it shows `load refused RULE`, by the first rule that it breaks.
+/// [--records=N] [--savepoints=N] [--width=N]` runs the image by at most so many steps, holds at most so many
+/// savepoints with so many changes, shows what it says on lines of that width, gives it the console's lines of
+/// input where it wants them, and shows, if it didn't return, how it ended; of an image of which no program is
+/// made it shows `load refused RULE`, by the first rule that it breaks.
 /// Each shows that the file isn't there, and each but `asm` why it is no image. Words that are no command
 /// show how the program is used.
 ///
@@ -45,7 +46,10 @@ pub fn t3_main<D: Depot, C: Console>(
     requires depot { D.faults depot.old < 2 ^ 64 - 1 }
     requires console { C.faults console.old < 2 ^ 64 - 1 }
 
-    // Where the call wasn't cut short, the whole outcome of the words stands.
+    // Where the call wasn't cut short, the whole outcome of the words stands: for every image that is run, every input and
+    // all options the bytes that are shown and the status are those of a machine that is described apart from the code.
+    // Each instruction does what its row says. An undo puts each persistent object back as the newest savepoint's copy
+    // has it, and takes away those made since; and a savepoint is lost unasked only oldest first, to a full journal.
     ensures whole { IfSome (D.files depot.old) (λ files. ¬ CutsShort result
         → IsWhole (command_of (map string_bytes words.now)) files (C.session console.old) result (D.files depot.new) (C.session console.new)) }
 
