@@ -114,7 +114,8 @@ one_outcome (Some command) files input a b x y = one_input_outcome command (inpu
 pub some_run_outcome : (image : ImageValue) (options : RunOptions) (input : List ℕ) → (outcome : Outcome) × IsRunOutcome image options input outcome
 some_run_outcome image options input = by_answer (some_answer image.blocks (fingerprint_of image) (run_limits options))
   where
-    by_answer : ((answer : Result ProgramValue LoadRefusal) × IsLoaded options image answer)
+    by_answer : ((answer : Result ProgramValue LoadRefusal) × (answer ≢ Err NoRoom)
+            × Loads image.blocks (fingerprint_of image) (run_limits options) answer)
         → (outcome : Outcome) × IsRunOutcome image options input outcome
     by_answer (Ok program, known, loads) =
         let run = some_run (record { width = options.width; input = input }) program options.steps (begun program) in
