@@ -115,7 +115,7 @@ pub some_run_outcome : (image : ImageValue) (options : RunOptions) (input : List
 some_run_outcome image options input = by_answer (some_answer image.blocks (fingerprint_of image) (run_limits options))
   where
     by_answer : ((answer : Result ProgramValue LoadRefusal) × (answer ≢ Err NoRoom)
-            × Loads image.blocks (fingerprint_of image) (run_limits options) answer)
+        × Loads image.blocks (fingerprint_of image) (run_limits options) answer)
         → (outcome : Outcome) × IsRunOutcome image options input outcome
     by_answer (Ok program, known, loads) =
         let run = some_run (record { width = options.width; input = input }) program options.steps (begun program) in

@@ -49,7 +49,14 @@ fn a_run_takes_its_options(rt: HostRuntime) -> Result<(), Fail> {
     let rows: [&[&str]; 7] = [
         &["run", "a.t3", "--records=1", "--savepoints=1"],
         &["run", "a.t3", "--savepoints=1024", "--records=1048576"],
-        &["run", "a.t3", "--width=9", "--savepoints=9", "--steps=9", "--records=9"],
+        &[
+            "run",
+            "a.t3",
+            "--width=9",
+            "--savepoints=9",
+            "--steps=9",
+            "--records=9",
+        ],
         &["run", "a.t3", "--width=1", "--steps=1"],
         &["run", "a.t3", "--steps=4294967295", "--width=1000"],
         &["run", "a.t3", "--width=1000"],

@@ -98,7 +98,9 @@ impl Story {
         };
         self.plain.set_object(object, Content::Number(number));
         let place = place(alloc, cell)?;
-        let line = format!(in alloc; " / pushint8 {number} / objgetprop {place} / getr0 / setprop 4")?;
+        let line = format!(in alloc;
+            " / pushint8 {number} / objgetprop {place} / getr0 / setprop 4"
+        )?;
         self.body.push_str(line.as_str())
     }
 
@@ -131,12 +133,7 @@ fn place(alloc: Global, cell: usize) -> Result<String, AllocError> {
 }
 
 /// The drawn story of a seed, under these limits.
-fn drawn(
-    alloc: Global,
-    seed: u32,
-    records: usize,
-    savepoints: usize,
-) -> Result<Story, AllocError> {
+fn drawn(alloc: Global, seed: u32, records: usize, savepoints: usize) -> Result<Story, AllocError> {
     let mut story = Story::new(alloc, records, savepoints)?;
     let mut draw = Draw(seed);
     for _ in 0..ACTIONS {
@@ -171,7 +168,7 @@ fn first_unlike(
 }
 
 /// How many stories are drawn for each pair of limits.
-const STORIES: u32 = 60;
+const STORIES: u32 = 40;
 
 #[test]
 fn keeps_whole_copies(rt: HostRuntime) -> Result<(), Fail> {

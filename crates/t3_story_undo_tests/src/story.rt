@@ -20,7 +20,8 @@ const BEFORE: &str =
 /// The methods behind the body: `show` says its argument, also where it is nil, and `save` and `back` make a savepoint and
 /// undo it, and answer what those answered. The constructor `undoes` makes an undo, and looks at self where it has an
 /// argument; `saves` makes a savepoint of self whose property 4 is 4, and undoes to it.
-const METHODS: &str = "show: / method 1 0 4 0 / getarg1 0 / builtin_a 1 6 / getr0 / builtin_b 1 0 / retnil / \
+const METHODS: &str =
+    "show: / method 1 0 4 0 / getarg1 0 / builtin_a 1 6 / getr0 / builtin_b 1 0 / retnil / \
                        save: / method 0 0 4 0 / builtin_a 0 13 / ret / back: / method 0 0 4 0 / builtin_a 0 14 / ret / \
                        undoes: / method 128 0 4 0 / builtin_a 0 14 / getargc / jf @undone / getpropself 3 / undone: / retnil / \
                        saves: / method 0 0 4 0 / pushint8 4 / setpropself 4 / builtin_a 0 13 / pushint8 5 / setpropself 4 / \

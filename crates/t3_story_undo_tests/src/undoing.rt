@@ -6,10 +6,7 @@ use t3_testing::Row;
 /// What the functions answer, and how many arguments they take.
 const ANSWERS: [Row; 8] = [
     // No savepoint is held.
-    (
-        "builtin_a 0 14 / getr0 / call 1 @show / retnil",
-        "nil\n",
-    ),
+    ("builtin_a 0 14 / getr0 / call 1 @show / retnil", "nil\n"),
     // A savepoint answers nil, and its undo true, after which none is held.
     (
         "pushtrue / builtin_a 1 6 / builtin_a 0 13 / getr0 / call 1 @show / builtin_a 0 14 / getr0 / call 1 @show / builtin_a 0 14 / getr0 / call 1 @show / retnil",
