@@ -5,8 +5,7 @@ use Rattle.std.proofs.Math.Seq.{take-add}
 use Rattle.std.proofs.lemmas.Option.{same_Some, none-some}
 use Rattle.t3_undo.specs.declared.cell.Cell.TheVariants.{Elem}
 use Rattle.t3_store.specs.Value.{Value, Tads, Text, Items, Vector, Table, holder_at}
-use Rattle.t3_ops.specs.Inner.Outcomes.{vector_items}
-use Rattle.t3_ops.specs.Elements.{IsVectorOf}
+use Rattle.t3_ops.specs.Elements.{vector_items, IsVectorOf}
 
 -- a vector has so many elements, and an element of each number
 pub vector-length : (value : Option Value) (count : ℕ) → IsVectorOf value count → length (vector_items value) ≡ count

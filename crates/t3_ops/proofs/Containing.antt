@@ -5,10 +5,9 @@ use Rattle.t3_holder.specs.declared.holder.Holder.{Holder}
 use Rattle.t3_undo.specs.declared.cell.Cell.TheVariants.{Key as KeyCell, Default}
 use Rattle.t3_undo.specs.declared.key.Key.{Key}
 use Rattle.t3_store.specs.Value.{Value, Tads, Text, Items, Vector, Table, items_in, length_of, holder_at, value_under}
-use Rattle.t3_ops.specs.Containers.{OfElements, OfEntries, NoContainer, object_container}
-use Rattle.t3_ops.specs.Inner.Outcomes.{vector_items}
-use Rattle.t3_ops.specs.Elements.{IsVectorOf}
-use Rattle.t3_ops.specs.Inner.Containers.{table_pairs, IsTableWith}
+use Rattle.t3_ops.specs.Containers.{OfElements, OfEntries, NoContainer, object_container, table_pairs}
+use Rattle.t3_ops.specs.Elements.{vector_items, IsVectorOf}
+use Rattle.t3_ops.specs.Inner.Containers.{IsTableWith}
 
 -- the items of a list are its elements
 pub container-items : (value : Option Value) (items : List Holder) → Some items ≡ option_and_then items_in value

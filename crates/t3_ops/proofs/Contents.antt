@@ -17,7 +17,7 @@ use Rattle.t3_ops.specs.declared.values.TextBytes.{TextBytes}
 use Rattle.t3_ops.specs.declared.values.TextBytes.TheVariants as texts
 use Rattle.t3_ops.specs.declared.values.ListItems.{ListItems}
 use Rattle.t3_ops.specs.declared.values.ListItems.TheVariants as lists
-use Rattle.t3_ops.specs.Inner.Values.{text_of, list_of, bytes_of, IsTextBytes, elements_of, IsListItems, IsPrefixOf}
+use Rattle.t3_ops.specs.References.{text_of, list_of, bytes_of, IsTextBytes, elements_of, IsListItems, IsPrefixOf}
 use Rattle.t3_ops.proofs.Reading.{text-found, list-found, option_element, length-option, element-past, length-text, piece-first}
 
 -- ---- what was read

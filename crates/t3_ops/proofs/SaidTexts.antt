@@ -6,7 +6,7 @@ use Rattle.t3_holder.specs.declared.holder.Holder.{Holder}
 use Rattle.t3_pools.specs.Pool.{Pool}
 use Rattle.t3_store.specs.Store.{StoreValue}
 use Rattle.t3_ops.specs.Saying.{joined_text_forms, read_text_form}
-use Rattle.t3_ops.specs.Inner.Outcomes.{Appends}
+use Rattle.t3_ops.specs.References.{Appends}
 
 -- a text form more stands before the rest
 before-rest : (before form after : List ℕ) (rest : Option (List ℕ)) → after ≡ before ++ form

@@ -9,7 +9,7 @@ use Rattle.t3_holder.specs.declared.holder.Holder.TheVariants as holders
 use Rattle.t3_ops.specs.Values.{TextOrList, OfText, OfList, Neither, text_or_list_of, same_holder}
 use Rattle.t3_ops.specs.Equality.{Comparison, Same, Different, Unreadable, Inside, Pairs, comparison_of, comparison_by, same_or_different, walk_after, walk}
 use Rattle.t3_ops.specs.declared.equality.Level.{Level}
-use Rattle.t3_ops.specs.Inner.Values.{is_plain}
+use Rattle.t3_ops.specs.References.{is_plain}
 use Rattle.t3_ops.specs.Inner.Walk.{pairs_of, IsLevel}
 
 -- the pairs that are left of several levels, the last of which is the innermost and comes first

@@ -1,12 +1,21 @@
--- Writes to one object, one after the other, and those by which an element of a vector is set.
+-- The elements of a vector, writes to one object, one after the other, and those by which an element of a vector is set.
 use Rattle.std.specs.Prelude.{◌≡◌, ◌<◌, ℕ, zero, suc, ◌+◌, ◌-◌, Bool, true, false, List, [], ◌∷◌, ◌++◌, length, take, Option, Some, None}
 use Rattle.std.specs.Option.{option_and_then}
 use Rattle.t3_holder.specs.declared.holder.Holder.{Holder}
 use Rattle.t3_holder.specs.declared.holder.Holder.TheVariants.{Nil}
 use Rattle.t3_undo.specs.declared.cell.Cell.{Cell}
 use Rattle.t3_undo.specs.declared.cell.Cell.TheVariants.{Elem}
-use Rattle.t3_store.specs.Value.{Value, length_of}
+use Rattle.t3_store.specs.Value.{Value, Tads, Text, Items, Vector, Table, length_of}
 use Rattle.t3_store.specs.Store.{StoreValue, written}
+
+-- the elements of a vector
+abbrev pub vector_items : Option Value → List Holder
+vector_items (Some (Vector items)) = items
+vector_items (Some (Tads supers class props)) = []
+vector_items (Some (Text bytes)) = []
+vector_items (Some (Items items)) = []
+vector_items (Some (Table pairs default)) = []
+vector_items None = []
 
 -- a vector with that count of elements
 abbrev pub IsVectorOf : Option Value → ℕ → Type 0

@@ -2,6 +2,7 @@ pub mod Faults
 pub mod Arithmetic
 pub mod Truth
 pub mod Values
+pub mod References
 pub mod Equality
 pub mod Order
 pub mod Making

@@ -3,8 +3,8 @@ ghost use Rattle.std.specs.Prelude.{◌≡◌, [], ◌∷◌, IfOk, option_map, 
 ghost use Rattle.t3_ops.specs.Values.{integer, kind_fault};
 ghost use Rattle.t3_ops.specs.Making.{IsCarriedOut};
 ghost use Rattle.t3_ops.specs.Adding.{sum_of, number_sum, joined_texts_of, text_sum, list_sum, word_of, text_form_of, added_elements};
-ghost use Rattle.t3_ops.specs.Inner.Values.{text_of, list_of};
-ghost use Rattle.t3_ops.specs.Inner.Outcomes.{made_of, CanBeMade, Appends};
+ghost use Rattle.t3_ops.specs.References.{text_of, list_of, Appends};
+ghost use Rattle.t3_ops.specs.Inner.Outcomes.{made_of, CanBeMade};
 
 use crate::arithmetic::{ArithOp, arith};
 use crate::containers::{ContainerRef, container_of};

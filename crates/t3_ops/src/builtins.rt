@@ -6,7 +6,7 @@ ghost use Rattle.t3_ops.specs.Making.{IsCarriedOut};
 ghost use Rattle.t3_ops.specs.Adding.{integer_value};
 ghost use Rattle.t3_ops.specs.Arithmetic.{number};
 ghost use Rattle.t3_ops.specs.Builtins.{pure_at, pure_builtin_of, counted_result, row_of, takes, data_type_of, text_copy_of, to_string_of, to_integer_of, plain_integer_of, text_integer_of, leading_number_of, after_spaces};
-ghost use Rattle.t3_ops.specs.Inner.Values.{text_of};
+ghost use Rattle.t3_ops.specs.References.{text_of};
 ghost use Rattle.t3_ops.specs.Inner.Outcomes.{made_of, CanBeMade};
 
 use crate::adding::word;

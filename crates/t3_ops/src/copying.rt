@@ -1,8 +1,7 @@
 //! Copies of what stands in texts, lists and vectors.
 ghost use Rattle.std.specs.Prelude.{◌≡◌, ◌++◌, IfOk, OnOk, option_map};
-ghost use Rattle.t3_ops.specs.Inner.Values.{list_of, text_of, bytes_of, elements_of, IsTextBytes, IsListItems};
-ghost use Rattle.t3_ops.specs.Inner.Outcomes.{Appends, vector_items};
-ghost use Rattle.t3_ops.specs.Elements.{IsVectorOf};
+ghost use Rattle.t3_ops.specs.References.{list_of, text_of, bytes_of, elements_of, IsTextBytes, IsListItems, Appends};
+ghost use Rattle.t3_ops.specs.Elements.{vector_items, IsVectorOf};
 
 use crate::containers::element;
 use crate::values::{ListItems, ListRef, TextBytes, TextRef};
@@ -12,7 +11,7 @@ use t3_pools::Pools;
 use t3_store::ObjectAt;
 
 /// The bytes of a text. `None` exactly where it is a constant that can't be read.
-pub(crate) fn text_bytes(
+pub fn text_bytes(
     alloc: Global,
     text: TextRef<'_>,
     pools: &Pools,
@@ -50,7 +49,7 @@ pub(crate) fn append_text(
 }
 
 /// Appends the elements of a list. Answers whether it could be read.
-pub(crate) fn append_list(
+pub fn append_list(
     list: ListRef<'_>,
     pools: &Pools,
     items: &mut Vec<Holder>,
@@ -90,7 +89,7 @@ fn append_elements(
 }
 
 /// Appends the elements of a vector of so many.
-pub(crate) fn append_vector(
+pub fn append_vector(
     vector: &ObjectAt<'_>,
     length: u32,
     items: &mut Vec<Holder>,

@@ -4,7 +4,7 @@ ghost use Rattle.std.specs.Prelude.{◌≡◌, IfOk, replicate};
 ghost use Rattle.t3_ops.specs.Values.{integer};
 ghost use Rattle.t3_ops.specs.Making.{CanBeCreated, value_of_new, when_read, fitting_text_of, fitting_vector_of};
 ghost use Rattle.t3_ops.specs.Creating.{new_string_of, new_list_of, new_table_of, new_vector_of, table_of_two, vector_by, filling_of, filled_vector};
-ghost use Rattle.t3_ops.specs.Inner.Values.{text_of, list_of};
+ghost use Rattle.t3_ops.specs.References.{text_of, list_of};
 ghost use Rattle.t3_ops.specs.Inner.Containers.{HasArguments, IsFilling, IsFillingRef, filling_by};
 
 use crate::containers::{ContainerRef, container_of};

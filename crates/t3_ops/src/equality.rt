@@ -2,7 +2,7 @@
 ghost use Rattle.std.specs.Prelude.{◌≡◌, ◌<◌, nat_eq};
 ghost use Rattle.std.specs.Cmp.Lexicographic.{pointwise};
 ghost use Rattle.t3_ops.specs.Equality.{AnswersEqual, equal_of, comparison_of, texts_comparison, lists_comparison, walk};
-ghost use Rattle.t3_ops.specs.Inner.Values.{bytes_of, text_of, list_of, IsTextBytes};
+ghost use Rattle.t3_ops.specs.References.{bytes_of, text_of, list_of, IsTextBytes};
 ghost use Rattle.t3_ops.specs.Inner.Walk.{pairs_of, IsLevel, TakesPair, comparison_from, HasLevel};
 
 use crate::fault::Fault;

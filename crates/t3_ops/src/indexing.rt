@@ -5,10 +5,11 @@ ghost use Rattle.t3_ops.specs.Values.{integer};
 ghost use Rattle.t3_ops.specs.Keys.{key_of};
 ghost use Rattle.t3_ops.specs.Making.{IsCarriedOut, when_read, when_in_range};
 ghost use Rattle.t3_ops.specs.Indexing.{index_of, element_index_of, element_by, entry_by, list_set, list_with_element_of, vector_index_of};
-ghost use Rattle.t3_ops.specs.Inner.Values.{list_of};
-ghost use Rattle.t3_ops.specs.Inner.Outcomes.{made_of, vector_items, CanBeMade};
-ghost use Rattle.t3_ops.specs.Elements.{IsVectorOf};
-ghost use Rattle.t3_ops.specs.Inner.Containers.{table_pairs, IsTableWith};
+ghost use Rattle.t3_ops.specs.References.{list_of};
+ghost use Rattle.t3_ops.specs.Inner.Outcomes.{made_of, CanBeMade};
+ghost use Rattle.t3_ops.specs.Elements.{vector_items, IsVectorOf};
+ghost use Rattle.t3_ops.specs.Inner.Containers.{IsTableWith};
+ghost use Rattle.t3_ops.specs.Containers.{table_pairs};
 
 use crate::containers::{ContainerRef, container_of, element};
 use crate::copying::append_list;

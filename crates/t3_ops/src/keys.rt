@@ -2,7 +2,7 @@
 ghost use Rattle.std.specs.Prelude.{◌≡◌, IfOk};
 ghost use Rattle.t3_ops.specs.Keys.{key_of, plain_key_of};
 ghost use Rattle.t3_ops.specs.Making.{when_read};
-ghost use Rattle.t3_ops.specs.Inner.Values.{text_of};
+ghost use Rattle.t3_ops.specs.References.{text_of};
 
 use crate::copying::text_bytes;
 use crate::fault::Fault;

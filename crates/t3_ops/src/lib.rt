@@ -33,6 +33,7 @@ mod values;
 pub use adding::sum;
 pub use arithmetic::{ArithOp, arith};
 pub use builtins::{PureBuiltin, pure_at, pure_builtin};
+pub use copying::{append_list, append_vector, text_bytes};
 pub use creating::{new_list, new_string, new_table, new_vector};
 pub use elements::set_element;
 pub use equality::{EqualRefusal, equal};
@@ -40,7 +41,9 @@ pub use fault::Fault;
 pub use indexing::{index, list_with_element, vector_index};
 pub use keys::key;
 pub use ordering::{kind_fault, order};
-pub use outcome::OpRefusal;
+pub use outcome::{OpRefusal, count, fitting_list, fitting_text};
 pub use saying::said_text;
 pub use truth_value::truth;
-pub use values::same_holder;
+pub use values::{
+    ListItems, ListRef, TextBytes, TextOrListRef, TextRef, same_holder, text_or_list,
+};

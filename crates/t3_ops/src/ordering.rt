@@ -4,7 +4,7 @@ ghost use Rattle.std.specs.Ordering.{nat_cmp};
 ghost use Rattle.std.specs.Cmp.Lexicographic.{slice_cmp};
 ghost use Rattle.t3_ops.specs.Order.{order_of, texts_order, bytes_order};
 ghost use Rattle.t3_ops.specs.Values.{kind_fault as kind_fault_of, is_stale as is_stale_in, text_or_list_of};
-ghost use Rattle.t3_ops.specs.Inner.Values.{bytes_of, text_of, IsTextBytes};
+ghost use Rattle.t3_ops.specs.References.{bytes_of, text_of, IsTextBytes};
 
 use crate::fault::Fault;
 use crate::values::{TextBytes, TextOrListRef, TextRef, text_or_list};

@@ -78,7 +78,7 @@ pub(crate) fn carry_out(outcome: Outcome, store: &mut Store) -> Result<Holder, O
 }
 
 /// A new string of these bytes. `TextLong` where they are too many.
-pub(crate) fn fitting_text(bytes: Vec<u8>) -> Result<NewObject, Fault>
+pub fn fitting_text(bytes: Vec<u8>) -> Result<NewObject, Fault>
     ensures made { value_of_new result ≡ fitting_text_of bytes.items }
     ensures can { IfOk result CanBeCreated }
 {
@@ -89,7 +89,7 @@ pub(crate) fn fitting_text(bytes: Vec<u8>) -> Result<NewObject, Fault>
 }
 
 /// A new list of these items. `ListLong` where they are too many.
-pub(crate) fn fitting_list(items: Vec<Holder>) -> Result<NewObject, Fault>
+pub fn fitting_list(items: Vec<Holder>) -> Result<NewObject, Fault>
     ensures made { value_of_new result ≡ fitting_list_of items.items }
     ensures can { IfOk result CanBeCreated }
 {
@@ -111,7 +111,7 @@ pub(crate) fn fitting_vector(items: Vec<Holder>) -> Result<NewObject, Fault>
 }
 
 /// A count of bytes, elements or copies. `None` where it isn't from 0 to 65,535.
-pub(crate) fn count(number: i32) -> Option<u16>
+pub fn count(number: i32) -> Option<u16>
     ensures { result ≡ count_of number }
 {
     if (0..65_536).contains(&number) {

@@ -3,8 +3,7 @@ ghost use Rattle.std.specs.Prelude.{◌≡◌, [], IfOk, option_map};
 ghost use Rattle.std.specs.List.{list_all};
 ghost use Rattle.t3_ops.specs.Adding.{word_of};
 ghost use Rattle.t3_ops.specs.Saying.{has_text_form, joined_text_forms, read_text_form, said_text_of};
-ghost use Rattle.t3_ops.specs.Inner.Outcomes.{Appends};
-ghost use Rattle.t3_ops.specs.Inner.Values.{text_of};
+ghost use Rattle.t3_ops.specs.References.{Appends, text_of};
 
 use crate::copying::append_text;
 use crate::fault::Fault;

@@ -2,7 +2,7 @@
 ghost use Rattle.std.specs.Prelude.{◌≡◌, ◌||◌, ◌+◌, ◌<◌, ◌≤◌, ◌^◌, [], length, drop, option_map, IfSome};
 ghost use Rattle.std.specs.List.{slice_get};
 ghost use Rattle.t3_ops.specs.Values.{text_or_list_of, object_text_or_list, same_holder};
-ghost use Rattle.t3_ops.specs.Inner.Values.{is_plain, text_of, list_of, text_or_list_by, bytes_of, elements_of, IsTextBytes, IsListItems, IsPrefixOf};
+ghost use Rattle.t3_ops.specs.References.{is_plain, text_of, list_of, text_or_list_by, bytes_of, elements_of, IsTextBytes, IsListItems, IsPrefixOf};
 
 use t3_holder::Holder;
 use t3_pools::Pools;
@@ -16,7 +16,7 @@ const HOLDER_SIZE: u32 = 5;
 
 /// A text. A constant isn't read yet.
 #[derive(Clone, Copy)]
-pub(crate) enum TextRef<'o> {
+pub enum TextRef<'o> {
     /// At an address of the constants.
     Constant(u32),
     Live(&'o [u8]),
@@ -24,7 +24,7 @@ pub(crate) enum TextRef<'o> {
 
 /// A list. A constant isn't read yet.
 #[derive(Clone, Copy)]
-pub(crate) enum ListRef<'o> {
+pub enum ListRef<'o> {
     /// At an address of the constants.
     Constant(u32),
     Live(&'o [Holder]),
@@ -32,7 +32,7 @@ pub(crate) enum ListRef<'o> {
 
 /// A value that is a text or a list, or neither.
 #[derive(Clone, Copy)]
-pub(crate) enum TextOrListRef<'o> {
+pub enum TextOrListRef<'o> {
     Text(TextRef<'o>),
     List(ListRef<'o>),
     Neither,
@@ -40,7 +40,7 @@ pub(crate) enum TextOrListRef<'o> {
 
 /// The bytes of a text, all of which are there.
 #[derive(Clone, Copy)]
-pub(crate) enum TextBytes<'o> {
+pub enum TextBytes<'o> {
     /// From an address of the constants on, and their count.
     Constant(u32, u16),
     Live(&'o [u8]),
@@ -48,14 +48,14 @@ pub(crate) enum TextBytes<'o> {
 
 /// The elements of a list, all of which are there.
 #[derive(Clone, Copy)]
-pub(crate) enum ListItems<'o> {
+pub enum ListItems<'o> {
     /// From an address of the constants on, and their count.
     Constant(u32, u16),
     Live(&'o [Holder]),
 }
 
 /// Whether a value is a text or a list. No constant is read.
-pub(crate) fn text_or_list<'o>(
+pub fn text_or_list<'o>(
     store: &'o Store,
     pools: &'o Pools,
     value: Holder,
@@ -87,7 +87,7 @@ fn object_text_or_list<'o>(object: &ObjectAt<'o>, pools: &'o Pools) -> TextOrLis
 
 impl<'o> TextRef<'o> {
     /// Its bytes. `None` exactly where it is a constant that can't be read.
-    pub(crate) fn read(self, pools: &Pools) -> Option<TextBytes<'o>>
+    pub fn read(self, pools: &Pools) -> Option<TextBytes<'o>>
         ensures text { option_map (bytes_of pools.now.constants) result
             ≡ text_of pools.now.constants self.entry }
         ensures stands { IfSome result (IsTextBytes pools.now.constants) }
@@ -104,7 +104,7 @@ impl<'o> TextRef<'o> {
 
 impl<'o> ListRef<'o> {
     /// Its elements. `None` exactly where it is a constant that can't be read.
-    pub(crate) fn read(self, pools: &Pools) -> Option<ListItems<'o>>
+    pub fn read(self, pools: &Pools) -> Option<ListItems<'o>>
         ensures list { option_map (elements_of pools.now.constants) result
             ≡ list_of pools.now.constants self.entry }
         ensures stands { IfSome result (IsListItems pools.now.constants) }
@@ -144,7 +144,7 @@ impl<'o> TextBytes<'o> {
 
 impl<'o> ListItems<'o> {
     /// How many elements there are.
-    pub(crate) fn len(self, pools: &Pools) -> usize
+    pub fn len(self, pools: &Pools) -> usize
         requires { IsListItems pools.now.constants self }
         ensures { result ≡ length (elements_of pools.now.constants self.entry) }
     {
@@ -156,7 +156,7 @@ impl<'o> ListItems<'o> {
     }
 
     /// The element of an index, from 0 on.
-    pub(crate) fn element(self, pools: &Pools, index: usize) -> Option<Holder>
+    pub fn element(self, pools: &Pools, index: usize) -> Option<Holder>
         requires { IsListItems pools.now.constants self }
         ensures element { result ≡ slice_get (elements_of pools.now.constants self.entry) index }
         ensures fits { IfSome result (λ _. index + 1 < 2 ^ 64) }

@@ -1,5 +1,5 @@
 -- What a change of an object's parts does to its value, for each kind.
-use Rattle.std.proofs.Common.{◌≡◌, ◌∙◌, ap, sym, refl, ℕ, ◌+◌, length, true, cond, not, List, Option, None, Some, IsTrue, IsSome, is_some, true≢false, arith}
+use Rattle.std.proofs.Common.{◌≡◌, ◌∙◌, ap, sym, refl, ℕ, ◌+◌, ◌≤◌, length, true, cond, not, List, Option, None, Some, IfSome, IsTrue, IsSome, is_some, true≢false, arith}
 use Rattle.std.specs.Option.{option_map}
 use Rattle.std.specs.FinMap.{get, empty, get-empty}
 use Rattle.std.specs.FinSet as set
@@ -15,7 +15,7 @@ use Rattle.t3_lists.proofs.Items.{items-filled}
 use Rattle.t3_tables.specs.Table.{above}
 use Rattle.t3_tables.specs.declared.table.Table as tables
 use Rattle.t3_tables.proofs.TableLists.{distinct-entries_of}
-use Rattle.t3_store.specs.Value.{Value, Tads, Text, Items, Vector, Table, units_of, cell_units, holder_in, with_cell, without_cell, can_have, can_lose, element_at, with_element, without_element, is_element_for, is_last}
+use Rattle.t3_store.specs.Value.{Value, Tads, Text, Items, Vector, Table, length_of, units_of, cell_units, holder_in, with_cell, without_cell, can_have, can_lose, element_at, with_element, without_element, is_element_for, is_last}
 use Rattle.t3_store.specs.Inner.Shapes.{Shape, TadsShape, TextShape, ItemsShape, VectorShape, TableShape, thing_of, places_of, value_of, tick_behind}
 use Rattle.t3_store.specs.declared.object.Object.{Object}
 use Rattle.t3_store.specs.declared.object.Object.TheVariants as objects
@@ -37,6 +37,16 @@ pub held-vector : (parts : Parts) (cell : Cell) → IsWholeVector parts → valu
 held-vector parts cell whole =
     ap (λ p. value_in (get p cell)) whole.are ∙ held-filled whole.items cell
     ∙ ap (element_at cell) (sym (ap items_of whole.are ∙ items-filled whole.items))
+
+-- how many elements a vector has
+pub few-elements : (thing : Shape × Parts) → IsValid thing → IfSome (length_of (value_of thing)) (λ count. count ≤ 65535)
+few-elements (TadsShape supers class, parts) valid = tt
+few-elements (TextShape bytes, parts) valid = tt
+few-elements (ItemsShape items, parts) valid = tt
+few-elements (VectorShape, parts) whole =
+    let long : length (items_of parts) ≡ length whole.items = ap length (ap items_of whole.are ∙ items-filled whole.items) in
+    omega (arith, long, whole.few)
+few-elements (TableShape, parts) valid = tt
 
 -- a vector with an element set, and with the last one taken away
 items-whole : (parts : Parts) (whole : IsWholeVector parts) → items_of parts ≡ whole.items

@@ -1,5 +1,5 @@
 //! What stands under a number, looked up once.
-ghost use Rattle.std.specs.Prelude.{◌≡◌, Some, IsSome, IfOk, is_some, option_map, option_and_then, map};
+ghost use Rattle.std.specs.Prelude.{◌≡◌, ◌≤◌, Some, IfSome, IsSome, IfOk, is_some, option_map, option_and_then, map};
 ghost use Rattle.std.specs.List.Sorted.{IsStrictlyIncreasing};
 ghost use Rattle.std.specs.FinMap.{entries};
 ghost use Rattle.t3_undo.specs.declared.cell.Cell.TheVariants.{Prop};
@@ -148,7 +148,8 @@ impl<'o> ObjectAt<'o> {
 
     /// How many elements a vector has. `None` exactly where it isn't one.
     pub fn length(&self) -> Option<u32>
-        ensures { result ≡ option_and_then length_of self.now }
+        ensures length { result ≡ option_and_then length_of self.now }
+        ensures few { IfSome result (λ count. count ≤ 65535) }
     {
         match self.object {
             Some(object) => object.length(),

@@ -1,10 +1,9 @@
 -- Where the code finds the elements and entries of containers, and with how many arguments an object is made.
 use Rattle.std.specs.Prelude.{◌≡◌, List, [], ◌∷◌, Option, Some, None, Result, Ok, Err}
 use Rattle.t3_holder.specs.declared.holder.Holder.{Holder}
-use Rattle.t3_tables.specs.declared.pair.Pair.{Pair}
 use Rattle.t3_pools.specs.Pool.{Pool}
 use Rattle.t3_undo.specs.declared.cell.Cell.TheVariants.{Default}
-use Rattle.t3_store.specs.Value.{Value, Tads, Text, Items, Vector, Table, holder_at}
+use Rattle.t3_store.specs.Value.{Value, holder_at}
 use Rattle.t3_ops.specs.declared.containers.ContainerRef.{ContainerRef}
 use Rattle.t3_ops.specs.declared.containers.ContainerRef.TheVariants as containers
 use Rattle.t3_ops.specs.declared.creating.Arguments.{Arguments}
@@ -12,20 +11,10 @@ use Rattle.t3_ops.specs.declared.creating.Arguments.TheVariants as arguments
 use Rattle.t3_ops.specs.declared.creating.FillingRef.{FillingRef}
 use Rattle.t3_ops.specs.declared.creating.FillingRef.TheVariants as fillings
 use Rattle.t3_ops.specs.declared.fault.Fault.{Fault}
-use Rattle.t3_ops.specs.Containers.{Container, OfElements, OfEntries, NoContainer}
+use Rattle.t3_ops.specs.Containers.{Container, OfElements, OfEntries, NoContainer, table_pairs}
 use Rattle.t3_ops.specs.Creating.{Filling, Nils, Elements}
-use Rattle.t3_ops.specs.Inner.Values.{list_of}
-use Rattle.t3_ops.specs.Inner.Outcomes.{vector_items}
-use Rattle.t3_ops.specs.Elements.{IsVectorOf}
-
--- the entries of a table
-abbrev pub table_pairs : Option Value → List Pair
-table_pairs (Some (Table pairs default)) = pairs
-table_pairs (Some (Tads supers class props)) = []
-table_pairs (Some (Text bytes)) = []
-table_pairs (Some (Items items)) = []
-table_pairs (Some (Vector items)) = []
-table_pairs None = []
+use Rattle.t3_ops.specs.References.{list_of}
+use Rattle.t3_ops.specs.Elements.{vector_items, IsVectorOf}
 
 -- a table with that default: nothing else has one
 abbrev pub IsTableWith : Option Value → Holder → Type 0

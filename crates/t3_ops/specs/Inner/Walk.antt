@@ -7,7 +7,7 @@ use Rattle.t3_ops.specs.declared.equality.Level.{Level}
 use Rattle.t3_ops.specs.declared.equality.PairComparison.{PairComparison}
 use Rattle.t3_ops.specs.declared.equality.PairComparison.TheVariants as compared
 use Rattle.t3_ops.specs.Equality.{Comparison, Same, Different, Unreadable, Inside, Pairs}
-use Rattle.t3_ops.specs.Inner.Values.{elements_of, IsListItems}
+use Rattle.t3_ops.specs.References.{elements_of, IsListItems}
 
 -- the pairs of two lists that are left
 abbrev pub pairs_of : Pool → Level → Pairs

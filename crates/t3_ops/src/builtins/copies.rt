@@ -3,7 +3,7 @@ ghost use Rattle.std.specs.Prelude.{◌≡◌, [], ◌∷◌, option_map, IfOk};
 ghost use Rattle.std.specs.Char.{encode_utf8};
 ghost use Rattle.t3_ops.specs.Values.{integer, kind_fault};
 ghost use Rattle.t3_ops.specs.Builtins.{make_string_of, text_copies_of, character_copies_of, plain_copies_of, copies_of, character_of, copy_count};
-ghost use Rattle.t3_ops.specs.Inner.Values.{text_of};
+ghost use Rattle.t3_ops.specs.References.{text_of};
 ghost use Rattle.t3_ops.specs.Inner.Outcomes.{made_of, CanBeMade};
 
 use crate::copying::text_bytes;

@@ -1,7 +1,7 @@
 use Rattle.std.proofs.Common.{◌≡◌, ℕ, List, [], ◌∷◌, Some, option_map, sym, ap, ◌∙◌, string_bytes}
 use Rattle.t3_ops.specs.Values.{kind_fault}
 use Rattle.t3_ops.specs.Adding.{joined_texts_of, text_sum, text_form_of, word_of}
-use Rattle.t3_ops.specs.Inner.Values.{text_of}
+use Rattle.t3_ops.specs.References.{text_of}
 use Rattle.t3_ops.specs.Inner.Outcomes.{made_of}
 use Rattle.t3_ops.proofs.Appending.{if_ok}
 use Rattle.t3_ops.proofs.TextForms.{text_form-text, text_form-word}

@@ -2,7 +2,7 @@ use Rattle.std.proofs.Common.{◌≡◌, ℕ, codes, List, [], ◌∷◌, Some, 
 use Rattle.t3_ops.specs.Values.{kind_fault}
 use Rattle.t3_ops.specs.Adding.{text_form_of, word_of}
 use Rattle.t3_ops.specs.Builtins.{text_copy_of, string_or, to_string_of}
-use Rattle.t3_ops.specs.Inner.Values.{text_of}
+use Rattle.t3_ops.specs.References.{text_of}
 use Rattle.t3_ops.specs.Inner.Outcomes.{made_of}
 use Rattle.t3_ops.proofs.Appending.{if_ok}
 use Rattle.t3_ops.proofs.TextForms.{text_form-text, text_form-word}

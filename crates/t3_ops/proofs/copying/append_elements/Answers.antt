@@ -1,5 +1,5 @@
 use Rattle.std.proofs.Common.{◌∙◌, arith}
-use Rattle.t3_ops.specs.Inner.Values.{elements_of}
+use Rattle.t3_ops.specs.References.{elements_of}
 use Rattle.t3_ops.proofs.Contents.{get-within, get-past-length}
 use Rattle.t3_ops.proofs.Appending.{append-more, append-all}
 use Rattle.t3_ops.proofs.copying.append_elements.Goals as goal

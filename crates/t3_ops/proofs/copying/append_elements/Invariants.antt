@@ -1,5 +1,5 @@
 use Rattle.std.proofs.Common.{◌≡◌, ◌≤◌, ◌-◌, ◌++◌, take, length}
-use Rattle.t3_ops.specs.Inner.Values.{elements_of}
+use Rattle.t3_ops.specs.References.{elements_of}
 use Rattle.t3_ops.proofs.copying.append_elements.Given as goal
 
 abbrev pub invariant-loop-item : goal.invariant-loop-item

@@ -1,6 +1,6 @@
 use Rattle.std.proofs.Common.{◌∙◌, drop, arith}
 use Rattle.std.proofs.lemmas.List.{length-drop}
-use Rattle.t3_ops.specs.Inner.Values.{bytes_of}
+use Rattle.t3_ops.specs.References.{bytes_of}
 use Rattle.t3_ops.proofs.Fronts.{take_within}
 use Rattle.t3_ops.proofs.Appending.{append-piece}
 use Rattle.t3_ops.proofs.copying.append_text.Goals as goal

@@ -1,5 +1,5 @@
 use Rattle.std.proofs.Common.{◌≡◌, ◌≤◌, ◌-◌, ◌++◌, take, length}
-use Rattle.t3_ops.specs.Inner.Values.{bytes_of}
+use Rattle.t3_ops.specs.References.{bytes_of}
 use Rattle.t3_ops.proofs.copying.append_text.Given as goal
 
 abbrev pub invariant-pieces : goal.invariant-pieces

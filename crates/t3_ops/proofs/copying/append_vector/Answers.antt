@@ -1,5 +1,5 @@
 use Rattle.std.proofs.Common.{◌≤◌, length, ◌∙◌, arith}
-use Rattle.t3_ops.specs.Inner.Outcomes.{vector_items}
+use Rattle.t3_ops.specs.Elements.{vector_items}
 use Rattle.t3_ops.proofs.Appending.{vector-element, vector-none, vector-length, append-more, append-all}
 use Rattle.t3_ops.proofs.copying.append_vector.Goals as goal
 

@@ -1,5 +1,5 @@
 use Rattle.std.proofs.Common.{◌≡◌, ◌++◌, take}
-use Rattle.t3_ops.specs.Inner.Outcomes.{vector_items}
+use Rattle.t3_ops.specs.Elements.{vector_items}
 use Rattle.t3_ops.proofs.copying.append_vector.Given as goal
 
 abbrev pub invariant-loop-index : goal.invariant-loop-index

@@ -1,7 +1,7 @@
 use Rattle.std.proofs.Common.{◌∙◌, sym, ap}
 use Rattle.std.specs.Ordering.{is_eq}
 use Rattle.std.specs.Cmp.Lexicographic.{texts_ties}
-use Rattle.t3_ops.specs.Inner.Values.{bytes_of}
+use Rattle.t3_ops.specs.References.{bytes_of}
 use Rattle.t3_ops.proofs.Fronts.{apart-eq}
 use Rattle.t3_ops.proofs.equality.same_bytes.Goals as goal
 

@@ -1,5 +1,5 @@
 use Rattle.std.proofs.Common.{◌∙◌, arith}
-use Rattle.t3_ops.specs.Inner.Values.{bytes_of}
+use Rattle.t3_ops.specs.References.{bytes_of}
 use Rattle.t3_ops.proofs.Fronts.{pieces-end, pieces-apart, pieces-alike}
 use Rattle.t3_ops.proofs.ordering.order_of_bytes.Goals as goal
 

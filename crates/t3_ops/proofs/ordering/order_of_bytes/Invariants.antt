@@ -1,5 +1,5 @@
 use Rattle.std.proofs.Common.{◌-◌, length}
-use Rattle.t3_ops.specs.Inner.Values.{bytes_of}
+use Rattle.t3_ops.specs.References.{bytes_of}
 use Rattle.t3_ops.proofs.Fronts.{AreAlike}
 use Rattle.t3_ops.proofs.ordering.order_of_bytes.Given as goal
 

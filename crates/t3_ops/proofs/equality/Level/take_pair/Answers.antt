@@ -1,6 +1,6 @@
 use Rattle.std.proofs.Common.{Option, sym, subst}
 use Rattle.t3_holder.specs.declared.holder.Holder.{Holder}
-use Rattle.t3_ops.specs.Inner.Values.{elements_of}
+use Rattle.t3_ops.specs.References.{elements_of}
 use Rattle.t3_ops.specs.Inner.Walk.{pairs_of, TakesPair}
 use Rattle.t3_ops.proofs.Contents.{pairs-more, pairs-left, pairs-right}
 use Rattle.t3_ops.proofs.equality.Level.take_pair.Goals as goal

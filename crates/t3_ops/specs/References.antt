@@ -1,6 +1,6 @@
 -- The texts and lists that functions hand to each other: first by where they are, and then, once a constant was read, with bytes
 -- and elements that are known to be there.
-use Rattle.std.specs.Prelude.{◌≡◌, ℕ, Bool, true, false, ◌+◌, ◌*◌, ◌^◌, ◌<◌, List, [], take, length, Option, Some, unwrap_or, IsSome}
+use Rattle.std.specs.Prelude.{◌≡◌, ℕ, Bool, true, false, ◌+◌, ◌*◌, ◌^◌, ◌<◌, List, [], ◌++◌, take, length, Option, Some, None, unwrap_or, IsSome}
 use Rattle.t3_holder.specs.declared.holder.Holder.{Holder}
 use Rattle.t3_holder.specs.declared.holder.Holder.TheVariants as holders
 use Rattle.t3_pools.specs.Pool.{Pool}
@@ -64,3 +64,10 @@ IsListItems constants (lists.Live items) = Unit {0}
 -- these are the first of those
 abbrev pub IsPrefixOf : List ℕ → List ℕ → Type 0
 IsPrefixOf xs ys = xs ≡ take (length xs) ys
+
+-- ---- copies
+
+-- the items were appended, and the answer is true; or they can't be read, and it is false
+abbrev pub Appends : {A : Type 0} → List A → Option (List A) → Bool → List A → Type 0
+Appends old None read new = read ≡ false
+Appends old (Some items) read new = (read ≡ true) × (new ≡ old ++ items)
