@@ -1,0 +1,7 @@
+use Rattle.std.proofs.Common.{◌≡◌, drop}
+use Rattle.std.specs.List.{list_any}
+use Rattle.t3_kinds.specs.TadsMethods.{is_transient}
+use Rattle.t3_kinds.proofs.tads.has_transient.Given as goal
+
+abbrev pub invariant-loop-number : goal.invariant-loop-number
+invariant-loop-number l = list_any (is_transient l.store.store) (drop l.number-index l.supers) ≡ list_any (is_transient l.store.store) l.supers

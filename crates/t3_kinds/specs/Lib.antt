@@ -1,0 +1,11 @@
+pub mod Changes
+pub mod Deeds
+pub mod Search
+pub mod RootMethods
+pub mod TadsMethods
+pub mod TextMethods
+pub mod ListMethods
+pub mod VectorMethods
+pub mod TableMethods
+pub mod Methods
+pub mod Inner
