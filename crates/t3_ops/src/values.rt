@@ -55,11 +55,7 @@ pub enum ListItems<'o> {
 }
 
 /// Whether a value is a text or a list. No constant is read.
-pub fn text_or_list<'o>(
-    store: &'o Store,
-    pools: &'o Pools,
-    value: Holder,
-) -> TextOrListRef<'o>
+pub fn text_or_list<'o>(store: &'o Store, pools: &'o Pools, value: Holder) -> TextOrListRef<'o>
     ensures { text_or_list_by pools.now.constants result
         ≡ text_or_list_of pools.now.constants store.now.store value }
 {
