@@ -4,12 +4,6 @@
 #[cfg(test)]
 mod cave;
 #[cfg(test)]
-mod drawn;
-#[cfg(test)]
-mod limits;
-#[cfg(test)]
-mod plain;
-#[cfg(test)]
 mod story;
 #[cfg(test)]
 mod undoing;
