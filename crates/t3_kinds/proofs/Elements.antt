@@ -169,7 +169,7 @@ some-length object first items change =
 
 -- those by which a vector gets a length
 pub resizing : (object long wanted : ℕ) (s : StoreValue) → IsVectorOf (value_at s object) long → long ≤ 65535 → wanted ≤ 65535
-    → CanAllBeDone (length_changes object long wanted) s × (length (length_changes object long wanted) ≤ 2 ^ 17)
+    → CanAllBeDone (length_changes object long wanted) s × (length (length_changes object long wanted) < 2 ^ 17)
 resizing object long wanted s is few fits = by (nat_lt long wanted) refl
   where
     nils : List Change
@@ -177,7 +177,7 @@ resizing object long wanted s is few fits = by (nat_lt long wanted) refl
 
     by : (b : Bool) → nat_lt long wanted ≡ b
         → CanAllBeDone (cond b nils (elements_taken object long (long - wanted))) s
-        × (length (cond b nils (elements_taken object long (long - wanted))) ≤ 2 ^ 17)
+        × (length (cond b nils (elements_taken object long (long - wanted))) < 2 ^ 17)
     by true more =
         let less = ltb-true long wanted more in
         let count = length-replicate (wanted - long) Nil in
@@ -192,7 +192,7 @@ resizing object long wanted s is few fits = by (nat_lt long wanted) refl
 -- those by which an element is removed
 pub removing : (object long index : ℕ) (items : List Holder) (s : StoreValue) → IsVectorOf (value_at s object) long → length items ≡ long
     → long ≤ 65535 → index < long
-    → CanAllBeDone (removing_changes object items index) s × (length (removing_changes object items index) ≤ 2 ^ 17)
+    → CanAllBeDone (removing_changes object items index) s × (length (removing_changes object items index) < 2 ^ 17)
 removing object long index items s is same few within =
     let rest = drop (index + 1) items in
     let last = Sets object (Elem (length items)) None in

@@ -1,5 +1,5 @@
 -- The strings and the values of keys, as far as a walk over entries has come.
-use Rattle.std.proofs.Common.{◌≡◌, ℕ, suc, ◌≤◌, Bool, true, false, List, [], ◌∷◌, ◌++◌, length, Option, Some, None, length-append, ◌^◌, refl, ap, ◌∙◌, arith}
+use Rattle.std.proofs.Common.{◌≡◌, ℕ, suc, ◌<◌, ◌≤◌, Bool, true, false, List, [], ◌∷◌, ◌++◌, length, Option, Some, None, length-append, ◌^◌, refl, ap, ◌∙◌, arith}
 use Rattle.std.specs.Prelude.{IfSome, ◌&&◌}
 use Rattle.std.proofs.lemmas.Bool.{leb-true, false≢true}
 use Rattle.t3_holder.specs.declared.holder.Holder.{Holder}
@@ -86,7 +86,7 @@ one-can change s can = (can, each (changed_by change s))
 -- the strings, and then the list
 pub listing : (pairs : List Pair) (next : ℕ) (s : StoreValue) → length pairs ≤ 65535 → have_fitting_texts pairs ≡ true
     → CanAllBeDone (key_strings pairs ++ Makes (Items (key_values next pairs)) ∷ []) s
-    × (length (key_strings pairs ++ Makes (Items (key_values next pairs)) ∷ []) ≤ 2 ^ 17)
+    × (length (key_strings pairs ++ Makes (Items (key_values next pairs)) ∷ []) < 2 ^ 17)
 listing pairs next s few fit =
     let list = Makes (Items (key_values next pairs)) in
     let long = length-key_values next pairs in

@@ -26,10 +26,10 @@ mod tads;
 mod texts;
 mod vectors;
 
-pub use law::character_law;
+pub use law::{character_law, search_order};
 pub use listed::listed_method;
 pub use methods::{
     ListMethod, Method, Methods, RootMethod, TableMethod, TadsMethod, TextMethod, VectorMethod,
     is_listed, method_at,
 };
-pub use search::{Found, find_property, order};
+pub use search::{Found, find_property, first_with, order};

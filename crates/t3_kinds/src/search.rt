@@ -100,7 +100,7 @@ pub fn order(alloc: Global, store: &Store, number: u32) -> Result<Vec<u32>, NoMe
 }
 
 /// The first of these objects that has a property.
-fn first_with(store: &Store, numbers: &[u32], property: u16) -> Option<Found>
+pub fn first_with(store: &Store, numbers: &[u32], property: u16) -> Option<Found>
     ensures { found_value result ≡ searched store.now.store property numbers.now }
 {
     for number in numbers {

@@ -1,5 +1,5 @@
 -- What the code's deeds are, and what a store needs to carry them out, however much room it has.
-use Rattle.std.specs.Prelude.{◌≡◌, ◌≤◌, ◌^◌, ℕ, List, [], ◌∷◌, map, length, IfSome, IsTrue, Result, Ok, Err}
+use Rattle.std.specs.Prelude.{◌≡◌, ◌<◌, ◌^◌, ℕ, List, [], ◌∷◌, map, length, IfSome, IsTrue, Result, Ok, Err}
 use Rattle.t3_holder.specs.declared.no_memory.NoMemory.{NoMemory}
 use Rattle.t3_store.specs.Value.{new_value, can_be_written, HasFittingLength}
 use Rattle.t3_store.specs.Store.{StoreValue, value_at}
@@ -36,7 +36,7 @@ CanAllBeDone (change ∷ changes) store = CanBeDone change store × IfSome (chan
 
 -- a deed that a store can carry out, as far as it has room, and that isn't long
 abbrev pub CanBeCarriedOut : Result code_deed.Deed Fault → StoreValue → Type 0
-CanBeCarriedOut (Ok deed) store = CanAllBeDone (changes_of deed.changes.items) store × (length deed.changes.items ≤ 2 ^ 17)
+CanBeCarriedOut (Ok deed) store = CanAllBeDone (changes_of deed.changes.items) store × (length deed.changes.items < 2 ^ 17)
 CanBeCarriedOut (Err fault) store = Unit {0}
 
 -- a method comes to this; memory may always be wanting
