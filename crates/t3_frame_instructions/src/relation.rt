@@ -10,7 +10,7 @@ use t3_pools::Pools;
 use t3_store::Store;
 
 /// How many pairs of values an instruction may look at.
-pub(crate) const TURN_LIMIT: u32 = 65_536;
+pub const TURN_LIMIT: u32 = 65_536;
 
 /// How one value is to another.
 #[derive(Clone, Copy)]

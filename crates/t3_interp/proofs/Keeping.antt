@@ -1,11 +1,11 @@
--- What an instruction does to the objects, but for savepoints and undos, is that objects are made and cells are set. So what both keep is
--- kept by each of them.
+-- What an instruction does to the objects, but for savepoints and undos, is that objects are made, and that cells are set or taken away. So
+-- what these keep is kept by each of them.
 use Rattle.std.proofs.Common.{ℕ, ◌+◌, nat_le, ◌&&◌, ◌||◌, Bool, true, false, if◌then◌else◌, List, [], ◌∷◌, drop, Option, Some, None, Result, Ok, Err, is_none, option_map}
 use Rattle.t3_holder.specs.declared.holder.Holder.{Holder}
 use Rattle.t3_holder.specs.declared.holder.Holder.TheVariants as holders
 use Rattle.t3_undo.specs.declared.cell.Cell.{Cell}
 use Rattle.t3_store.specs.Value.{Value, holder_at, cell_units, units_of}
-use Rattle.t3_store.specs.Store.{StoreValue, value_at, is_full_with, no_number, next_number, with_object, set_cell, written, created_in}
+use Rattle.t3_store.specs.Store.{StoreValue, value_at, is_full_with, no_number, next_number, with_object, set_cell, taken, written, created_in}
 use Rattle.t3_ops.specs.declared.fault.Fault.{Fault}
 use Rattle.t3_ops.specs.declared.fault.Fault.TheVariants as faulty
 use Rattle.t3_ops.specs.Making.{Made, AsIs, New, made_in}
@@ -14,10 +14,11 @@ use Rattle.t3_frames.specs.Frame.{values_of, value_limit, topmost_two}
 use Rattle.t3_frame_instructions.specs.Context.{Context, Action, leaving, with_store, faults, with_room, by_top, pops, by_two, pops_two}
 use Rattle.t3_frame_instructions.specs.Making.{gives, takes_made, makes}
 
--- what is kept where an object is made and where a cell is set
+-- what is kept where an object is made, and where a cell is set or taken away
 pub record AreKept (P : StoreValue → Type 0) : Type 0 where
   pub made : (value : Value) (transient : Bool) (store : StoreValue) → P store → P (with_object value transient store)
   pub set : (number : ℕ) (cell : Cell) (value : Holder) (store : StoreValue) → P store → P (set_cell number cell value store)
+  pub taken : (number : ℕ) (cell : Cell) (store : StoreValue) → P store → P (taken number cell store)
 
 -- an action keeps it
 abbrev pub Keeps : (StoreValue → Type 0) → (Context → Action) → Type 0

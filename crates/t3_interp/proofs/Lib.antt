@@ -4,6 +4,7 @@ mod Joining
 mod Going
 mod Keeping
 mod FramesKeep
+mod CallsKeep
 mod InstructionsKeep
 mod TakingBack
 pub mod Runs

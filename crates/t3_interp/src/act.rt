@@ -65,7 +65,7 @@ pub(crate) fn act(
     }
 }
 
-/// The same for what returns or evaluates a property. It stands apart, since it is long.
+/// The same for what calls, returns or evaluates a property. It stands apart, since it is long.
 #[inline(never)]
 fn act_call(
     alloc: Global,
@@ -75,6 +75,7 @@ fn act_call(
 ) -> Result<bool, NoMemory>
     requires method { running.old.stage ≡ Method }
     requires untold { running.old.event ≡ Went }
+    requires few { running.old.core.store.writes + 131072 ≤ 2 ^ 63 }
     ensures acted { OnOk result (HasActed program.now (Call code.now) running.old running.new) }
     ensures told { IfOk result (Tells running.new) }
 {

@@ -12,8 +12,7 @@
 //!
 //! [`Machine::go`] makes many steps in one call. What a step is is defined in `specs/`, apart from the code;
 //! what a single instruction does, in `t3_frame_instructions` and `t3_object_instructions`. An instruction
-//! that wants a line of input waits until it is given one. So far no method of a metaclass is called; an instruction
-//! that would do so stops the run by `Unbuilt`.
+//! that wants a line of input waits until it is given one.
 #![tactic(auto)]
 
 mod act;
@@ -34,4 +33,4 @@ pub use event::{End, Event, Input, Want};
 pub use laws::{one_cover, undo_takes_back};
 pub use machine::Machine;
 pub use t3_frame_instructions::CodeWhy;
-pub use t3_object_instructions::search_order;
+pub use t3_kinds::search_order;

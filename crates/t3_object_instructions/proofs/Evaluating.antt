@@ -1,5 +1,5 @@
 -- A property that is looked for before the object's kind is asked.
-use Rattle.std.proofs.Common.{◌≡◌, ◌∙◌, ℕ, zero, suc, [], Option, Some, None, refl, sym, ap, subst}
+use Rattle.std.proofs.Common.{◌≡◌, ◌∙◌, ℕ, zero, suc, [], Option, Some, None, Result, Ok, Err, IfOk, refl, sym, ap, subst}
 use Rattle.std.specs.Prelude.{option_and_then}
 use Rattle.t3_holder.specs.declared.holder.Holder.{Holder}
 use Rattle.t3_holder.specs.declared.holder.Holder.TheVariants.{Obj}
@@ -11,9 +11,11 @@ use Rattle.t3_load.specs.Loading.{ProgramValue}
 use Rattle.t3_frame_instructions.specs.Effect.{Effect}
 use Rattle.t3_frame_instructions.specs.declared.context.Core.{Core}
 use Rattle.t3_frame_instructions.specs.Context.{Context, Action}
+use Rattle.t3_kinds.specs.Search.{property_of, searched, order_of}
 use Rattle.t3_object_instructions.specs.Evaluating.{of_object, found_action, found_or_asks, asks_object}
-use Rattle.t3_object_instructions.specs.Search.{property_of, searched, order_of}
-use Rattle.t3_frame_instructions.specs.Acting.{HasAction, Leaves, context_of}
+use Rattle.t3_holder.specs.declared.no_memory.NoMemory.{NoMemory}
+use Rattle.t3_frame_instructions.specs.declared.effect.Quiet.{Quiet}
+use Rattle.t3_frame_instructions.specs.Acting.{HasAction, HasDone, Leaves, context_of, quiet_of}
 
 -- what does the same does it here
 pub as_well : (a b : Context → Action) (old : Core) (effect : Effect) (new : Core) → a (context_of old) ≡ b (context_of old)
@@ -25,6 +27,12 @@ as_well a b old effect new same has = record {
   writes = has.writes;
   savepoints = has.savepoints;
 }
+
+-- the same, where memory may have been wanting
+pub as_well_ok : (a b : Context → Action) (old new : Core) (r : Result Quiet NoMemory) → a (context_of old) ≡ b (context_of old)
+    → IfOk r (λ effect. HasDone a old effect new) → IfOk r (λ effect. HasDone b old effect new)
+as_well_ok a b old new (Ok effect) same has = as_well a b old (quiet_of effect new.call) new same has
+as_well_ok a b old new (Err refusal) same has = tt
 
 -- where nothing stands no property is found
 preorder_of_none : (at : SupersAt) (depth n : ℕ) → at n ≡ None → preorder at depth n ≡ []
@@ -51,9 +59,9 @@ evaluates_found program p count n context found is = by (value_at context.store 
 
 -- where it isn't the kind's methods are asked
 pub evaluates_asked : (program : ProgramValue) (p count n : ℕ) (context : Context) → property_of context.store n p ≡ None
-    → asks_object program p count (value_at context.store n) context ≡ of_object program p count n (value_at context.store n) context
+    → asks_object program p count n (value_at context.store n) context ≡ of_object program p count n (value_at context.store n) context
 evaluates_asked program p count n context is = by (value_at context.store n)
   where
-    by : (o : Option Value) → asks_object program p count o context ≡ of_object program p count n o context
+    by : (o : Option Value) → asks_object program p count n o context ≡ of_object program p count n o context
     by None = refl
     by (Some value) = ap (λ o. found_or_asks program (Obj n) p count (kind_of value) o context) (sym is)

@@ -1,5 +1,6 @@
-mod Searching
+mod MethodTables
 mod Evaluating
 mod Turning
 mod Arguments
 mod Present
+mod CarriedOut

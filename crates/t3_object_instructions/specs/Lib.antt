@@ -1,9 +1,10 @@
 pub mod Search
 pub mod Saying
-pub mod Evaluating
-pub mod Setting
 pub mod Symbols
 pub mod Creating
+pub mod Listed
+pub mod Evaluating
+pub mod Setting
 pub mod Exceptions
 pub mod Savepoints
 pub mod Builtins

@@ -1,5 +1,5 @@
 //! Calling, returning, and evaluating properties.
-ghost use Rattle.std.specs.Prelude.{IfOk};
+ghost use Rattle.std.specs.Prelude.{◌+◌, ◌≤◌, ◌^◌, IfOk};
 ghost use Rattle.t3_frame_instructions.specs.Context.{pops, returns};
 ghost use Rattle.t3_frame_instructions.specs.Acting.{HasDone};
 ghost use Rattle.t3_object_instructions.specs.Instructions.{call_action, calls_pointer};
@@ -16,20 +16,22 @@ use t3_load::Program;
 use t3_methods::CallCode;
 use t3_ops::Fault;
 
-/// Carries out an instruction that calls, returns or evaluates a property. No method of a metaclass can be
-/// called yet. Memory is wanted only where a property is searched for in an object with two superclasses or
-/// more.
+/// Carries out an instruction that calls, returns or evaluates a property. Fewer than 2^63 - 2^17 writes were
+/// made. Memory is wanted only by the methods of metaclasses, and where a property is searched for in an object
+/// with two superclasses or more.
 ///
 /// `NotObject` comes where a value has no properties, `Stale` where its object isn't there, `Kind` where a
 /// property or a function is to be popped and there is another value, `ArgCount` where arguments are given to
 /// what takes none, `NoMethod` where the image lists a method that there isn't, and `NoSay` where a text is to
-/// be said and there is no function for that. The faults of a call come where it is made.
+/// be said and there is no function for that; and the faults of [`t3_kinds::listed_method`], and of creating a
+/// tads-object. The faults of a call come where it is made.
 pub fn call(
     alloc: Global,
     program: &Program,
     core: &mut Core,
     code: CallCode,
 ) -> Result<Quiet, NoMemory>
+    requires { core.old.store.writes + 131072 ≤ 2 ^ 63 }
     ensures { IfOk result (λ effect. HasDone (call_action program.now code) core.old effect core.new) }
 {
     match code {

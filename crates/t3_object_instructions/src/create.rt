@@ -2,22 +2,24 @@
 ghost use Rattle.std.specs.Prelude.{◌≡◌, codes, IfOk, Ok};
 ghost use Rattle.t3_store.specs.Store.{value_at};
 ghost use Rattle.t3_store.specs.Value.{new_value, HasFittingLength};
-ghost use Rattle.t3_store.specs.Whole.{HasSupersIn, supers_for};
+ghost use Rattle.t3_store.specs.Whole.{AreThere, HasSupersIn, supers_for};
 ghost use Rattle.t3_ops.specs.Making.{CanBeCreated, value_of_new};
 ghost use Rattle.t3_ops.specs.Creating.{new_string_of, new_list_of, new_vector_of, new_table_of};
 ghost use Rattle.t3_frame_instructions.specs.Acting.{HasDone};
 ghost use Rattle.t3_object_instructions.specs.Symbols.{property_named as property_by};
-ghost use Rattle.t3_object_instructions.specs.Creating.{arguments, creates, creation, tads_creation, supers_from, super_of, constructor_of, constructs, method_found};
-ghost use Rattle.t3_object_instructions.specs.Inner.Finding.{IsClass, option_list, found_value, constructor_found};
+ghost use Rattle.t3_kinds.specs.Search.{found_value};
+ghost use Rattle.t3_object_instructions.specs.Creating.{arguments, creates, creation, tads_creation, supers_from, supers_by, super_of, constructor_of, constructs, method_found};
+ghost use Rattle.t3_object_instructions.specs.Listed.{makes_instance};
+ghost use Rattle.t3_object_instructions.specs.Inner.Finding.{IsClass, option_list, constructor_found};
 
 use crate::evaluate::answer;
 use crate::exceptions::no_props;
-use crate::search::{Found, find_property};
 use crate::symbols::property_named;
 use std::alloc::Global;
 use t3_frame_instructions::{Core, Quiet, ask_for_call};
 use t3_frames::Call;
 use t3_holder::{Holder, NoMemory};
+use t3_kinds::{Found, find_property};
 use t3_load::{MetaKind, Program};
 use t3_ops::{Fault, new_list, new_string, new_table, new_vector};
 use t3_pools::Pools;
@@ -154,14 +156,51 @@ fn create_tads(
     transient: bool,
     count: u16,
 ) -> Result<Quiet, NoMemory>
-    ensures { IfOk result (λ effect. HasDone (λ context. tads_creation program.now transient count
+    ensures { IfOk result (λ effect. HasDone (λ context. tads_creation program.now transient 1 count
         (supers_from context.store transient count context.frame.operands) context) core.old effect
         core.new) }
 {
-    let class = match class_argument(core, transient, count) {
-        Ok(class) => class,
-        Err(fault) => return Ok(Quiet::Fault(fault)),
-    };
+    match class_argument(core, transient, count) {
+        Ok(class) => create_of_class(alloc, program, core, transient, class, 1, count),
+        Err(fault) => Ok(Quiet::Fault(fault)),
+    }
+}
+
+/// Creates a tads-object with a value as its only superclass. Its constructor, if there is one, is called with all
+/// of so many operands.
+pub(crate) fn create_instance(
+    alloc: Global,
+    program: &Program,
+    core: &mut Core,
+    value: Holder,
+    transient: bool,
+    count: u16,
+) -> Result<Quiet, NoMemory>
+    ensures { IfOk result (λ effect. HasDone (makes_instance program.now value count transient)
+        core.old effect core.new) }
+{
+    match class_by(&core.store, transient, value) {
+        Ok(class) => create_of_class(alloc, program, core, transient, class, 0, count),
+        Err(fault) => Ok(Quiet::Fault(fault)),
+    }
+}
+
+/// Creates a tads-object of a superclass that is there, or of none. Its constructor, if there is one, is called
+/// with the operands, so many, but for the first ones, which said the superclass.
+fn create_of_class(
+    alloc: Global,
+    program: &Program,
+    core: &mut Core,
+    transient: bool,
+    class: Option<u32>,
+    said: u16,
+    count: u16,
+) -> Result<Quiet, NoMemory>
+    requires { AreThere (supers_for transient core.old.store.store) (option_list class) }
+    ensures { IfOk result (λ effect. HasDone
+        (tads_creation program.now transient said count (Ok (option_list class))) core.old effect
+        core.new) }
+{
     let constructor = constructor_in(alloc, program, &core.store, class)?;
     let what = NewObject::Tads {
         supers: numbers_of(alloc, class)?,
@@ -169,7 +208,7 @@ fn create_tads(
         props: no_props(alloc),
     };
     match core.store.create(what, transient) {
-        Ok(number) => Ok(construct(core, constructor, number, count)),
+        Ok(number) => Ok(construct(core, constructor, number, said, count)),
         Err(StoreRefusal::Full) => Ok(Quiet::StoreFull),
         Err(StoreRefusal::NoMemory) => Err(NoMemory),
     }
@@ -184,9 +223,19 @@ fn class_argument(core: &Core, transient: bool, count: u16) -> Result<Option<u32
         return Ok(None);
     }
     match core.frames.top() {
-        None | Some(Holder::Nil) => Ok(None),
-        Some(Holder::Obj(number)) => class_of(&core.store, transient, number),
-        Some(_) => Err(Fault::Kind),
+        None => Ok(None),
+        Some(value) => class_by(&core.store, transient, value),
+    }
+}
+
+/// The superclass that a value says, if there is one. `Kind` where it is neither nil nor an object.
+fn class_by(store: &Store, transient: bool, value: Holder) -> Result<Option<u32>, Fault>
+    ensures { IsClass store.now.store transient (supers_by store.now.store transient value) result }
+{
+    match value {
+        Holder::Nil => Ok(None),
+        Holder::Obj(number) => class_of(store, transient, number),
+        _ => Err(Fault::Kind),
     }
 }
 
@@ -247,21 +296,27 @@ fn as_constructor(found: Option<Found>) -> Option<Constructor>
     }
 }
 
-/// Calls the constructor of an object that was made, if it has one, with the arguments behind the superclass.
-/// The register has the object.
-fn construct(core: &mut Core, constructor: Option<Constructor>, number: u32, count: u16) -> Quiet
-    ensures { HasDone (constructs (constructor_found constructor) count number) core.old result
+/// Calls the constructor of an object that was made, if it has one, with the arguments but for the first ones,
+/// so many. The register has the object.
+fn construct(
+    core: &mut Core,
+    constructor: Option<Constructor>,
+    number: u32,
+    said: u16,
+    count: u16,
+) -> Quiet
+    ensures { HasDone (constructs (constructor_found constructor) said count number) core.old result
         core.new }
 {
     let Some(constructor) = constructor else {
         return answer(core, Holder::Obj(number), count);
     };
-    core.frames.drop_operands(1);
+    core.frames.drop_operands(said);
     core.register = Holder::Obj(number);
     let call = Call {
         method: constructor.method,
         laid: None,
-        count: count.saturating_sub(1),
+        count: count.saturating_sub(said),
         this: Holder::Obj(number),
         defining: constructor.defining,
         gives: Some(number),

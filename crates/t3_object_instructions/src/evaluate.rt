@@ -1,17 +1,18 @@
 //! Evaluating a property of a value.
-ghost use Rattle.std.specs.Prelude.{IfOk};
+ghost use Rattle.std.specs.Prelude.{◌≡◌, ◌+◌, ◌≤◌, ◌^◌, IfOk};
 ghost use Rattle.t3_store.specs.Store.{value_at};
 ghost use Rattle.t3_frame_instructions.specs.Context.{answers, pops};
 ghost use Rattle.t3_object_instructions.specs.Evaluating.{by_property, evaluates, of_object, found_action, asks, asks_object};
 ghost use Rattle.t3_frame_instructions.specs.Acting.{HasDone};
 
-use crate::methods::{is_method, metaclasses_of, method_of};
+use crate::listed::call_listed;
+use crate::methods::{metaclasses_of, method_of};
 use crate::saying::say_value;
-use crate::search::{Found, find_property};
 use std::alloc::Global;
 use t3_frame_instructions::{CodeWhy, Core, Quiet, ask_for_call};
 use t3_frames::Call;
 use t3_holder::{Holder, NoMemory};
+use t3_kinds::{Found, find_property};
 use t3_load::Program;
 use t3_ops::Fault;
 use t3_store::Kind;
@@ -25,13 +26,14 @@ pub(crate) fn evaluate(
     property: u16,
     count: u8,
 ) -> Result<Quiet, NoMemory>
+    requires { core.old.store.writes + 131072 ≤ 2 ^ 63 }
     ensures { IfOk result
         (λ effect. HasDone (evaluates program.now property count value) core.old effect core.new) }
 {
     match value {
         Holder::Obj(number) => evaluate_object(alloc, program, core, number, property, count),
-        Holder::Text(_) => Ok(ask(program, core, property, count, Kind::Text)),
-        Holder::List(_) => Ok(ask(program, core, property, count, Kind::List)),
+        Holder::Text(_) => ask(alloc, program, core, property, count, value, Kind::Text),
+        Holder::List(_) => ask(alloc, program, core, property, count, value, Kind::List),
         _ => Ok(Quiet::Fault(Fault::NotObject)),
     }
 }
@@ -44,6 +46,7 @@ pub(crate) fn evaluate_popped(
     property: u16,
     count: u8,
 ) -> Result<Quiet, NoMemory>
+    requires { core.old.store.writes + 131072 ≤ 2 ^ 63 }
     ensures { IfOk result
         (λ effect. HasDone (pops (evaluates program.now property count)) core.old effect core.new) }
 {
@@ -60,6 +63,7 @@ pub(crate) fn evaluate_by_pointer(
     core: &mut Core,
     count: u8,
 ) -> Result<Quiet, NoMemory>
+    requires { core.old.store.writes + 131072 ≤ 2 ^ 63 }
     ensures { IfOk result (λ effect. HasDone
         (pops (by_property (λ p. pops (evaluates program.now p count)))) core.old effect core.new) }
 {
@@ -78,6 +82,7 @@ pub(crate) fn evaluate_self(
     property: u16,
     count: u8,
 ) -> Result<Quiet, NoMemory>
+    requires { core.old.store.writes + 131072 ≤ 2 ^ 63 }
     ensures { IfOk result (λ effect. HasDone (λ context. evaluates program.now property count
         context.frame.this context) core.old effect core.new) }
 {
@@ -92,6 +97,7 @@ pub(crate) fn evaluate_self_by_pointer(
     core: &mut Core,
     count: u8,
 ) -> Result<Quiet, NoMemory>
+    requires { core.old.store.writes + 131072 ≤ 2 ^ 63 }
     ensures { IfOk result (λ effect. HasDone (λ context. pops
         (by_property (λ p. evaluates program.now p count context.frame.this)) context) core.old effect
         core.new) }
@@ -113,26 +119,44 @@ fn evaluate_object(
     property: u16,
     count: u8,
 ) -> Result<Quiet, NoMemory>
+    requires { core.old.store.writes + 131072 ≤ 2 ^ 63 }
     ensures { IfOk result (λ effect. HasDone
         (λ context. of_object program.now property count number (value_at context.store number) context)
         core.old effect core.new) }
 {
     match find_property(alloc, &core.store, number, property)? {
         Some(found) => Ok(give_found(core, Holder::Obj(number), found, count)),
-        None => Ok(ask_object(program, core, number, property, count)),
+        None => ask_object(alloc, program, core, number, property, count),
     }
 }
 
 /// Of an object for which the property isn't found.
 #[cold]
 #[inline(never)]
-fn ask_object(program: &Program, core: &mut Core, number: u32, property: u16, count: u8) -> Quiet
-    ensures { HasDone (λ context. asks_object program.now property count (value_at context.store number)
-        context) core.old result core.new }
+fn ask_object(
+    alloc: Global,
+    program: &Program,
+    core: &mut Core,
+    number: u32,
+    property: u16,
+    count: u8,
+) -> Result<Quiet, NoMemory>
+    requires { core.old.store.writes + 131072 ≤ 2 ^ 63 }
+    ensures { IfOk result (λ effect. HasDone
+        (λ context. asks_object program.now property count number (value_at context.store number) context)
+        core.old effect core.new) }
 {
     match core.store.kind(number) {
-        Some(kind) => ask(program, core, property, count, kind),
-        None => Quiet::Fault(Fault::Stale),
+        Some(kind) => ask(
+            alloc,
+            program,
+            core,
+            property,
+            count,
+            Holder::Obj(number),
+            kind,
+        ),
+        None => Ok(Quiet::Fault(Fault::Stale)),
     }
 }
 
@@ -158,20 +182,33 @@ pub(crate) fn give_found(core: &mut Core, this: Holder, found: Found, count: u8)
     }
 }
 
-/// Asks the methods of a kind.
-fn ask(program: &Program, core: &mut Core, property: u16, count: u8, kind: Kind) -> Quiet
-    ensures { HasDone (asks program.now property count kind) core.old result core.new }
+/// Asks the methods of a kind for a property of self.
+fn ask(
+    alloc: Global,
+    program: &Program,
+    core: &mut Core,
+    property: u16,
+    count: u8,
+    this: Holder,
+    kind: Kind,
+) -> Result<Quiet, NoMemory>
+    requires { core.old.store.writes + 131072 ≤ 2 ^ 63 }
+    ensures { IfOk result (λ effect. HasDone (asks program.now property count this kind) core.old effect
+        core.new) }
 {
+    let count = u16::from(count);
     match method_of(program.kinds.0.as_slice(), property, metaclasses_of(kind)) {
-        Some((metaclass, index)) if is_method(metaclass, index) => Quiet::Stop(CodeWhy::Unbuilt),
-        Some(_) => Quiet::Fault(Fault::NoMethod),
-        None => answer(core, Holder::Nil, u16::from(count)),
+        Some((metaclass, index)) => {
+            call_listed(alloc, program, core, metaclass, index, this, count)
+        }
+        None => Ok(answer(core, Holder::Nil, count)),
     }
 }
 
 /// Drops the topmost operands, so many, and answers a value.
 pub(crate) fn answer(core: &mut Core, value: Holder, count: u16) -> Quiet
-    ensures { HasDone (answers value count) core.old result core.new }
+    ensures done { HasDone (answers value count) core.old result core.new }
+    ensures store { core.new.store ≡ core.old.store }
 {
     core.frames.drop_operands(count);
     core.register = value;

@@ -5,10 +5,10 @@ ghost use Rattle.t3_store.specs.Whole.{HasSupersIn, supers_for};
 ghost use Rattle.t3_object_instructions.specs.Search.{is_persistent_tads as is_persistent_tads_in};
 ghost use Rattle.t3_object_instructions.specs.Exceptions.{exception_of, exception_supers, numbered, classes_of as classes_in};
 
-use crate::search::order;
 use crate::symbols::{object_named, property_named};
 use std::alloc::Global;
 use t3_holder::{Holder, NoMemory};
+use t3_kinds::order;
 use t3_load::SymbolTable;
 use t3_ops::Fault;
 use t3_store::{Kind, NewObject, Store};

@@ -3,14 +3,15 @@ ghost use Rattle.std.specs.Prelude.{IfOk};
 ghost use Rattle.t3_frame_instructions.specs.Context.{pops};
 ghost use Rattle.t3_object_instructions.specs.Evaluating.{delegates, inherits, found_or_nil};
 ghost use Rattle.t3_frame_instructions.specs.Acting.{HasDone};
-ghost use Rattle.t3_object_instructions.specs.Inner.Finding.{found_value};
+ghost use Rattle.t3_kinds.specs.Search.{found_value};
 
 use crate::evaluate::{answer, give_found};
-use crate::search::{Found, find_inherited, find_property};
+use crate::search::find_inherited;
 use crate::values::tads_object;
 use std::alloc::Global;
 use t3_frame_instructions::{CodeWhy, Core, Quiet};
 use t3_holder::{Holder, NoMemory};
+use t3_kinds::{Found, find_property};
 
 /// A property as self has it behind the object that defines the method.
 pub(crate) fn inherit(

@@ -1,5 +1,5 @@
 //! What one instruction does to objects: evaluating and setting properties, elements and entries, inheriting,
-//! calling, creating, saying, throwing and built-in functions; and how a property is found in an object's superclasses.
+//! calling, creating, saying, throwing, built-in functions, and the methods of metaclasses.
 //!
 //! ```text
 //! let effect = call(alloc, &program, &mut core, CallCode::Getprop(4))?;   // Quiet::Next
@@ -17,7 +17,7 @@ mod evaluate;
 mod exceptions;
 mod inherit;
 mod item;
-mod laws;
+mod listed;
 mod making;
 mod methods;
 mod savepoints;
@@ -31,6 +31,5 @@ mod variables;
 pub use calling::call;
 pub use effect::MakeEffect;
 pub use exceptions::{classes_of, exception};
-pub use laws::search_order;
 pub use making::make;
 pub use variables::local;

@@ -1,7 +1,7 @@
 //! The methods of metaclasses, by the properties under which the image lists them.
 ghost use Rattle.std.specs.Prelude.{◌≡◌, ◌==◌};
 ghost use Rattle.std.specs.List.{position_from};
-ghost use Rattle.t3_object_instructions.specs.Search.{metaclasses_of as metaclasses_by, methods_of as methods_by, method_of as method_by, is_method as is_method_by, same_kind as same_kind_by};
+ghost use Rattle.t3_object_instructions.specs.Search.{metaclasses_of as metaclasses_by, methods_of as methods_by, method_of as method_by, same_kind as same_kind_by};
 
 use t3_load::{KindEntry, MetaKind};
 use t3_store::Kind;
@@ -58,19 +58,4 @@ fn index_of(properties: &[u16], property: u16) -> Option<usize>
         }
     }
     None
-}
-
-/// Whether a metaclass has a method of that index.
-pub(crate) fn is_method(kind: MetaKind, index: usize) -> bool
-    ensures { result ≡ is_method_by kind index }
-{
-    match kind {
-        MetaKind::Root => matches!(index, 0..=2 | 6 | 8),
-        MetaKind::Collection => false,
-        MetaKind::Tads => index <= 2,
-        MetaKind::Text => matches!(index, 0 | 1 | 7 | 8),
-        MetaKind::List => matches!(index, 2 | 3 | 5 | 18),
-        MetaKind::Vector => matches!(index, 0 | 1 | 10 | 20 | 22 | 24),
-        MetaKind::Table => matches!(index, 0 | 1 | 5 | 7..=10),
-    }
 }

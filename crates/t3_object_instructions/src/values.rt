@@ -1,7 +1,5 @@
 //! What values are, by the objects that there are.
-ghost use Rattle.std.specs.Prelude.{◌≡◌, IfOk};
-ghost use Rattle.t3_tadsobj.specs.Order.{IsAcyclicFrom};
-ghost use Rattle.t3_store.specs.Whole.{supers_of_live};
+ghost use Rattle.std.specs.Prelude.{◌≡◌};
 ghost use Rattle.t3_object_instructions.specs.Search.{tads_object as tads_object_of};
 
 use t3_holder::Holder;
@@ -11,8 +9,7 @@ use t3_store::{Kind, Store};
 /// The number of the tads-object that a value is. `Stale` where that isn't there, and else `NotObject` where
 /// it is none.
 pub(crate) fn tads_object(store: &Store, value: Holder) -> Result<u32, Fault>
-    ensures number { result ≡ tads_object_of store.now.store value }
-    ensures acyclic { IfOk result (IsAcyclicFrom (supers_of_live store.now.store)) }
+    ensures { result ≡ tads_object_of store.now.store value }
 {
     match value {
         Holder::Obj(number) => match store.kind(number) {

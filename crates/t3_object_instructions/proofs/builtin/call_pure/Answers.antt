@@ -27,7 +27,7 @@ returns-in-Ok c =
     old between c.answer.new.core c.in-Ok.value _
     (ap (λ (args : List Holder). makes (pure_builtin_of constants old.store.store c.args.index args)
     (λ value context. answers value c.args.count context) (context_of old)) (sym shown))
-    c.in-Ok.ensures.carried keeps c.answer.ensures
+    c.in-Ok.ensures.carried keeps c.answer.ensures.done
 
 pub returns-in-Err-Fault : goal.returns-in-Err-Fault
 returns-in-Err-Fault c =

@@ -1,6 +1,6 @@
 use Rattle.std.proofs.Common.{◌==◌, sym, ap, ◌∙◌}
 use Rattle.std.specs.List.{position_from}
-use Rattle.t3_object_instructions.proofs.Searching.{method_here}
+use Rattle.t3_object_instructions.proofs.MethodTables.{method_here}
 use Rattle.t3_object_instructions.proofs.methods.method_of.Goals as goal
 
 pub returns-in-Some : goal.returns-in-Some

@@ -1,8 +1,0 @@
-use Rattle.t3_object_instructions.proofs.Searching.{order_is, same_order}
-use Rattle.t3_object_instructions.proofs.laws.search_order.Goals as goal
-
-pub returns-clause-is : goal.returns-clause-is
-returns-clause-is c = order_is
-
-pub returns-clause-one : goal.returns-clause-one
-returns-clause-one c = same_order
