@@ -34,3 +34,8 @@ pub mod RowNumbers
 pub mod Lacking
 pub mod FirstBroken
 pub mod SetCells
+pub mod PersistentCopy
+pub mod Admitted
+pub mod WholeReplaced
+pub mod Replaced
+pub mod InvariantKept

@@ -24,14 +24,14 @@ get-other m n q g apart =
     ∙ ap (λ b. cond b (option_map g (get m q)) (get m q)) (differs q n (λ same. apart (sym same)))
 
 -- the store in which a cell of an object was changed, by whether the object is a persistent one
-abbrev left_by : StoreValue → ℕ → Cell → (Value → Value) → Bool → StoreValue
+abbrev pub left_by : StoreValue → ℕ → Cell → (Value → Value) → Bool → StoreValue
 left_by s n cell g true = record s {
   persistent = adjust s.persistent n g;
   marks = changed_in s.limits.records n cell s.marks;
 }
 left_by s n cell g false = record s { transient = adjust s.transient n g }
 
-changed-left : (s : StoreValue) (n : ℕ) (cell : Cell) (g : Value → Value) (b : Bool) → is_persistent s n ≡ b
+pub changed-left : (s : StoreValue) (n : ℕ) (cell : Cell) (g : Value → Value) (b : Bool) → is_persistent s n ≡ b
     → with_value n g (noted n cell s) ≡ left_by s n cell g b
 changed-left s n cell g true is =
     ap (λ b. with_value n g (cond b (record s { marks = changed_in s.limits.records n cell s.marks }) s)) is

@@ -29,14 +29,14 @@ unvalued m o q same e = by (get m q) (sym (get-values m q) ∙ (λ i. get (same 
     by None e = refl
     by (Some x) e = cc
 
-valued : (m : Objects Shape) (o : Values) (q : ℕ) → values m ≡ o → is_some (get m q) ≡ true → is_some (get o q) ≡ true
+pub valued : (m : Objects Shape) (o : Values) (q : ℕ) → values m ≡ o → is_some (get m q) ≡ true → is_some (get o q) ≡ true
 valued m o q same h = sym (ap is_some (sym (get-values m q) ∙ (λ i. get (same i) q))) ∙ some-valued (get m q) ∙ h
   where
     some-valued : (x : Option (Shape × Parts)) → is_some (option_map value_of x) ≡ is_some x
     some-valued None = refl
     some-valued (Some x) = refl
 
-marks-bare : (m : Objects Shape) → marks_of m [] ≡ []
+pub marks-bare : (m : Objects Shape) → marks_of m [] ≡ []
 unfolding marks_of
 marks-bare m = refl
 

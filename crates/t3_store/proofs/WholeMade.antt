@@ -73,7 +73,7 @@ older-created at more n places ss same sound all = by n ss (omega arith) sound a
       by s.next ss (omega (arith, sound.0)) sound.3 all.1,
     )
 
-given-more : (next next_transient more further : ℕ) (supers : List ℕ) → next ≤ more → next_transient ≤ further
+pub given-more : (next next_transient more further : ℕ) (supers : List ℕ) → next ≤ more → next_transient ≤ further
     → AreGiven next next_transient supers → AreGiven more further supers
 given-more next next_transient more further [] h l given = tt
 given-more next next_transient more further (a ∷ rest) h l given =

@@ -42,7 +42,7 @@ walk-more at more fewer (next ∷ path) n above walk = (
   walk-more at more fewer path next above walk.1,
 )
 
-acyclic-fewer : (at more : SupersAt) → ((q : ℕ) (supers : List ℕ) → at q ≡ Some supers → more q ≡ Some supers) → IsAcyclic more → IsAcyclic at
+pub acyclic-fewer : (at more : SupersAt) → ((q : ℕ) (supers : List ℕ) → at q ≡ Some supers → more q ≡ Some supers) → IsAcyclic more → IsAcyclic at
 acyclic-fewer at more fewer acyclic n walk = acyclic n (walk.0, walk-more at more fewer walk.0 n n walk.1)
 
 below-there : (at less : SupersAt) (k : ℕ) (supers : List ℕ) → ((q : ℕ) → q < k → less q ≡ at q) → AreThere at supers

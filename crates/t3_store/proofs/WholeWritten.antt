@@ -23,7 +23,7 @@ pub alike : {X Y : Type 0} (f g : X → Y) → ((x : X) → f x ≡ g x) → f �
 alike f g e = λ i x. e x i
 
 -- by values and by shapes superclasses are the same
-supers-value : (o : Option (Shape × Parts)) → option_and_then supers_of (option_map value_of o) ≡ supers_by o
+pub supers-value : (o : Option (Shape × Parts)) → option_and_then supers_of (option_map value_of o) ≡ supers_by o
 supers-value None = refl
 supers-value (Some (TadsShape supers class, parts)) = refl
 supers-value (Some (TextShape bytes, parts)) = refl

@@ -5,3 +5,5 @@ pub mod CellLaw
 pub mod Whole
 pub mod Broken
 pub mod Inner
+pub mod Distinct
+pub mod Invariant

@@ -1,8 +1,8 @@
 -- A store: two finite maps from numbers to values, savepoints as whole copies, and what each call makes of them.
-use Rattle.std.specs.Prelude.{◌≡◌, ◌≤◌, ℕ, ◌+◌, ◌-◌, ◌^◌, Bool, true, false, ◌&&◌, ◌||◌, not, if◌then◌else◌, List, [], ◌∷◌, Option, None, Some, is_some, is_none, nat_lt, nat_le, length, take, drop, refl}
+use Rattle.std.specs.Prelude.{◌≡◌, ◌≤◌, ℕ, ◌+◌, ◌-◌, ◌^◌, max, Bool, true, false, ◌&&◌, ◌||◌, not, if◌then◌else◌, List, [], ◌∷◌, Option, None, Some, is_some, is_none, nat_lt, nat_le, length, take, drop, refl}
 use Rattle.std.specs.List.{list_any}
 use Rattle.std.specs.Ordering.{nat_cmp, eq_by_cmp}
-use Rattle.std.specs.FinMap.{get, insert, len}
+use Rattle.std.specs.FinMap.{get, insert, len, keys}
 use Rattle.std.specs.Coded.{Coded, code_by, coded×, coded_ℕ, coded_list}
 use Rattle.t3_holder.specs.declared.holder.Holder.{Holder}
 use Rattle.t3_undo.specs.Cell.{cell_cmp, coded_cell}
@@ -10,6 +10,8 @@ use Rattle.t3_undo.specs.Objects.{adjust}
 use Rattle.t3_undo.specs.declared.cell.Cell.{Cell}
 use Rattle.t3_store.specs.Value.{Value, Objects, coded_objects, holder_at, with_cell, without_cell, units_of, units_in, cell_units}
 use Rattle.t3_store.specs.declared.limits.StoreLimits.{StoreLimits}
+use Rattle.t3_store.specs.declared.admit.Admit.{Admit}
+use Rattle.t3_store.specs.declared.admit.Admit.TheVariants.{Fits, Clash, Full}
 
 -- a savepoint: a whole copy of the persistent objects, the number that was next, and which cells of which objects were
 -- changed first since, the newest change first
@@ -208,3 +210,20 @@ is_held (mark ∷ marks) = true
 abbrev pub changed_cells : List Mark → ℕ
 changed_cells [] = 0
 changed_cells (mark ∷ marks) = length mark.changed + changed_cells marks
+
+-- a number of the state is a transient object's
+abbrev pub has_clash : Objects → StoreValue → Bool
+has_clash state s = list_any (λ number. is_some (get s.transient number)) (keys state)
+
+-- one of the sums of the state and the transient objects stands above its limit
+abbrev pub is_past_limits : Objects → StoreValue → Bool
+is_past_limits state s =
+    nat_lt s.limits.objects (len state + len s.transient) || nat_lt s.limits.units (units_in state + units_in s.transient)
+
+-- whether a state can take the place of the persistent objects
+abbrev pub admit_of : Objects → StoreValue → Admit
+admit_of state s = if has_clash state s then Clash else (if is_past_limits state s then Full else Fits)
+
+-- a state in place of the persistent objects, with the greater of both next numbers, and no savepoint
+abbrev pub replaced : Objects → ℕ → StoreValue → StoreValue
+replaced state next s = record s { persistent = state; next = max s.next next; marks = [] }

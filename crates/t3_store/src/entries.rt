@@ -1,7 +1,7 @@
 //! Objects in a row, by rising number.
-ghost use Rattle.std.specs.Prelude.{◌≡◌, ◌+◌, ◌-◌, ◌^◌, ◌<◌, ◌≤◌, ◌↔◌, ◌++◌, [], ◌∷◌, ℕ, length, take, drop, slice_get, IsTrue, IsSome, IfSome, IfOk, None, OnOk, OnErr, option_map, map};
+ghost use Rattle.std.specs.Prelude.{◌≡◌, ◌+◌, ◌-◌, ◌^◌, ◌<◌, ◌≤◌, ◌↔◌, ◌++◌, [], ◌∷◌, ℕ, length, take, drop, slice_get, IsTrue, IsSome, IfSome, IfOk, None, OnOk, OnErr, is_some, option_map, map};
 ghost use Rattle.std.specs.FinMap.{get, insert};
-ghost use Rattle.std.specs.List.{AllWithin};
+ghost use Rattle.std.specs.List.{AllWithin, list_any};
 ghost use Rattle.t3_undo.specs.Content.{shown, is_form};
 ghost use Rattle.t3_undo.specs.declared.cell.Cell.TheVariants.{Prop};
 ghost use Rattle.t3_undo.specs.Objects.{part_at, set_cell, adjust, below, put_back};
@@ -277,6 +277,16 @@ pub(crate) fn numbers_of(alloc: Global, entries: &[Entry]) -> Result<Vec<u32>, N
         numbers.push(entry.number)?;
     }
     Ok(numbers)
+}
+
+/// Whether the number of one of these objects is that of one of the others.
+pub(crate) fn meet(entries: &[Entry], others: &[Entry]) -> bool
+    requires { IsRising others.now }
+    ensures { result ≡ list_any (λ entry. is_some (object_at entry.number others.now)) entries.now }
+{
+    entries
+        .iter()
+        .any(|entry| object_at(others, entry.number).is_some())
 }
 
 /// Objects of the same values, with a place for each present cell alone.

@@ -25,9 +25,20 @@
 //! Superclasses stay whole: those of a persistent object are persistent, and no walk over superclasses comes
 //! back, whatever is made, changed and undone. [`Store::kind`] says so where a search needs it.
 //!
-//! [`cell_law`] says of the definitions that a cell that was set stands so, and that all else is as before.
+//! A store gives a copy of its persistent objects, and takes a state in their place:
+//!
+//! ```text
+//! let state = store.persistent_copy(alloc)?;
+//! let next = store.next();
+//! store.admits(&state);       // Fits, or Clash with a transient object's number, or Full
+//! store.replace(state, next); // where it fits: all savepoints are given up, and transient objects stay
+//! ```
+//!
+//! [`cell_law`] says of the definitions that a cell that was set stands so, and that all else is as before, and
+//! [`invariant_law`] that what holds of each value goes on to hold.
 #![tactic(auto)]
 
+mod admit;
 mod broken;
 mod entries;
 mod kind;
@@ -43,9 +54,10 @@ mod table_cells;
 mod unit_rows;
 mod writing;
 
+pub use admit::Admit;
 pub use broken::Broken;
 pub use kind::Kind;
-pub use law::cell_law;
+pub use law::{ValueInvariant, cell_law, invariant_law};
 pub use limits::{StoreLimits, StoreRefusal};
 pub use new_object::NewObject;
 pub use object_at::ObjectAt;

@@ -1,4 +1,5 @@
 ghost use Rattle.std.specs.Prelude.{◌≡◌, ◌+◌, ◌-◌, ◌<◌, ◌≤◌, ◌^◌, ℕ, Some, None, IsTrue, IsSome, IfSome, IfOk, OnOk, OnErr, is_some, option_map, drop};
+ghost use Rattle.std.specs.List.{list_any};
 ghost use Rattle.std.specs.FinMap as finite;
 ghost use Rattle.std.specs.FinMap.{get, insert, entries, keys};
 ghost use Rattle.t3_undo.specs.Content.{shown, is_form};
@@ -12,8 +13,8 @@ ghost use Rattle.t3_undo.specs.Journal.{newest_next, newest_records};
 ghost use Rattle.t3_undo.specs.UndoLaw.{undone};
 
 use crate::entries::{
-    Entry, add, content_with, copy_all, cut, make_place, number_from, numbers_of, object_at, put,
-    put_back, replace_prop,
+    Entry, add, content_with, copy_all, cut, make_place, meet, number_from, numbers_of, object_at,
+    put, put_back, replace_prop,
 };
 use crate::object::Object;
 use crate::object_at::ObjectAt;
@@ -212,6 +213,14 @@ impl ObjectMap {
         ensures { IfOk result (λ numbers. numbers.items ≡ keys (values self.now.objects)) }
     {
         numbers_of(alloc, &self.entries)
+    }
+
+    /// Whether a number of these objects is that of one of the others.
+    pub(crate) fn meets(&self, others: &ObjectMap) -> bool
+        ensures { result ≡ list_any (λ number. is_some (get (values others.now.objects) number))
+            (keys (values self.now.objects)) }
+    {
+        meet(&self.entries, &others.entries)
     }
 
     /// Objects of the same values, with a place for each present cell alone.

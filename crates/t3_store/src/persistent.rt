@@ -1,11 +1,14 @@
-ghost use Rattle.std.specs.Prelude.{◌≡◌, ◌+◌, ◌<◌, ◌^◌, ◌↔◌, ◌||◌, Some, None, Err, IsTrue, IsSome, IfOk, OnOk, OnErr, MatchOption, option_map, option_and_then, map};
+ghost use Rattle.std.specs.Prelude.{◌≡◌, ◌+◌, ◌<◌, ◌≤◌, ◌^◌, ◌↔◌, ◌||◌, ℕ, Some, None, Err, IsTrue, IsSome, IfOk, OnOk, OnErr, MatchOption, is_some, option_map, option_and_then, map};
 ghost use Rattle.std.specs.List.Sorted.{IsStrictlyIncreasing};
 ghost use Rattle.std.specs.FinMap as finite;
-ghost use Rattle.std.specs.FinMap.{get, insert, entries};
-ghost use Rattle.t3_store.specs.Value.{is_past, is_past_units, key_units, with_cell, IsTableWithout, HasFittingLength, text_of, items_in, length_of, entries_in, holder_at, kind_of, supers_of, is_class_at, props_at, units_of, units_in, new_value, IsNextAbove};
+ghost use Rattle.std.specs.List.{list_any};
+ghost use Rattle.std.specs.FinMap.{get, insert, entries, keys};
+ghost use Rattle.t3_store.specs.Value.{Value, is_past, is_past_units, key_units, with_cell, IsTableWithout, HasFittingLength, text_of, items_in, length_of, entries_in, holder_at, kind_of, supers_of, is_class_at, props_at, units_of, units_in, new_value, IsNextAbove};
 ghost use Rattle.t3_store.specs.Broken.{LacksSuper, IsOwnAncestor, IsNever, IsLeast, IsFirstBroken};
 ghost use Rattle.t3_store.specs.Whole.{IsWhole, supers_in};
+ghost use Rattle.t3_store.specs.Distinct.{HasDistinctEntries};
 ghost use Rattle.t3_store.specs.Inner.Shapes.{values, AreWithin};
+ghost use Rattle.t3_store.specs.Inner.Store.{IsPersistent};
 ghost use Rattle.t3_undo.specs.Objects.{adjust};
 
 use crate::broken::{Broken, lacks_super};
@@ -156,6 +159,38 @@ impl Persistent {
         first_cyclic(alloc, self, &numbers)
     }
 
+    /// How many units the objects count together. There are no more of them, and of objects, than there may be.
+    /// Numbers are from 1 on and below 2^31, no string, list or vector is too long, and no table has a key twice.
+    pub fn units(&self) -> u32
+        ensures units { result ≡ units_in self.now }
+        ensures few { finite.len self.now ≤ 1048576 }
+        ensures few_units { units_in self.now ≤ 4194304 }
+        ensures numbers { (number : ℕ) → IsSome (get self.now number)
+            → (0 < number) × (number < 2 ^ 31) }
+        ensures fitting { (number : ℕ) (value : Value) → get self.now number ≡ Some value
+            → HasFittingLength value }
+        ensures distinct { (number : ℕ) (value : Value) → get self.now number ≡ Some value
+            → HasDistinctEntries value }
+    {
+        self.objects.units()
+    }
+
+    /// How many objects there are.
+    pub(crate) fn len(&self) -> u64
+        ensures len { result ≡ finite.len self.now }
+        ensures few { result ≤ 1048576 }
+    {
+        self.objects.len()
+    }
+
+    /// Whether a number of these objects is that of one of the others.
+    pub(crate) fn meets(&self, others: &ObjectMap) -> bool
+        ensures { result ≡ list_any (λ number. is_some (get (values others.now.objects) number))
+            (keys self.now) }
+    {
+        self.objects.meets(others)
+    }
+
     /// An equal map.
     pub fn copy(&self, alloc: Global) -> Result<Persistent, NoMemory>
         ensures { IfOk result (λ copy. copy ≡ self.now) }
@@ -223,6 +258,14 @@ impl Persistent {
         ensures { IfOk result (λ pairs. Some pairs ≡ option_and_then entries_in (get self.now number)) }
     {
         self.objects.at(number).entries(alloc)
+    }
+
+    /// The objects, of which none has too great a number, and which are no more than there may be.
+    pub(crate) fn of(alloc: Global, objects: ObjectMap) -> Persistent
+        requires { IsPersistent objects }
+        ensures { result ≡ values objects.objects }
+    {
+        Persistent { alloc, objects }
     }
 
     /// The objects themselves.

@@ -1,9 +1,10 @@
 ghost use Rattle.std.specs.Prelude.{◌≡◌, ◌+◌, ◌<◌, ◌≤◌, ◌^◌, ◌||◌, ℕ, Some, None, Ok, IsSome, IfOk, is_some, length, map, option_map, option_and_then};
 ghost use Rattle.std.specs.FinMap.{get, len, entries};
 ghost use Rattle.std.specs.List.Sorted.{IsStrictlyIncreasing};
-ghost use Rattle.t3_store.specs.Value.{Objects, holder_at, text_of, items_in, length_of, entries_in, kind_of, supers_of, is_class_at, props_at, units_in};
+ghost use Rattle.t3_store.specs.Value.{Value, Objects, holder_at, text_of, items_in, length_of, entries_in, kind_of, supers_of, is_class_at, props_at, units_in, HasFittingLength};
 ghost use Rattle.t3_store.specs.Store.{AreLimits, AreBelow, value_at, objects_in, store_units, started, changed_cells};
 ghost use Rattle.t3_store.specs.Whole.{AreApart, IsWhole, HasGivenNumbers, supers_in, supers_among, supers_of_live};
+ghost use Rattle.t3_store.specs.Distinct.{HasDistinctEntries};
 ghost use Rattle.t3_store.specs.Inner.Shapes.{values};
 ghost use Rattle.t3_tadsobj.specs.Order.{IsAcyclicFrom};
 
@@ -20,6 +21,7 @@ use t3_tadsobj::{Props, Supers};
 use t3_undo::{Cell, Journal};
 
 mod changing;
+mod restoring;
 
 /// The objects of a run by their numbers, persistent and transient, with savepoints.
 ///
@@ -82,6 +84,7 @@ impl Store {
         ensures store { IfOk result (λ store. store.store ≡ started limits first passing next) }
         ensures savepoints { IfOk result (λ store. store.savepoints ≡ 0) }
         ensures writes { IfOk result (λ store. store.writes ≡ units_in first + units_in passing) }
+        ensures few_writes { IfOk result (λ store. store.writes ≤ 2 ^ 22) }
     {
         let journal = Journal::start(alloc, limits.records, limits.savepoints)?;
         let units = Vec::with_capacity(alloc, limits.savepoints as usize)?;
@@ -218,6 +221,25 @@ impl Store {
         self.next
     }
 
+    /// A copy of the persistent objects, as it is saved. None of them is broken, there are no more of them and of
+    /// their units than a [`Persistent`] may have, no string, list or vector is too long, and no table has a key
+    /// twice.
+    pub fn persistent_copy(&self, alloc: Global) -> Result<Persistent, NoMemory>
+        ensures copy { IfOk result (λ copy. copy ≡ self.now.store.persistent) }
+        ensures whole { IsWhole (supers_in self.now.store.persistent) }
+        ensures few { len self.now.store.persistent ≤ 1048576 }
+        ensures few_units { units_in self.now.store.persistent ≤ 4194304 }
+        ensures fitting { (number : ℕ) (value : Value) → get self.now.store.persistent number ≡ Some value
+            → HasFittingLength value }
+        ensures distinct { (number : ℕ) (value : Value) → get self.now.store.persistent number ≡ Some value
+            → HasDistinctEntries value }
+    {
+        // What is counted is true of each object.
+        let _ = self.persistent.units();
+        let objects = self.persistent.copy(alloc)?;
+        Ok(Persistent::of(alloc, objects))
+    }
+
     /// How many objects there are. No walk over superclasses from any number comes back.
     pub fn objects(&self) -> u32
         ensures objects { result ≡ objects_in self.now.store }
@@ -227,10 +249,19 @@ impl Store {
         (self.persistent.len() + self.transient.len()) as u32
     }
 
-    /// How many units they count. After an undo it may be more than the limit, but at most twice as much.
+    /// How many units they count. After an undo it may be more than the limit, but at most twice as much, since
+    /// neither half counts more by itself. No string, list or vector is too long, no table has a key twice, and
+    /// superclasses of persistent objects are persistent tads-objects.
     pub fn units(&self) -> u32
         ensures units { result ≡ store_units self.now.store }
         ensures bound { result ≤ self.now.store.limits.units + self.now.store.limits.units }
+        ensures persistent { units_in self.now.store.persistent ≤ self.now.store.limits.units }
+        ensures transient { units_in self.now.store.transient ≤ self.now.store.limits.units }
+        ensures fitting { (number : ℕ) (value : Value) → value_at self.now.store number ≡ Some value
+            → HasFittingLength value }
+        ensures distinct { (number : ℕ) (value : Value) → value_at self.now.store number ≡ Some value
+            → HasDistinctEntries value }
+        ensures whole { IsWhole (supers_in self.now.store.persistent) }
     {
         self.persistent.units() + self.transient.units()
     }
