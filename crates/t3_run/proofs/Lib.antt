@@ -4,4 +4,7 @@ pub mod Cutting
 pub mod Asks
 pub mod Runs
 mod Screens
-mod Played
+mod PlayedActs
+mod PlayedRests
+mod PlayedTurns
+mod PlayedRuns

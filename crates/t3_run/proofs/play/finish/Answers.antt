@@ -1,7 +1,7 @@
 use Rattle.std.proofs.Common.{refl, subst}
 use Rattle.t3_interp.specs.declared.event.Event.{Event}
 use Rattle.t3_interp.specs.Step.{StepsBy}
-use Rattle.t3_run.proofs.Played.{finished-goes}
+use Rattle.t3_run.proofs.PlayedTurns.{finished-goes}
 use Rattle.t3_run.proofs.play.finish.Goals as goal
 
 pub returns-in-Ended : goal.returns-in-Ended

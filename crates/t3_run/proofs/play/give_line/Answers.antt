@@ -2,7 +2,8 @@ use Rattle.std.proofs.Common.{Ok, subst, sym, ◌∙◌}
 use Rattle.std.proofs.lemmas.Result.{err_from_is_err_and}
 use Rattle.t3_lines.specs.Reader.{CountsLine, IsAtEnd}
 use Rattle.t3_lines.specs.declared.line.WantedLine.{WantedLine}
-use Rattle.t3_run.proofs.Played.{finished-err, line-into, line-finished, end-finished, limit-stops}
+use Rattle.t3_run.proofs.PlayedTurns.{line-into, line-finished, end-finished, limit-stops}
+use Rattle.t3_run.proofs.PlayedRuns.{finished-err}
 use Rattle.t3_run.proofs.play.give_line.Goals as goal
 
 pub returns-in_err-line-clause-finished : goal.returns-in_err-line-clause-finished

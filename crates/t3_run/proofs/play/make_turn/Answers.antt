@@ -6,7 +6,8 @@ use Rattle.t3_interp.specs.declared.event.Event.{Event}
 use Rattle.t3_interp.specs.declared.event.Event.TheVariants.{Said, WantLine, Ended}
 use Rattle.t3_interp.specs.Wanting.{WantsOn}
 use Rattle.t3_run.specs.Inner.Playing.{Shifts, world_of}
-use Rattle.t3_run.proofs.Played.{as-event, said-into, said-goes, rest-into, rest-asks, turned-err, finished-turns}
+use Rattle.t3_run.proofs.PlayedTurns.{said-into, said-goes, rest-into, rest-asks}
+use Rattle.t3_run.proofs.PlayedRuns.{as-event, turned-err, finished-turns}
 use Rattle.t3_run.proofs.play.make_turn.Goals as goal
 
 pub returns-in_err-say-in-Said-clause-turned : goal.returns-in_err-say-in-Said-clause-turned

@@ -3,7 +3,8 @@ use Rattle.std.proofs.lemmas.Result.{err_from_is_err_and}
 use Rattle.t3_console.proofs.Shown.{taken_nothing}
 use Rattle.t3_interp.proofs.Runs.{gone_some}
 use Rattle.t3_run.specs.Inner.Playing.{Play}
-use Rattle.t3_run.proofs.Played.{begun-at, at-gone, as-goes, as-stops, at-last, steps-into, ended-err}
+use Rattle.t3_run.proofs.PlayedRests.{steps-into}
+use Rattle.t3_run.proofs.PlayedRuns.{begun-at, at-gone, as-goes, as-stops, at-last, ended-err}
 use Rattle.t3_run.proofs.play.play.Goals as goal
 
 pub loop-left-init : goal.loop-left-init

@@ -2,7 +2,7 @@ use Rattle.std.proofs.Common.{◌∙◌, ap}
 use Rattle.std.proofs.lemmas.Result.{err_from_is_err_and}
 use Rattle.t3_console.specs.Page.{PageValue}
 use Rattle.t3_run.specs.Inner.Playing.{Play}
-use Rattle.t3_run.proofs.Played.{ended-of, run-err, unbegun-into, stop-into, closed-into, closed-run}
+use Rattle.t3_run.proofs.PlayedRuns.{ended-of, run-err, unbegun-into, stop-into, closed-into, closed-run}
 use Rattle.t3_run.proofs.play.run.Goals as goal
 
 pub returns-in_err-machine-clause-run : goal.returns-in_err-machine-clause-run
