@@ -1,16 +1,11 @@
 -- What a method of a metaclass comes to, once it was carried out.
-use Rattle.std.proofs.Common.{◌≡◌, ℕ, ◌+◌, ◌≤◌, ◌<◌, ◌^◌, ◌==◌, nat_le, ◌&&◌, Bool, true, false, if◌then◌else◌, List, [], ◌∷◌, Option, Some, None, Result, Ok, Err, refl, sym, ap, subst, ◌∙◌, arith, rules}
-use Rattle.std.specs.List.{find, list_all}
-use Rattle.std.proofs.lemmas.Bool.{leb-true}
+use Rattle.std.proofs.Common.{◌≡◌, ℕ, ◌+◌, ◌<◌, Result, Ok, Err, refl, sym, ap, subst, ◌∙◌, arith}
 use Rattle.t3_holder.specs.declared.holder.Holder.{Holder}
 use Rattle.t3_store.specs.Store.{StoreValue}
 use Rattle.t3_ops.specs.declared.fault.Fault.{Fault as FaultName}
 use Rattle.t3_ops.specs.declared.outcome.OpRefusal.{OpRefusal}
 use Rattle.t3_ops.specs.declared.outcome.OpRefusal.TheVariants as refusals
-use Rattle.t3_kinds.specs.declared.methods.Methods.{Methods}
-use Rattle.t3_kinds.specs.declared.methods.Method.{Method}
 use Rattle.t3_kinds.specs.Changes.{Deed, HasDone as HasMethodDone}
-use Rattle.t3_kinds.specs.Methods.{row_of, every, is_row_at, same_methods, method_at}
 use Rattle.t3_frames.specs.Frame.{FramesValue, all_values}
 use Rattle.t3_frame_instructions.specs.declared.context.Core.{Core}
 use Rattle.t3_frame_instructions.specs.Effect.{Effect, Fault, StoreFull}
