@@ -38,6 +38,20 @@ def story(code, locals_count=0, more=b""):
     return HEAD + block(b"ENTP", number(4, 0) + number(2, 10) * 2 + bytes(8)) + more + pool(1, code) + END
 
 
+def metaclass(name):
+    """The block of a table of metaclasses with this one."""
+    entry = number(1, len(name)) + name + number(2, 0) + number(2, 2)
+    return block(b"MCLD", number(2, 1) + number(2, 2 + len(entry)) + entry)
+
+
+def tads_object(of, supers, props):
+    """A tads-object with these superclasses, and properties that are integers."""
+    head = number(2, len(supers)) + number(2, len(props)) + number(2, 0)
+    values = b"".join(number(2, p) + b"\x07" + number(4, value) for p, value in props)
+    body = head + b"".join(number(4, n) for n in supers) + values
+    return number(4, of) + number(2, len(body)) + body
+
+
 def timed(words, folder):
     """The seconds, the peak memory in bytes and the output of one run.
 
