@@ -1,7 +1,9 @@
 //! Sources that are assembled, and images that are listed.
+use std::alloc::Global;
 use std::test::Fail;
-use t3_cli::Status;
-use t3_testing::{lines, outcome, written};
+use t3_cli::{Status, t3_main};
+use t3_io::{MemoryConsole, MemoryDepot};
+use t3_testing::{lines, outcome, owned, written};
 
 /// A story that says 42.
 const STORY: &str =
@@ -151,5 +153,76 @@ fn names_no_file_that_is_not_there(rt: HostRuntime) -> Result<(), Fail> {
         let (status, _) = outcome(alloc, &[command, "a.t3"], None)?;
         assert_eq!(rt; status, Status::Usage);
     }
+    Ok(())
+}
+
+/// The status of a command where the calls of these numbers of the depot and of the console fail, what is shown, and what
+/// stands in the file that is put, which was `old`.
+fn stopped(
+    alloc: Global,
+    command: &str,
+    file: &[u8],
+    depot_call: u32,
+    console_call: u32,
+) -> Result<(Status, Vec<u8>, Vec<u8>), Fail> {
+    let mut depot = MemoryDepot::new(alloc, &[depot_call])?;
+    depot.keep(b"a.t3", file)?;
+    depot.keep(b"b.t3", b"old")?;
+    let mut console = MemoryConsole::new(alloc, b"", &[console_call])?;
+    let words = owned(alloc, &[command, "a.t3", "b.t3"])?;
+    let status = t3_main(alloc, &words, &mut depot, &mut console);
+    let put = Vec::from_slice(alloc, depot.file(b"b.t3").unwrap_or(b""))?;
+    Ok((status, Vec::from_slice(alloc, console.shown())?, put))
+}
+
+/// Calls that fail, of the depot and of the console, of which 9 is never made; the status; whether the line is shown; and
+/// how many halves of the file are put.
+type Stop = (u32, u32, Status, bool, u32);
+
+const STOPS: [Stop; 6] = [
+    (0, 9, Status::DepotFault, false, 0),
+    (1, 9, Status::DepotFault, false, 0),
+    (2, 9, Status::DepotFault, false, 1),
+    (3, 9, Status::Done, true, 2),
+    (9, 0, Status::ConsoleFault, false, 2),
+    (9, 1, Status::Done, true, 2),
+];
+
+/// What stands where so many halves of a file are put.
+fn halves_of(file: &[u8], halves: u32) -> &[u8] {
+    match halves {
+        0 => b"old",
+        1 => &file[..file.len() / 2],
+        _ => file,
+    }
+}
+
+/// The first row that a command of this file, which puts that one, doesn't end by.
+fn first_unlike(
+    alloc: Global,
+    command: &str,
+    file: &[u8],
+    wanted: &[u8],
+) -> Result<Option<Stop>, Fail> {
+    for stop in STOPS {
+        let (depot_call, console_call, status, is_shown, halves) = stop;
+        let (got, shown, put) = stopped(alloc, command, file, depot_call, console_call)?;
+        let is_put = put.as_slice() == halves_of(wanted, halves);
+        if got != status || shown.is_empty() == is_shown || !is_put {
+            return Ok(Some(stop));
+        }
+    }
+    Ok(None)
+}
+
+/// A file is read twice; then one is put, and the line shown.
+#[test]
+fn stops_where_a_device_fails(rt: HostRuntime) -> Result<(), Fail> {
+    let alloc = rt.alloc();
+    let source = lines(alloc, STORY)?;
+    let (_, image) = written(alloc, "asm", &source)?;
+    let (_, listing) = written(alloc, "list", &image)?;
+    assert_eq!(rt; first_unlike(alloc, "asm", &source, &image)?, None);
+    assert_eq!(rt; first_unlike(alloc, "list", &image, &listing)?, None);
     Ok(())
 }

@@ -67,6 +67,40 @@ fn lines_have_79_columns_where_no_option_says_it(rt: HostRuntime) -> Result<(), 
     Ok(())
 }
 
+/// Says ten times 99 bytes of one word, which are 990, and two texts more.
+const SAYS_990: &str =
+    "zerolcl1 0 / loop: / pushstr @a / builtin_a 1 0 / inclcl 0 / getlcl1 0 / pushint8 10 / \
+                        jlt @loop / pushstr @b / builtin_a 1 0 / pushstr @c / builtin_a 1 0 / retnil";
+
+/// 99 bytes.
+const PIECE: &str =
+    "aaaaaaaaaaaaaaaaaaaaaaaaaaaaaaaaaaaaaaaaaaaaaaaaaaaaaaaaaaaaaaaaaaaaaaaaaaaaaaaaaaaaaaaaaaaaaaaaaaa";
+
+/// What is shown behind 998 bytes of a word that ends so, and the word behind it, by lines of 1,000 columns.
+fn shown_behind_998(alloc: Global, end: &str, word: &str) -> Result<Vec<u8>, Fail> {
+    let constants = format!(in alloc;
+        "a: / text \"{PIECE}\" / b: / text \"{end}\" / c: / text \" {word}\""
+    )?;
+    let image = story(alloc, constants.as_str(), SAYS_990)?;
+    let (_, shown) = played(alloc, &image, &["--width=1000"], b"")?;
+    Ok(Vec::from_slice(alloc, shown.get(998..).unwrap_or(b""))?)
+}
+
+#[test]
+fn lines_have_1000_columns_at_most(rt: HostRuntime) -> Result<(), Fail> {
+    // A space and one byte more fill the line.
+    let rows = [
+        ("bbbbbbbb", "c", " c\n"),
+        ("bbbbbbbbb", "c", "b\nc\n"),
+        ("bbbbbbbb", "cc", "\ncc\n"),
+    ];
+    for (end, word, want) in &rows {
+        let shown = shown_behind_998(rt.alloc(), end, word)?;
+        assert_eq!(rt; shown.as_slice(), want.as_bytes(), "{end} {word}");
+    }
+    Ok(())
+}
+
 /// A word that is longer than the line and is said in ten pieces, behind another and in front of one.
 #[test]
 fn a_word_goes_on_from_piece_to_piece(rt: HostRuntime) -> Result<(), Fail> {
@@ -279,19 +313,33 @@ impl Depot for FleetingDepot {
     }
 }
 
-#[test]
-fn a_file_that_goes_is_absent(rt: HostRuntime) -> Result<(), Fail> {
-    let alloc = rt.alloc();
-    let image = story(alloc, BRACKETS, ECHOES)?;
-    let cut = image.len() / 2;
+/// The status and what is shown of these words where the first half of a file is read before it is gone.
+fn fleeting(alloc: Global, words: &[&str], file: &[u8]) -> Result<(Status, Vec<u8>), Fail> {
+    let half = file.len() / 2;
     let mut depot = FleetingDepot {
-        bytes: Vec::from_slice(alloc, &image[..cut])?,
+        bytes: Vec::from_slice(alloc, &file[..half])?,
         reads: 0,
     };
     let mut console = SureConsole::new(alloc, b"e\n")?;
-    let words = owned(alloc, &["run", "a.t3"])?;
-    let status = t3_main(alloc, &words, &mut depot, &mut console);
-    assert_eq!(rt; console.shown(), b"absent a.t3\n".as_slice());
-    assert_eq!(rt; status, Status::Absent);
+    let status = t3_main(alloc, &owned(alloc, words)?, &mut depot, &mut console);
+    Ok((status, Vec::from_slice(alloc, console.shown())?))
+}
+
+#[test]
+fn a_file_that_goes_is_absent(rt: HostRuntime) -> Result<(), Fail> {
+    let image = story(rt.alloc(), BRACKETS, ECHOES)?;
+    let rows: [&[&str]; 6] = [
+        &["run", "a.t3"],
+        &["check", "a.t3"],
+        &["show", "a.t3"],
+        &["rewrite", "a.t3", "b.t3"],
+        &["list", "a.t3", "b.t3"],
+        &["asm", "a.t3", "b.t3"],
+    ];
+    for words in rows {
+        let (status, shown) = fleeting(rt.alloc(), words, &image)?;
+        assert_eq!(rt; shown.as_slice(), b"absent a.t3\n".as_slice());
+        assert_eq!(rt; status, Status::Absent);
+    }
     Ok(())
 }

@@ -144,13 +144,14 @@ fn counts_arguments_by_each_code(rt: HostRuntime) -> Result<(), Fail> {
 
 // ---- what else calls and returns come to
 
-const FRAMES: [CallRow; 16] = [
+const FRAMES: [CallRow; 20] = [
     // Codes without a count call with none.
     ("pushobj 4 / getprop 11", "", REFUSED),
     ("objgetprop 4 11", "", REFUSED),
     (CALLS_ROW, "method 0 0 8 0 / getpropself 11", REFUSED),
     // A value takes no argument, whatever it is.
     ("push_1 / objcallprop 1 4 2", "", REFUSED),
+    ("push_1 / objcallprop 1 4 4", "", REFUSED),
     ("push_1 / objcallprop 1 4 5", "", REFUSED),
     (
         CALLS_ROW,
@@ -163,6 +164,22 @@ const FRAMES: [CallRow; 16] = [
         REFUSED,
     ),
     (CALLS_ROW, "method 0 0 8 0 / push_1 / inherit 1 3", REFUSED),
+    // A property that isn't there takes any arguments, and what stands below them stays.
+    (
+        "pushint8 5 / push_1 / push_1 / objcallprop 2 4 7 / getr0 / not / builtin_a 2 0 / retnil",
+        "",
+        "true5\n",
+    ),
+    (
+        "pushint8 5 / push_1 / pushobj 4 / pushpropid 7 / ptrcallprop 1 / getr0 / not / builtin_a 2 0 / retnil",
+        "",
+        "true5\n",
+    ),
+    (
+        CALLS_ROW,
+        "method 0 0 8 0 / pushint8 5 / push_1 / inherit 1 7 / getr0 / not / builtin_a 2 0 / retnil",
+        "true5\n",
+    ),
     // A function has no self, though its caller has one.
     (
         CALLS_ROW,

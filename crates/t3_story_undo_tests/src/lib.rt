@@ -4,6 +4,14 @@
 #[cfg(test)]
 mod cave;
 #[cfg(test)]
+mod drawing;
+#[cfg(test)]
+mod drawn;
+#[cfg(test)]
+mod limits;
+#[cfg(test)]
+mod plain;
+#[cfg(test)]
 mod story;
 #[cfg(test)]
 mod undoing;
