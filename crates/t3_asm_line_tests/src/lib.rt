@@ -2,6 +2,10 @@
 #![tactic(auto)]
 
 #[cfg(test)]
+mod kinds_of_lines;
+#[cfg(test)]
 mod lines;
 #[cfg(test)]
 mod listing;
+#[cfg(test)]
+mod telling;
