@@ -1,19 +1,23 @@
 //! A story whose savepoints, undos, changes and objects are drawn, and what it shows by the machine of whole copies.
-use crate::plain::{CELLS, Content, FIRST_ELEMENT, FIRST_ENTRY, Plain};
+use crate::plain::{CELLS, Content, DEFAULT, FIRST_ELEMENT, FIRST_ENTRY, Plain};
 use std::alloc::{AllocError, Global};
 
 /// How many actions a story has.
 const ACTIONS: u32 = 48;
 
-/// The keys of the table's entries; the last is a string that the story has made.
-const KEYS: [&str; 6] = [
+/// The keys of the table's entries; the last but one is a string that the story has made, and the last is never set.
+const KEYS: [&str; 7] = [
     "pushnil",
     "pushtrue",
     "pushint8 3",
     "pushenum 7",
     "pushobj 1",
     "getlcl1 2",
+    "pushobj 3",
 ];
+
+/// Sets the table's default.
+const SETS_DEFAULT: &str = " / getlcl1 1 / callprop 1 110";
 
 /// What a story begins with, in a function of its own: its locals are a vector, a table, a string and a transient object.
 const BEGINS: &str =
@@ -63,9 +67,9 @@ impl Story {
 
     /// Adds an action that is drawn.
     fn act(&mut self, alloc: Global, draw: &mut Draw) -> Result<(), AllocError> {
-        let cell = usize::from(draw.below(17));
+        let cell = usize::from(draw.below(18));
         let number = draw.below(99);
-        match draw.below(20) {
+        match draw.below(24) {
             0 | 1 | 2 => self.save(),
             3 | 4 | 5 => self.undo(),
             6 => self.set(alloc, cell, Content::Nil),
@@ -74,6 +78,8 @@ impl Story {
             9 => self.make(alloc, cell, "push_1 / push_1 / new1 2 3", false),
             10 => self.make(alloc, cell, "new1 0 4", false),
             11 | 12 | 13 | 14 => self.set_in(alloc, cell, number),
+            15 => self.take(alloc, cell),
+            16 => self.set_length(alloc, draw.below(6)),
             _ => self.set(alloc, cell, Content::Number(number)),
         }
     }
@@ -106,6 +112,24 @@ impl Story {
             }
             _ => self.body.push_str(" / pushnil"),
         }
+    }
+
+    /// Takes an entry away, if the cell is one that can be.
+    fn take(&mut self, alloc: Global, cell: usize) -> Result<(), AllocError> {
+        if cell < FIRST_ENTRY || cell == DEFAULT {
+            return Ok(());
+        }
+        self.plain.take(cell);
+        let key = key(cell);
+        let line = format!(in alloc; " / {key} / getlcl1 1 / callprop 1 101")?;
+        self.body.push_str(line.as_str())
+    }
+
+    /// Gives the vector so many elements.
+    fn set_length(&mut self, alloc: Global, length: u8) -> Result<(), AllocError> {
+        self.plain.set_length(usize::from(length));
+        let line = format!(in alloc; " / pushint8 {length} / getlcl1 0 / callprop 1 220")?;
+        self.body.push_str(line.as_str())
     }
 
     /// Sets the property of the transient object.
@@ -220,12 +244,15 @@ impl Story {
 }
 
 /// What names a cell behind the value that it is to get: properties 8 and 10 of objects 1 to 3, elements 1 to 5 of the
-/// vector, and the entries of the table under its keys.
+/// vector, the entries of the table under its keys, and its default.
 fn set_line(alloc: Global, cell: usize) -> Result<String, AllocError> {
     if cell < FIRST_ELEMENT {
         let object = (cell / 2).wrapping_add(1);
         let property = (cell % 2).wrapping_mul(2).wrapping_add(8);
         return format!(in alloc; " / objsetprop {object} {property}");
+    }
+    if cell == DEFAULT {
+        return String::from_str(alloc, SETS_DEFAULT);
     }
     let container = container_line(alloc, cell)?;
     format!(in alloc; "{container} / setind / disc")
@@ -248,11 +275,15 @@ fn container_line(alloc: Global, cell: usize) -> Result<String, AllocError> {
         let index = cell.wrapping_sub(FIRST_ELEMENT).wrapping_add(1);
         return format!(in alloc; " / getlcl1 0 / pushint8 {index}");
     }
-    let key = KEYS
-        .get(cell.wrapping_sub(FIRST_ENTRY))
-        .copied()
-        .unwrap_or("pushnil");
+    let key = key(cell);
     format!(in alloc; " / getlcl1 1 / {key}")
+}
+
+/// What pushes the key of an entry, or one that the table never has.
+fn key(cell: usize) -> &'static str {
+    KEYS.get(cell.wrapping_sub(FIRST_ENTRY))
+        .copied()
+        .unwrap_or("pushobj 3")
 }
 
 /// The actions of a seed.

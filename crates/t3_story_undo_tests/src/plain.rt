@@ -1,8 +1,8 @@
 //! A machine that keeps whole copies: what drawn stories do to their objects is done to it, too.
 use std::alloc::{AllocError, Global};
 
-/// How many properties, elements of a vector and entries of a table a story sets.
-pub(crate) const CELLS: usize = 17;
+/// How many properties, elements of a vector and entries of a table, with its default, a story sets.
+pub(crate) const CELLS: usize = 18;
 
 /// The cells from this one on are elements of the vector, and those before it properties.
 pub(crate) const FIRST_ELEMENT: usize = 6;
@@ -10,13 +10,16 @@ pub(crate) const FIRST_ELEMENT: usize = 6;
 /// The cells from this one on are entries of the table.
 pub(crate) const FIRST_ENTRY: usize = 11;
 
+/// The last cell is the table's default.
+pub(crate) const DEFAULT: usize = 17;
+
 /// How many objects a story makes at most.
 pub(crate) const OBJECTS: usize = 40;
 
 /// What a cell has.
 #[derive(Clone, Copy, Debug)]
 pub(crate) enum Content {
-    /// The vector hasn't that element.
+    /// The vector hasn't that element, or the table that key.
     Absent,
     Nil,
     Number(u8),
@@ -52,11 +55,11 @@ pub(crate) struct Plain {
 }
 
 impl Plain {
-    /// Nothing is set, the vector has no element, and no savepoint is held; so many savepoints are kept, with so many
-    /// records together.
+    /// Nothing is set, neither the vector nor the table has anything, and no savepoint is held; so many savepoints are
+    /// kept, with so many records together.
     pub(crate) fn new(alloc: Global, records: usize, savepoints: usize) -> Plain {
         let mut cells = [Content::Nil; CELLS];
-        cells[FIRST_ELEMENT..FIRST_ENTRY].fill(Content::Absent);
+        cells[FIRST_ELEMENT..DEFAULT].fill(Content::Absent);
         Plain {
             world: World {
                 cells,
@@ -69,8 +72,17 @@ impl Plain {
         }
     }
 
-    /// What a cell has.
+    /// What is read of a cell: of a key that isn't there, the default.
     pub(crate) fn content(&self, cell: usize) -> Content {
+        let own = self.own(cell);
+        if cell >= FIRST_ENTRY && matches!(own, Content::Absent) {
+            return self.own(DEFAULT);
+        }
+        own
+    }
+
+    /// What a cell has.
+    fn own(&self, cell: usize) -> Content {
         self.world.cells.get(cell).copied().unwrap_or(Content::Nil)
     }
 
@@ -120,6 +132,22 @@ impl Plain {
             if matches!(self.content(lower), Content::Absent) {
                 self.put(lower, Content::Nil);
             }
+        }
+    }
+
+    /// Takes an element or an entry away, if it is there.
+    pub(crate) fn take(&mut self, cell: usize) {
+        if !matches!(self.own(cell), Content::Absent) {
+            self.put(cell, Content::Absent);
+        }
+    }
+
+    /// Gives the vector so many elements: further ones are nil.
+    pub(crate) fn set_length(&mut self, length: usize) {
+        let end = FIRST_ELEMENT.wrapping_add(length);
+        self.fill_below(end);
+        for cell in end..FIRST_ENTRY {
+            self.take(cell);
         }
     }
 

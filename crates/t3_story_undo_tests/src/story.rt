@@ -3,19 +3,24 @@ use std::alloc::Global;
 use std::test::Fail;
 use t3_testing::{Row, lines, played, written};
 
-/// What stands before a method's body: a page of code, five metaclasses of which the first is that of tads-objects, the
-/// general functions as set 0, those for input and output as set 1 and the machine's own as set 2, and objects 1 to 3, of
-/// which object 1 has property 3 as 10, and the others are classes with a constructor.
+/// What stands before a method's body: a page of code; five metaclasses, of which the first is that of tads-objects, and
+/// vectors and tables have methods by the properties from 200 and from 100 on; the general functions as set 0, those for
+/// input and output as set 1 and the machine's own as set 2; and objects 1 to 3, of which object 1 has property 3 as 10,
+/// and the others are classes with a constructor.
 const BEFORE: &str =
     "image / block \"ENTP\" 1 / entry @main 10 10 0 0 0 0 - / block \"CPDF\" 1 / pool 1 1 4096 / \
                       block \"MCLD\" 1 / metaclass \"tads-object/030005\" 2 - / metaclass \"string/030008\" 2 - / \
-                      metaclass \"list/030008\" 2 - / metaclass \"vector/030005\" 2 - / \
-                      metaclass \"lookuptable/030003\" 2 - / block \"FNSD\" 1 / function-set \"tads-gen/030008\" / \
-                      function-set \"tads-io/030007\" / function-set \"t3vm/010006\" / \
-                      block \"OBJS\" 1 / objects 0 0 / object 1 / u2 0 / u2 1 / u2 0 / u2 3 / hold 7 10 / \
-                      object 2 / u2 0 / u2 1 / u2 1 / u2 7 / hold 11 @undoes / \
-                      object 3 / u2 0 / u2 1 / u2 1 / u2 7 / hold 11 @saves / \
-                      block \"SYMD\" 1 / symbol 6 7 \"Constructor\" / block \"CPPG\" 1 / page 1 0 0 / main: / method 0 2 8 0";
+                      metaclass \"list/030008\" 2 - / metaclass \"vector/030005\" 2 - / prop 200 / prop 201 / \
+                      prop 202 / prop 203 / prop 204 / prop 205 / prop 206 / prop 207 / prop 208 / prop 209 / \
+                      prop 210 / prop 211 / prop 212 / prop 213 / prop 214 / prop 215 / prop 216 / prop 217 / \
+                      prop 218 / prop 219 / prop 220 / metaclass \"lookuptable/030003\" 2 - / prop 100 / prop 101 / \
+                      prop 102 / prop 103 / prop 104 / prop 105 / prop 106 / prop 107 / prop 108 / prop 109 / \
+                      prop 110 / block \"FNSD\" 1 / function-set \"tads-gen/030008\" / \
+                      function-set \"tads-io/030007\" / function-set \"t3vm/010006\" / block \"OBJS\" 1 / \
+                      objects 0 0 / object 1 / u2 0 / u2 1 / u2 0 / u2 3 / hold 7 10 / object 2 / u2 0 / u2 1 / \
+                      u2 1 / u2 7 / hold 11 @undoes / object 3 / u2 0 / u2 1 / u2 1 / u2 7 / hold 11 @saves / \
+                      block \"SYMD\" 1 / symbol 6 7 \"Constructor\" / block \"CPPG\" 1 / page 1 0 0 / main: / \
+                      method 0 2 8 0";
 
 /// The methods behind the body: `show` says its argument, also where it is nil, and `save` and `back` make a savepoint and
 /// undo it, and answer what those answered. The constructor `undoes` makes an undo, and looks at self where it has an
