@@ -65,7 +65,8 @@ ended body after next due last builder rest fits fits_due is read breaks = inr (
 })
 
 -- or none are left, and they are one
-pub is_body : (body after : List ℕ) (next due last : ℕ) (builder : StateBuilder) (rest : List ℕ) (state : Objects) → next < 2 ^ 32 → due < 2 ^ 32
+pub is_body : (body after : List ℕ) (next due last : ℕ) (builder : StateBuilder) (rest : List ℕ) (state : Objects) → next < 2 ^ 32
+    → due < 2 ^ 32
     → body ≡ with_counts One next due after → (read : HasRead next after builder last due rest) → rest ≡ []
     → IsBuilt next read.objects (Some state) → IsBody One body state next
 unfolding body_text
@@ -73,7 +74,8 @@ is_body body after next due last builder rest state fits fits_due is read none b
   objects = read.objects;
   next_fits = fits;
   few = subst (λ k. k < 2 ^ 32) (sym read.count) fits_due;
-  is = is ∙ ap (with_counts One next due) (read.is ∙ ap (λ x. flat_map object_text read.objects ++ x) none ∙ append-nil (flat_map object_text read.objects))
+  is = is ∙ ap (with_counts One next due)
+      (read.is ∙ ap (λ x. flat_map object_text read.objects ++ x) none ∙ append-nil (flat_map object_text read.objects))
       ∙ ap (λ k. with_counts One next k (flat_map object_text read.objects)) (sym read.count);
   turn = read.has.turn;
   state_is = built.0;

@@ -64,7 +64,8 @@ pub same_rank : (why earlier : SnapshotRefusal) (n : ℕ) → rank_of why ≡ n 
 same_rank why earlier n a high b = sym (back earlier (omega arith)) ∙ ap why_of (b ∙ sym a) ∙ back why (omega arith)
 
 -- the next rule isn't broken either
-pub good_more : (fingerprint bytes : List ℕ) (why : SnapshotRefusal) (rank : ℕ) → rank_of why ≡ rank → rank < 6 → IsGoodTo fingerprint bytes rank → ¬ Breaks fingerprint bytes why
+pub good_more : (fingerprint bytes : List ℕ) (why : SnapshotRefusal) (rank : ℕ) → rank_of why ≡ rank → rank < 6
+    → IsGoodTo fingerprint bytes rank → ¬ Breaks fingerprint bytes why
     → IsGoodTo fingerprint bytes (rank + 1)
 good_more fingerprint bytes why rank is high good none = record {
   none = λ earlier lt broken. by earlier lt broken (lt_or earlier lt);
@@ -73,27 +74,33 @@ good_more fingerprint bytes why rank is high good none = record {
     lt_or : (earlier : SnapshotRefusal) → rank_of earlier < rank + 1 → (rank_of earlier < rank) ⊎ (rank_of earlier ≡ rank)
     lt_or earlier lt = below_or (rank_of earlier) rank lt
 
-    by : (earlier : SnapshotRefusal) → rank_of earlier < rank + 1 → Breaks fingerprint bytes earlier → (rank_of earlier < rank) ⊎ (rank_of earlier ≡ rank) → ⊥
+    by : (earlier : SnapshotRefusal) → rank_of earlier < rank + 1 → Breaks fingerprint bytes earlier
+        → (rank_of earlier < rank) ⊎ (rank_of earlier ≡ rank) → ⊥
     by earlier lt broken (inl less) = good.none earlier less broken
     by earlier lt broken (inr same) = none (subst (Breaks fingerprint bytes) (same_rank why earlier rank is high same) broken)
 
-pub refused_by : (fingerprint bytes : List ℕ) (why : SnapshotRefusal) → IsGoodTo fingerprint bytes (rank_of why) → Breaks fingerprint bytes why → IsRefused fingerprint bytes why
+pub refused_by : (fingerprint bytes : List ℕ) (why : SnapshotRefusal) → IsGoodTo fingerprint bytes (rank_of why)
+    → Breaks fingerprint bytes why → IsRefused fingerprint bytes why
 refused_by fingerprint bytes why good broken = record { broken = broken; first = good.none }
 
 pub good_size : (fingerprint bytes : List ℕ) → length bytes ≤ state_limit → IsGoodTo fingerprint bytes 2
-good_size fingerprint bytes le = good_more fingerprint bytes refusals.TooLong 1 refl (omega arith) (good_start fingerprint bytes) (λ broken. omega (arith, le))
+good_size fingerprint bytes le =
+    good_more fingerprint bytes refusals.TooLong 1 refl (omega arith) (good_start fingerprint bytes) (λ broken. omega (arith, le))
 
 pub good_signature : (fingerprint bytes : List ℕ) → IsGoodTo fingerprint bytes 2 → take 8 bytes ≡ signature → IsGoodTo fingerprint bytes 3
 good_signature fingerprint bytes good is = good_more fingerprint bytes refusals.Signature 2 refl (omega arith) good (λ broken. broken is)
 
-pub good_version : (version : Version) (fingerprint bytes : List ℕ) → IsGoodTo fingerprint bytes 3 → SaysVersion version bytes → IsGoodTo fingerprint bytes 4
-good_version version fingerprint bytes good is = good_more fingerprint bytes refusals.Version 3 refl (omega arith) good (λ broken. broken version is)
+pub good_version : (version : Version) (fingerprint bytes : List ℕ) → IsGoodTo fingerprint bytes 3 → SaysVersion version bytes
+    → IsGoodTo fingerprint bytes 4
+good_version version fingerprint bytes good is =
+    good_more fingerprint bytes refusals.Version 3 refl (omega arith) good (λ broken. broken version is)
 
 -- bytes that don't say the one version say none
 pub other_version : (bytes : List ℕ) → ¬ SaysVersion One bytes → (version : Version) → ¬ SaysVersion version bytes
 other_version bytes none One is = none is
 
-pub good_image : (fingerprint bytes : List ℕ) → IsGoodTo fingerprint bytes 4 → take 32 (drop 10 bytes) ≡ fingerprint → IsGoodTo fingerprint bytes 5
+pub good_image : (fingerprint bytes : List ℕ) → IsGoodTo fingerprint bytes 4 → take 32 (drop 10 bytes) ≡ fingerprint
+    → IsGoodTo fingerprint bytes 5
 good_image fingerprint bytes good is = good_more fingerprint bytes refusals.OtherImage 4 refl (omega arith) good (λ broken. broken is)
 
 digest_good : (fingerprint bytes : List ℕ) → HasDigest bytes → ¬ Breaks fingerprint bytes refusals.Digest
@@ -112,16 +119,19 @@ digest_broken fingerprint bytes none = by (cases_lt (length bytes) 74)
 pub good_envelope : (version : Version) (fingerprint bytes : List ℕ) → HasEnvelope version fingerprint bytes → IsGoodTo fingerprint bytes 6
 good_envelope version fingerprint bytes envelope =
     good_more fingerprint bytes refusals.Digest 5 refl (omega arith)
-    (good_image fingerprint bytes (good_version version fingerprint bytes (good_signature fingerprint bytes (good_size fingerprint bytes envelope.size) envelope.signed) envelope.versioned) envelope.image)
+    (good_image fingerprint bytes (good_version version fingerprint bytes
+    (good_signature fingerprint bytes (good_size fingerprint bytes envelope.size) envelope.signed) envelope.versioned) envelope.image)
     (digest_good fingerprint bytes (record { long = envelope.long; digest = envelope.digest }))
 
-malformed : (version : Version) (fingerprint bytes : List ℕ) (items : ℕ) → HasEnvelope version fingerprint bytes
+pub malformed : (version : Version) (fingerprint bytes : List ℕ) (items : ℕ) → HasEnvelope version fingerprint bytes
     → IsMalformed version (body_in bytes) items → IsRefused fingerprint bytes (refusals.Malformed items)
 malformed version fingerprint bytes items envelope is =
-    refused_by fingerprint bytes (refusals.Malformed items) (good_envelope version fingerprint bytes envelope) (version, envelope.versioned, is)
+    refused_by fingerprint bytes (refusals.Malformed items) (good_envelope version fingerprint bytes envelope)
+    (version, envelope.versioned, is)
 
 -- what a body's refusal says of the bytes
-pub refused_body : (version : Version) (fingerprint bytes body : List ℕ) (why : BodyRefusal) → HasEnvelope version fingerprint bytes → body ≡ body_in bytes
+pub refused_body : (version : Version) (fingerprint bytes body : List ℕ) (why : BodyRefusal) → HasEnvelope version fingerprint bytes
+    → body ≡ body_in bytes
     → FailsAt (IsMalformed version body) why → Refuses fingerprint bytes (refusal_of_body why)
 refused_body version fingerprint bytes body (bodies.Malformed items) envelope body_is fails =
     malformed version fingerprint bytes items envelope (subst (λ b. IsMalformed version b items) body_is fails)
@@ -132,32 +142,48 @@ refused_body version fingerprint bytes body bodies.NoMemory envelope body_is fai
 cut : (n : ℕ) (xs part : List ℕ) → take n xs ≡ part → xs ≡ part ++ drop n xs
 cut n xs part e = sym (take-append-drop n xs) ∙ ap (λ x. x ++ drop n xs) e
 
-head_is : (version : Version) (fingerprint bytes : List ℕ) → HasEnvelope version fingerprint bytes → bytes ≡ head_text version fingerprint ++ drop 42 bytes
+head_is : (version : Version) (fingerprint bytes : List ℕ) → HasEnvelope version fingerprint bytes
+    → bytes ≡ head_text version fingerprint ++ drop 42 bytes
 unfolding head_text
 head_is version fingerprint bytes envelope =
     cut 8 bytes signature envelope.signed
     ∙ ap (λ x. signature ++ x) (cut 2 (drop 8 bytes) (little_endian 2 (number_of version)) envelope.versioned
-    ∙ ap (λ x. little_endian 2 (number_of version) ++ x) (drop-drop 2 8 bytes ∙ cut 32 (drop 10 bytes) fingerprint envelope.image ∙ ap (λ x. fingerprint ++ x) (drop-drop 32 10 bytes)))
-    ∙ sym (append_assoc signature (little_endian 2 (number_of version) ++ fingerprint) (drop 42 bytes) ∙ ap (λ x. signature ++ x) (append_assoc (little_endian 2 (number_of version)) fingerprint (drop 42 bytes)))
+    ∙ ap (λ x. little_endian 2 (number_of version) ++ x)
+    (drop-drop 2 8 bytes ∙ cut 32 (drop 10 bytes) fingerprint envelope.image ∙ ap (λ x. fingerprint ++ x) (drop-drop 32 10 bytes)))
+    ∙ sym (append_assoc signature (little_endian 2 (number_of version) ++ fingerprint) (drop 42 bytes)
+    ∙ ap (λ x. signature ++ x) (append_assoc (little_endian 2 (number_of version)) fingerprint (drop 42 bytes)))
 
-head_long : (version : Version) (fingerprint bytes : List ℕ) → HasEnvelope version fingerprint bytes → length (head_text version fingerprint) ≡ 42
-head_long version fingerprint bytes envelope = omega (arith, ap length (head_is version fingerprint bytes envelope), length-append (head_text version fingerprint) (drop 42 bytes), length-drop 42 bytes, envelope.long)
+head_long : (version : Version) (fingerprint bytes : List ℕ) → HasEnvelope version fingerprint bytes
+    → length (head_text version fingerprint) ≡ 42
+head_long version fingerprint bytes envelope =
+    omega (
+      arith,
+      ap length (head_is version fingerprint bytes envelope),
+      length-append (head_text version fingerprint) (drop 42 bytes),
+      length-drop 42 bytes,
+      envelope.long,
+    )
 
 front_of : (head rest : List ℕ) (n : ℕ) → length head ≤ n → take n (head ++ rest) ≡ head ++ take (n - length head) rest
 front_of [] rest n le = ap (λ k. take k rest) (omega arith)
 front_of (x ∷ head) rest zero le = absurd (omega arith)
 front_of (x ∷ head) rest (suc n) le = ap (λ t. x ∷ t) (front_of head rest n (omega arith) ∙ ap (λ k. head ++ take k rest) (omega arith))
 
-pub is_text : (version : Version) (fingerprint bytes : List ℕ) → HasEnvelope version fingerprint bytes → bytes ≡ with_digest (head_text version fingerprint ++ body_in bytes)
+pub is_text : (version : Version) (fingerprint bytes : List ℕ) → HasEnvelope version fingerprint bytes
+    → bytes ≡ with_digest (head_text version fingerprint ++ body_in bytes)
 unfolding with_digest
 is_text version fingerprint bytes envelope =
     let whole : bytes ≡ digested bytes ++ digest_in bytes = sym (take-append-drop (length bytes - 32) bytes) in
     let long = head_long version fingerprint bytes envelope in
-    let front : digested bytes ≡ head_text version fingerprint ++ take (length bytes - 32 - length (head_text version fingerprint)) (drop 42 bytes) =
-    ap (take (length bytes - 32)) (head_is version fingerprint bytes envelope) ∙ front_of (head_text version fingerprint) (drop 42 bytes) (length bytes - 32) (omega (arith, envelope.long)) in
+    let front : digested bytes ≡ head_text version fingerprint
+    ++ take (length bytes - 32 - length (head_text version fingerprint)) (drop 42 bytes) =
+    ap (take (length bytes - 32)) (head_is version fingerprint bytes envelope)
+    ∙ front_of (head_text version fingerprint) (drop 42 bytes) (length bytes - 32) (omega (arith, envelope.long)) in
     let behind : body_in bytes ≡ take (length bytes - 32 - length (head_text version fingerprint)) (drop 42 bytes) =
-    ap (drop 42) front ∙ drop_at (head_text version fingerprint) (take (length bytes - 32 - length (head_text version fingerprint)) (drop 42 bytes)) 42 long in
-    let same : digested bytes ≡ head_text version fingerprint ++ body_in bytes = front ∙ ap (λ x. head_text version fingerprint ++ x) (sym behind) in
+    ap (drop 42) front ∙ drop_at (head_text version fingerprint)
+    (take (length bytes - 32 - length (head_text version fingerprint)) (drop 42 bytes)) 42 long in
+    let same : digested bytes ≡ head_text version fingerprint ++ body_in bytes =
+    front ∙ ap (λ x. head_text version fingerprint ++ x) (sym behind) in
     whole ∙ ap (λ x. digested bytes ++ x) envelope.digest ∙ ap (λ x. x ++ sha256 x) same
 
 pub spelled : (version : Version) (fingerprint bytes body : List ℕ) (state : Objects) (next : ℕ) → HasEnvelope version fingerprint bytes
@@ -172,7 +198,8 @@ spelled version fingerprint bytes body state next envelope body_is is =
         complete = subst (λ m. IsComplete m next) (sym is.state_is) is.complete;
       };
       size = envelope.size;
-      is = is_text version fingerprint bytes envelope ∙ ap (λ x. with_digest (head_text version fingerprint ++ x)) (sym body_is ∙ is.is ∙ ap (body_text version next) (sym same));
+      is = is_text version fingerprint bytes envelope
+          ∙ ap (λ x. with_digest (head_text version fingerprint ++ x)) (sym body_is ∙ is.is ∙ ap (body_text version next) (sym same));
     }
 
 pub not_from : (b : Bool) (P : Type 0) → IsTrue b ↔ P → b ≡ false → ¬ P

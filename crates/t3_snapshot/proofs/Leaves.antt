@@ -62,15 +62,29 @@ number_takes width bytes n rest are e =
 pub number_again : (width n : ℕ) (rest : List ℕ) → n < 256 ^ width → number_at width (little_endian width n ++ rest) ≡ Some (n, rest)
 number_again width n rest lt =
     let len = length-little_endian width n in
-    let long : ltb (length (little_endian width n ++ rest)) width ≡ false = le-ltb _ _ (omega (arith, length-append (little_endian width n) rest)) in
-    rw (long, take_at (little_endian width n) rest width len, drop_at (little_endian width n) rest width len, value_of-little_endian width n lt) refl
+    let long : ltb (length (little_endian width n ++ rest)) width ≡ false =
+    le-ltb _ _ (omega (arith, length-append (little_endian width n) rest)) in
+    rw (
+      long,
+      take_at (little_endian width n) rest width len,
+      drop_at (little_endian width n) rest width len,
+      value_of-little_endian width n lt,
+    ) refl
 
 -- a number that the code read
 pub number_read : (width n : ℕ) (bytes rest : List ℕ) → n < 256 ^ width → width ≤ length bytes → take width bytes ≡ little_endian width n
     → drop width bytes ≡ rest → number_at width bytes ≡ Some (n, rest)
 number_read width n bytes rest lt long front behind =
-    let whole : bytes ≡ little_endian width n ++ rest = sym (take-append-drop width bytes) ∙ ap (λ x. x ++ drop width bytes) front ∙ ap (λ x. little_endian width n ++ x) behind in
+    let whole : bytes ≡ little_endian width n ++ rest =
+    sym (take-append-drop width bytes) ∙ ap (λ x. x ++ drop width bytes) front ∙ ap (λ x. little_endian width n ++ x) behind in
     ap (number_at width) whole ∙ number_again width n rest lt
+
+-- where there are enough bytes, a number stands there
+pub number_there : (width : ℕ) (bytes : List ℕ) → AreBytes bytes → width ≤ length bytes
+    → (n : ℕ) × (bytes ≡ little_endian width n ++ drop width bytes) × (n < 256 ^ width) × AreBytes (drop width bytes)
+number_there width bytes are long =
+    let t = number_takes width bytes (value_of (take width bytes)) (drop width bytes) are (rw (le-ltb (length bytes) width long) refl) in
+    (value_of (take width bytes), t.0, t.1, t.2)
 
 -- ---- holders
 
@@ -110,10 +124,12 @@ pub both_true : (a b : Bool) → (a && b) ≡ true → (a ≡ true) × (b ≡ tr
 both_true true b e = (refl, e)
 both_true false b e = absurd cc
 
-numbered_takes : (bound bits : ℕ) (made holder : Holder) → where_numbered bound bits made ≡ Some holder → (0 < bits) × (bits < bound) × (made ≡ holder)
+numbered_takes : (bound bits : ℕ) (made holder : Holder) → where_numbered bound bits made ≡ Some holder
+    → (0 < bits) × (bits < bound) × (made ≡ holder)
 numbered_takes bound bits made holder e =
     chosen (nat_lt 0 bits && nat_lt bits bound) (Some made) None holder _ e
-    (λ is same. let parts = both_true (nat_lt 0 bits) (nat_lt bits bound) is in (ltb-true 0 bits parts.0, ltb-true bits bound parts.1, cc)) (λ no. absurd cc)
+    (λ is same. let parts = both_true (nat_lt 0 bits) (nat_lt bits bound) is in (ltb-true 0 bits parts.0, ltb-true bits bound parts.1, cc))
+    (λ no. absurd cc)
 
 made : (tag bits : ℕ) (x holder : Holder) → x ≡ holder → IsOf tag bits x → IsOf tag bits holder
 made tag bits x holder e is = subst (IsOf tag bits) e is
@@ -126,7 +142,8 @@ unsigned_is (pos n) = refl
 unsigned_is (negsuc n) = refl
 
 pub signed_few : (z : ℤ) → FitsSigned w32 z → twos_complement 4 z < 2 ^ 32
-signed_few z fits = subst (λ n. n < 2 ^ 32) (unsigned_is z) (Fits-lt-pow {w = w32} {n = cast_unsigned w32 z} (Fits-of_z {w = w32} {z = z} fits))
+signed_few z fits =
+    subst (λ n. n < 2 ^ 32) (unsigned_is z) (Fits-lt-pow {w = w32} {n = cast_unsigned w32 z} (Fits-of_z {w = w32} {z = z} fits))
 
 signed_back : (bits : ℕ) → bits < 2 ^ 32 → bits ≡ twos_complement 4 (cast_signed w32 bits)
 signed_back bits lt = sym (of_z-to_z w32 bits lt) ∙ unsigned_is (cast_signed w32 bits)
@@ -143,19 +160,26 @@ from_takes tag bits holder lt e =
     chosen _ _ _ holder _ e (λ is x. let p = numbered_takes (2 ^ 16) bits (holders.Prop bits) holder x in
     made tag bits (holders.Prop bits) holder p.2 (record { tag_is = eqb-true tag 6 is; bits_are = refl; fits = p.1; good = p.0 })) (λ e.
     chosen _ _ _ holder _ e (λ is x.
-    made tag bits (holders.Int (cast_signed w32 bits)) holder (some_is _ _ x) (record { tag_is = eqb-true tag 7 is; bits_are = signed_back bits lt; fits = signed_fits bits lt; good = tt })) (λ e.
+    made tag bits (holders.Int (cast_signed w32 bits)) holder (some_is _ _ x)
+    (record { tag_is = eqb-true tag 7 is; bits_are = signed_back bits lt; fits = signed_fits bits lt; good = tt })) (λ e.
     chosen _ _ _ holder _ e (λ is x.
-    made tag bits (holders.Text bits) holder (some_is _ _ x) (record { tag_is = eqb-true tag 8 is; bits_are = refl; fits = lt; good = tt })) (λ e.
+    made tag bits (holders.Text bits) holder (some_is _ _ x) (record { tag_is = eqb-true tag 8 is; bits_are = refl; fits = lt; good = tt }))
+    (λ e.
     chosen _ _ _ holder _ e (λ is x.
-    made tag bits (holders.Shown bits) holder (some_is _ _ x) (record { tag_is = eqb-true tag 9 is; bits_are = refl; fits = lt; good = tt })) (λ e.
+    made tag bits (holders.Shown bits) holder (some_is _ _ x)
+    (record { tag_is = eqb-true tag 9 is; bits_are = refl; fits = lt; good = tt })) (λ e.
     chosen _ _ _ holder _ e (λ is x.
-    made tag bits (holders.List bits) holder (some_is _ _ x) (record { tag_is = eqb-true tag 10 is; bits_are = refl; fits = lt; good = tt })) (λ e.
+    made tag bits (holders.List bits) holder (some_is _ _ x)
+    (record { tag_is = eqb-true tag 10 is; bits_are = refl; fits = lt; good = tt })) (λ e.
     chosen _ _ _ holder _ e (λ is x.
-    made tag bits (holders.Code bits) holder (some_is _ _ x) (record { tag_is = eqb-true tag 11 is; bits_are = refl; fits = lt; good = tt })) (λ e.
+    made tag bits (holders.Code bits) holder (some_is _ _ x)
+    (record { tag_is = eqb-true tag 11 is; bits_are = refl; fits = lt; good = tt })) (λ e.
     chosen _ _ _ holder _ e (λ is x.
-    made tag bits (holders.Func bits) holder (some_is _ _ x) (record { tag_is = eqb-true tag 12 is; bits_are = refl; fits = lt; good = tt })) (λ e.
+    made tag bits (holders.Func bits) holder (some_is _ _ x)
+    (record { tag_is = eqb-true tag 12 is; bits_are = refl; fits = lt; good = tt })) (λ e.
     chosen _ _ _ holder _ e (λ is x.
-    made tag bits (holders.Enum bits) holder (some_is _ _ x) (record { tag_is = eqb-true tag 15 is; bits_are = refl; fits = lt; good = tt })) (λ e.
+    made tag bits (holders.Enum bits) holder (some_is _ _ x)
+    (record { tag_is = eqb-true tag 15 is; bits_are = refl; fits = lt; good = tt })) (λ e.
     absurd cc)))))))))))
 
 -- the same from a raw holder that means it, and has its bits
@@ -163,22 +187,27 @@ pub from_means : (raw : Raw) (holder : Holder) → Means raw holder → raw.bits
 from_means raw holder means bits =
     ap (λ t. holder_from t raw.bits) means.tag ∙ ap (holder_from (tag_of holder)) bits ∙ from_again holder means.fits means.good
 
-from_none : (tag bits : ℕ) (found : Option Holder) → holder_from tag bits ≡ found → ((holder : Holder) → found ≡ Some holder → ⊥) → holder_from tag bits ≡ None
+from_none : (tag bits : ℕ) (found : Option Holder) → holder_from tag bits ≡ found → ((holder : Holder) → found ≡ Some holder → ⊥)
+    → holder_from tag bits ≡ None
 from_none tag bits None e never = e
 from_none tag bits (Some holder) e never = absurd (never holder refl)
 
 of_raw : (raw : Raw) (holder : Holder) → IsOf raw.tag raw.bits holder → Means raw holder
 of_raw raw holder is = mean raw holder is (is_meant holder is.fits is.good)
   where
-    mean : (raw : Raw) (holder : Holder) → IsOf raw.tag raw.bits holder → Means (record { tag = tag_of holder; bits = bits_of holder }) holder → Means raw holder
-    mean raw holder is means = record { fits = means.fits; good = means.good; tag = is.tag_is; bits = ap (used_bits holder) is.bits_are ∙ means.bits }
+    mean : (raw : Raw) (holder : Holder) → IsOf raw.tag raw.bits holder
+        → Means (record { tag = tag_of holder; bits = bits_of holder }) holder → Means raw holder
+    mean raw holder is means =
+        record { fits = means.fits; good = means.good; tag = is.tag_is; bits = ap (used_bits holder) is.bits_are ∙ means.bits }
 
 -- a raw holder that means nothing
 pub from_meant_none : (raw : Raw) → raw.bits < 2 ^ 32 → ((holder : Holder) → Means raw holder → ⊥) → holder_from raw.tag raw.bits ≡ None
-from_meant_none raw lt never = from_none raw.tag raw.bits _ refl (λ holder e. never holder (of_raw raw holder (from_takes raw.tag raw.bits holder lt e)))
+from_meant_none raw lt never =
+    from_none raw.tag raw.bits _ refl (λ holder e. never holder (of_raw raw holder (from_takes raw.tag raw.bits holder lt e)))
 
 -- a raw holder with bits that its type doesn't use
-pub from_other_none : (raw : Raw) (holder : Holder) → raw.bits < 2 ^ 32 → Means raw holder → raw.bits ≢ bits_of holder → holder_from raw.tag raw.bits ≡ None
+pub from_other_none : (raw : Raw) (holder : Holder) → raw.bits < 2 ^ 32 → Means raw holder → raw.bits ≢ bits_of holder
+    → holder_from raw.tag raw.bits ≡ None
 from_other_none raw holder lt means other = from_none raw.tag raw.bits _ refl (λ found e.
     let is = from_takes raw.tag raw.bits found lt e in
     let same = one_holder raw found holder (of_raw raw found is) means in

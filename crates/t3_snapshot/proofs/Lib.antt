@@ -4,6 +4,8 @@ pub mod Keys
 pub mod Sorted
 pub mod Rising
 pub mod Readers
+pub mod TadsReaders
+pub mod ValueReaders
 pub mod OneMore
 pub mod Turn
 pub mod Taking
@@ -16,5 +18,7 @@ pub mod Trim
 pub mod OneState
 pub mod OneRefusal
 pub mod Sizes
+pub mod TrimmedValues
 pub mod Savable
 pub mod SoundTrimmed
+pub mod SomeAnswer

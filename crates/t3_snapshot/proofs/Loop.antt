@@ -15,17 +15,20 @@ regroup {A} front n (Some x) = ap (λ (ns : List A). Some (ns, x.1)) (simp appen
 regroup front n None = refl
 
 pub goes_on : {A : Type 0} (item_at : List ℕ → Option (A × List ℕ)) (front : List A) (count i : ℕ) (bytes : List ℕ) (n : A) (after : List ℕ)
-    (total : Option (List A × List ℕ)) → i < count → item_at bytes ≡ Some (n, after) → with_front front (items_at item_at (count - i) bytes) ≡ total
+    (total : Option (List A × List ℕ)) → i < count → item_at bytes ≡ Some (n, after)
+    → with_front front (items_at item_at (count - i) bytes) ≡ total
     → with_front (front ++ n ∷ []) (items_at item_at (count - (i + 1)) after) ≡ total
 unfolding items_at
 goes_on item_at front count i bytes n after total lt h so_far =
     let k : count - i ≡ suc (count - (i + 1)) = omega arith in
-    let one : with_front front (items_at item_at (count - i) bytes) ≡ with_front (front ++ n ∷ []) (items_at item_at (count - (i + 1)) after) =
+    let one : with_front front (items_at item_at (count - i) bytes)
+    ≡ with_front (front ++ n ∷ []) (items_at item_at (count - (i + 1)) after) =
     rw (k, h) (regroup front n (items_at item_at (count - (i + 1)) after)) in
     sym one ∙ so_far
 
 pub ends : {A : Type 0} (item_at : List ℕ → Option (A × List ℕ)) (e : ReadError) (front : List A) (count i : ℕ) (bytes : List ℕ)
-    (total : Option (List A × List ℕ)) → i < count → Stops e (item_at bytes) → with_front front (items_at item_at (count - i) bytes) ≡ total → Stops e total
+    (total : Option (List A × List ℕ)) → i < count → Stops e (item_at bytes) → with_front front (items_at item_at (count - i) bytes) ≡ total
+    → Stops e total
 unfolding items_at
 ends item_at errors.NoMemory front count i bytes total lt h so_far = tt
 ends item_at errors.Misspelled front count i bytes total lt h so_far =
@@ -33,10 +36,12 @@ ends item_at errors.Misspelled front count i bytes total lt h so_far =
     let one : with_front front (items_at item_at (count - i) bytes) ≡ None = rw (k, h) refl in
     sym so_far ∙ one
 
-pub is_done : {A : Type 0} (item_at : List ℕ → Option (A × List ℕ)) (front : List A) (count i : ℕ) (bytes : List ℕ) (total : Option (List A × List ℕ))
+pub is_done : {A : Type 0} (item_at : List ℕ → Option (A × List ℕ)) (front : List A) (count i : ℕ) (bytes : List ℕ)
+    (total : Option (List A × List ℕ))
     → count ≤ i → with_front front (items_at item_at (count - i) bytes) ≡ total → total ≡ Some (front, bytes)
 unfolding items_at
 is_done {A} item_at front count i bytes total le so_far =
     let k : count - i ≡ 0 = omega arith in
-    let one : with_front front (items_at item_at (count - i) bytes) ≡ Some (front, bytes) = rw k (ap (λ (ns : List A). Some (ns, bytes)) (append-nil front)) in
+    let one : with_front front (items_at item_at (count - i) bytes) ≡ Some (front, bytes) =
+    rw k (ap (λ (ns : List A). Some (ns, bytes)) (append-nil front)) in
     sym so_far ∙ one

@@ -28,7 +28,8 @@ either_true true b t = inl refl
 either_true false b t = inr t
 
 -- an object more is too many
-pub over_added : (state : Objects) (n : ℕ) (value : Value) → get state n ≡ None → IsTrue (is_past state (units_of value)) → IsOver (insert state n value)
+pub over_added : (state : Objects) (n : ℕ) (value : Value) → get state n ≡ None → IsTrue (is_past state (units_of value))
+    → IsOver (insert state n value)
 over_added state n value none past = by (either_true _ _ past)
   where
     by : IsTrue (nat_lt 1048576 (len state + 1)) ⊎ IsTrue (is_past_units state (units_of value)) → IsOver (insert state n value)
@@ -36,7 +37,8 @@ over_added state n value none past = by (either_true _ _ past)
     by (inr units) = inr (let lt = ltb-true _ _ units in omega (arith, added_units state n value none))
 
 -- too many stay too many where the object counts more
-pub over_more : (state : Objects) (n : ℕ) (value more : Value) → get state n ≡ None → units_of value ≤ units_of more → IsOver (insert state n value) → IsOver (insert state n more)
+pub over_more : (state : Objects) (n : ℕ) (value more : Value) → get state n ≡ None → units_of value ≤ units_of more
+    → IsOver (insert state n value) → IsOver (insert state n more)
 over_more state n value more none le (inl few) = inl (omega (arith, added_len state n value none, added_len state n more none))
 over_more state n value more none le (inr units) = inr (omega (arith, added_units state n value none, added_units state n more none))
 
@@ -66,7 +68,8 @@ pub begun : (old made now : Objects) (number : ℕ) (all : List Pair) (default :
 begun old made now number all default is set = record {
   front = [];
   is = refl;
-  state = set ∙ ap (λ m. adjust m number (with_cell cells.Default default)) is ∙ adjust_added old number (Table [] holders.Nil) (with_cell cells.Default default);
+  state = set ∙ ap (λ m. adjust m number (with_cell cells.Default default)) is
+      ∙ adjust_added old number (Table [] holders.Nil) (with_cell cells.Default default);
 }
 
 at_last : (P : Key → Type 0) (front rest : List Pair) (pair : Pair) → AllByRecursion P (keys_of (front ++ pair ∷ rest)) → P pair.key
@@ -83,12 +86,14 @@ absent (x ∷ front) rest pair distinct =
 pub table_without : (old now : Objects) (number : ℕ) (all : List Pair) (default : Holder) (pair : Pair) (left : List Pair)
     → IsFilling old now number all default (pair ∷ left) → HasDistinctKeys all → IsTableWithout pair.key (get now number)
 table_without old now number all default pair left filling distinct =
-    let here : get now number ≡ Some (Table filling.front default) = ap (λ m. get m number) filling.state ∙ added_here old number (Table filling.front default) in
+    let here : get now number ≡ Some (Table filling.front default) =
+    ap (λ m. get m number) filling.state ∙ added_here old number (Table filling.front default) in
     let none = absent filling.front left pair (subst HasDistinctKeys (sym filling.is) distinct) in
     subst (IsTableWithout pair.key) (sym here) (refl, none)
 
 pub filled_more : (old now next : Objects) (number : ℕ) (all : List Pair) (default : Holder) (pair : Pair) (left : List Pair)
-    → IsFilling old now number all default (pair ∷ left) → HasDistinctKeys all → next ≡ adjust now number (with_cell (cells.Key pair.key) pair.value)
+    → IsFilling old now number all default (pair ∷ left) → HasDistinctKeys all
+    → next ≡ adjust now number (with_cell (cells.Key pair.key) pair.value)
     → IsFilling old next number all default left
 filled_more old now next number all default pair left filling distinct set =
     let none = absent filling.front left pair (subst HasDistinctKeys (sym filling.is) distinct) in
@@ -97,23 +102,32 @@ filled_more old now next number all default pair left filling distinct set =
       is = append_assoc filling.front (pair ∷ []) left ∙ filling.is;
       state = set ∙ ap (λ m. adjust m number (with_cell (cells.Key pair.key) pair.value)) filling.state
           ∙ adjust_added old number (Table filling.front default) (with_cell (cells.Key pair.key) pair.value)
-          ∙ ap (λ o. insert old number (Table (cond (is_some o) (map (with_value pair.key pair.value) filling.front) (filling.front ++ record { key = pair.key; value = pair.value } ∷ [])) default)) none;
+          ∙ ap (λ o. insert old number (Table
+          (cond (is_some o) (map (with_value pair.key pair.value) filling.front)
+          (filling.front ++ record { key = pair.key; value = pair.value } ∷ [])) default)) none;
     }
 
-pub full_table : (old now : Objects) (number : ℕ) (all : List Pair) (default : Holder) (pair : Pair) (left : List Pair) → get old number ≡ None
-    → IsFilling old now number all default (pair ∷ left) → IsTrue (is_past_units now (key_units pair.key)) → IsOver (insert old number (Table all default))
+pub full_table : (old now : Objects) (number : ℕ) (all : List Pair) (default : Holder) (pair : Pair) (left : List Pair)
+    → get old number ≡ None
+    → IsFilling old now number all default (pair ∷ left) → IsTrue (is_past_units now (key_units pair.key))
+    → IsOver (insert old number (Table all default))
 full_table old now number all default pair left none filling past =
     let lt = ltb-true _ _ past in
-    let so_far : units_in now ≡ units_in old + sum_by (λ p. key_units p.key) filling.front = ap units_in filling.state ∙ added_units old number (Table filling.front default) none in
-    let whole : sum_by (λ p. key_units p.key) all ≡ sum_by (λ p. key_units p.key) filling.front + (key_units pair.key + sum_by (λ p. key_units p.key) left) =
-    ap (sum_by (λ p. key_units p.key)) (sym filling.is) ∙ sum_by-append (λ p. key_units p.key) filling.front (pair ∷ left) ∙ ap (λ k. sum_by (λ p. key_units p.key) filling.front + k) (sum_by-cons (λ p. key_units p.key) pair left) in
+    let so_far : units_in now ≡ units_in old + sum_by (λ p. key_units p.key) filling.front =
+    ap units_in filling.state ∙ added_units old number (Table filling.front default) none in
+    let whole : sum_by (λ p. key_units p.key) all
+    ≡ sum_by (λ p. key_units p.key) filling.front + (key_units pair.key + sum_by (λ p. key_units p.key) left) =
+    ap (sum_by (λ p. key_units p.key)) (sym filling.is) ∙ sum_by-append (λ p. key_units p.key) filling.front (pair ∷ left)
+    ∙ ap (λ k. sum_by (λ p. key_units p.key) filling.front + k) (sum_by-cons (λ p. key_units p.key) pair left) in
     inr (omega (arith, added_units old number (Table all default) none))
 
-pub all_filled : (old now : Objects) (number : ℕ) (all : List Pair) (default : Holder) → IsFilling old now number all default [] → now ≡ insert old number (Table all default)
+pub all_filled : (old now : Objects) (number : ℕ) (all : List Pair) (default : Holder) → IsFilling old now number all default []
+    → now ≡ insert old number (Table all default)
 all_filled old now number all default filling =
     filling.state ∙ ap (λ ps. insert old number (Table ps default)) (sym (append-nil filling.front) ∙ filling.is)
 
-pub emptied : (old : Objects) (number : ℕ) (all : List Pair) (default : Holder) → get old number ≡ None → IsOver (insert old number (Table [] holders.Nil)) → IsOver (insert old number (Table all default))
+pub emptied : (old : Objects) (number : ℕ) (all : List Pair) (default : Holder) → get old number ≡ None
+    → IsOver (insert old number (Table [] holders.Nil)) → IsOver (insert old number (Table all default))
 emptied old number all default none over = over_more old number (Table [] holders.Nil) (Table all default) none (omega arith) over
 
 pub by_false : (b : Bool) (P Q : Type 0) → MatchBool b P Q → b ≡ false → Q
@@ -124,7 +138,8 @@ pub by_true : (b : Bool) (P Q : Type 0) → MatchBool b P Q → b ≡ true → P
 by_true true P Q is so = is
 by_true false P Q is so = absurd cc
 
-pub is_table : (old made : Objects) (number : ℕ) → made ≡ insert old number (Table [] holders.Nil) → IsSome (option_and_then entries_in (get made number))
+pub is_table : (old made : Objects) (number : ℕ) → made ≡ insert old number (Table [] holders.Nil)
+    → IsSome (option_and_then entries_in (get made number))
 is_table old made number is =
     let here : get made number ≡ Some (Table [] holders.Nil) = ap (λ m. get m number) is ∙ added_here old number (Table [] holders.Nil) in
     subst (λ o. IsSome (option_and_then entries_in o)) (sym here) refl

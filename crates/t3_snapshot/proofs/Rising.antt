@@ -30,10 +30,12 @@ rising_from last (prop ∷ props) e =
     (ltb-true _ _ h.0, rising_from prop.number props h.1)
 
 -- each number is above this one
-rising_above : (least last : ℕ) (props : List PropValue) → least ≤ last → AreRising last props → IsTrue (below_all nat_cmp least (map pair_of props))
+rising_above : (least last : ℕ) (props : List PropValue) → least ≤ last → AreRising last props
+    → IsTrue (below_all nat_cmp least (map pair_of props))
 rising_above least last [] le rising = refl
 rising_above least last (prop ∷ props) le rising =
-    both_parts (is_lt (nat_cmp least prop.number)) (below_all nat_cmp least (map pair_of props)) (lt_is least prop.number (omega (arith, rising.0)))
+    both_parts (is_lt (nat_cmp least prop.number)) (below_all nat_cmp least (map pair_of props))
+    (lt_is least prop.number (omega (arith, rising.0)))
     (rising_above least prop.number props (omega (arith, rising.0)) rising.1)
 
 rising_sorted : (last : ℕ) (props : List PropValue) → AreRising last props → IsTrue (is_sorted nat_cmp (map pair_of props))
@@ -43,11 +45,13 @@ rising_sorted last (prop ∷ props) rising =
     (rising_above prop.number prop.number props (omega arith) rising.1) (rising_sorted prop.number props rising.1)
 
 -- the entries of the map of rising properties are they themselves
-pub pairs_are : (last : ℕ) (props : List PropValue) → AreRising last props → entries (from_entries {R = nat_cmp} (map pair_of props)) ≡ map pair_of props
+pub pairs_are : (last : ℕ) (props : List PropValue) → AreRising last props
+    → entries (from_entries {R = nat_cmp} (map pair_of props)) ≡ map pair_of props
 pairs_are last props rising = sorted_are (map pair_of props) (rising_sorted last props rising)
 
 -- entries in order rise
-pub rises_so : (last : ℕ) (es : List (ℕ × Holder)) → AllByRecursion (λ e. last < e.0) es → IsTrue (is_sorted nat_cmp es) → are_rising last (map prop_value es) ≡ true
+pub rises_so : (last : ℕ) (es : List (ℕ × Holder)) → AllByRecursion (λ e. last < e.0) es → IsTrue (is_sorted nat_cmp es)
+    → are_rising last (map prop_value es) ≡ true
 rises_so last [] above sorted = refl
 rises_so last (e ∷ es) above sorted =
     let p = and_parts (below_all nat_cmp e.0 es) (is_sorted nat_cmp es) sorted in
@@ -57,9 +61,11 @@ rises_so last (e ∷ es) above sorted =
 pub rising_distinct : (last : ℕ) (props : List PropValue) → AreRising last props → IsDistinct nat_eq (map (λ prop. prop.number) props)
 unfolding IsDistinct
 rising_distinct last [] rising = tt
-rising_distinct last (prop ∷ props) rising = (apart prop.number prop.number props (omega arith) rising.1, rising_distinct prop.number props rising.1)
+rising_distinct last (prop ∷ props) rising =
+    (apart prop.number prop.number props (omega arith) rising.1, rising_distinct prop.number props rising.1)
   where
-    apart : (n last : ℕ) (props : List PropValue) → n ≤ last → AreRising last props → AllByRecursion (λ m. nat_eq n m ≡ false) (map (λ prop. prop.number) props)
+    apart : (n last : ℕ) (props : List PropValue) → n ≤ last → AreRising last props
+        → AllByRecursion (λ m. nat_eq n m ≡ false) (map (λ prop. prop.number) props)
     apart n last [] le rising = tt
     apart n last (prop ∷ props) le rising =
         (not_equal n prop.number (omega (arith, rising.0)), apart n prop.number props (omega (arith, rising.0)) rising.1)
@@ -75,13 +81,15 @@ rising_at i last [] d lt = absurd (omega arith)
 rising_at zero last (prop ∷ props) d lt = refl
 rising_at (suc i) last (prop ∷ props) d lt = rising_at i last props d (omega arith)
 
-pub not_rising : (i last : ℕ) (props : List PropValue) (d : PropValue) (all : Bool) → i < length props → are_rising last (drop i props) ≡ all
+pub not_rising : (i last : ℕ) (props : List PropValue) (d : PropValue) (all : Bool) → i < length props
+    → are_rising last (drop i props) ≡ all
     → (get_or props i d).number ≤ last → false ≡ all
 not_rising i last props d all lt so_far le =
     sym (ap (λ b. b && are_rising (get_or props i d).number (drop (suc i) props)) (le-ltb last (get_or props i d).number le))
     ∙ sym (rising_at i last props d lt) ∙ so_far
 
-pub still_rising : (i last : ℕ) (props : List PropValue) (d : PropValue) (all : Bool) → i < length props → are_rising last (drop i props) ≡ all
+pub still_rising : (i last : ℕ) (props : List PropValue) (d : PropValue) (all : Bool) → i < length props
+    → are_rising last (drop i props) ≡ all
     → last < (get_or props i d).number → are_rising (get_or props i d).number (drop (i + 1) props) ≡ all
 still_rising i last props d all lt so_far above =
     rw add-one (sym (ap (λ b. b && are_rising (get_or props i d).number (drop (suc i) props)) (lt-ltb last (get_or props i d).number above))
@@ -92,13 +100,17 @@ all_rise i last props all le so_far = ap (are_rising last) (sym (drop_all i prop
 
 -- what properties name is what the entries of their map name
 pub props_name : (props : List PropValue) → AreRising 0 props
-    → flat_map (λ (prop : PropValue). named_by prop.value) props ≡ flat_map (λ (e : ℕ × Holder). named_by e.1) (entries (from_entries {R = nat_cmp} (map pair_of props)))
+    → flat_map (λ (prop : PropValue). named_by prop.value) props
+    ≡ flat_map (λ (e : ℕ × Holder). named_by e.1) (entries (from_entries {R = nat_cmp} (map pair_of props)))
 props_name props rising =
-    sym (flat_map-map (λ (e : ℕ × Holder). named_by e.1) pair_of props) ∙ ap (flat_map (λ (e : ℕ × Holder). named_by e.1)) (sym (pairs_are 0 props rising))
+    sym (flat_map-map (λ (e : ℕ × Holder). named_by e.1) pair_of props)
+    ∙ ap (flat_map (λ (e : ℕ × Holder). named_by e.1)) (sym (pairs_are 0 props rising))
 
 -- so does a tads-object that is to be made of them
-pub made_name : (what : NewObject) (supers : List ℕ) (class : Bool) (props : List PropValue) → what ≡ new.Tads supers class props → MakesRisingProps what
+pub made_name : (what : NewObject) (supers : List ℕ) (class : Bool) (props : List PropValue) → what ≡ new.Tads supers class props
+    → MakesRisingProps what
     → flat_map (λ (prop : PropValue). named_by prop.value) props ≡ named_in (new_value what)
 unfolding named_in
 made_name what supers class props is rising =
-    subst (λ w. MakesRisingProps w → flat_map (λ (prop : PropValue). named_by prop.value) props ≡ named_in (new_value w)) (sym is) (props_name props) rising
+    subst (λ w. MakesRisingProps w → flat_map (λ (prop : PropValue). named_by prop.value) props ≡ named_in (new_value w)) (sym is)
+    (props_name props) rising

@@ -27,11 +27,24 @@ holder_long h = ap suc (length-little_endian 4 (bits_of h))
 
 holders_long : (items : List Holder) → length (flat_map holder_text items) ≡ 5 * length items
 holders_long [] = refl
-holders_long (h ∷ items) = omega (arith, ap length (flat_map-cons holder_text h items), length-append (holder_text h) (flat_map holder_text items), holder_long h, holders_long items)
+holders_long (h ∷ items) =
+    omega (
+      arith,
+      ap length (flat_map-cons holder_text h items),
+      length-append (holder_text h) (flat_map holder_text items),
+      holder_long h,
+      holders_long items,
+    )
 
 list_long : (items : List Holder) → length (counted_text 2 holder_text items) ≡ 2 + 5 * length items
 unfolding counted_text
-list_long items = omega (arith, length-append (little_endian 2 (length items)) (flat_map holder_text items), length-little_endian 2 (length items), holders_long items)
+list_long items =
+    omega (
+      arith,
+      length-append (little_endian 2 (length items)) (flat_map holder_text items),
+      length-little_endian 2 (length items),
+      holders_long items,
+    )
 
 bytes_long : (bytes : List ℕ) → length (bytes_text bytes) ≤ 2 + 8 * eights bytes
 unfolding bytes_text
@@ -62,29 +75,51 @@ key_some (keys.Text bytes) = omega arith
 
 entry_long : (pair : Pair) → length (entry_text pair) ≤ 13 * key_units pair.key
 unfolding entry_text
-entry_long pair = omega (arith, length-append (key_text pair.key) (holder_text pair.value), key_long pair.key, holder_long pair.value, key_some pair.key)
+entry_long pair =
+    omega (arith, length-append (key_text pair.key) (holder_text pair.value), key_long pair.key, holder_long pair.value, key_some pair.key)
 
 entries_long : (pairs : List Pair) → length (flat_map entry_text pairs) ≤ 13 * sum_by (λ p. key_units p.key) pairs
 entries_long [] = omega arith
 entries_long (pair ∷ pairs) =
-    omega (arith, ap length (flat_map-cons entry_text pair pairs), length-append (entry_text pair) (flat_map entry_text pairs), entry_long pair, entries_long pairs, sum_by-cons (λ (p : Pair). key_units p.key) pair pairs)
+    omega (
+      arith,
+      ap length (flat_map-cons entry_text pair pairs),
+      length-append (entry_text pair) (flat_map entry_text pairs),
+      entry_long pair,
+      entries_long pairs,
+      sum_by-cons (λ (p : Pair). key_units p.key) pair pairs,
+    )
 
 supers_long : (supers : List ℕ) → length (flat_map super_text supers) ≡ 4 * length supers
 unfolding super_text
 supers_long [] = refl
 supers_long (n ∷ supers) =
-    omega (arith, ap length (flat_map-cons super_text n supers), length-append (super_text n) (flat_map super_text supers), length-little_endian 4 n, supers_long supers)
+    omega (
+      arith,
+      ap length (flat_map-cons super_text n supers),
+      length-append (super_text n) (flat_map super_text supers),
+      length-little_endian 4 n,
+      supers_long supers,
+    )
 
 prop_long : (prop : ℕ × Holder) → length (prop_text prop) ≡ 7
 unfolding prop_text
-prop_long prop = omega (arith, length-append (little_endian 2 prop.0) (holder_text prop.1), length-little_endian 2 prop.0, holder_long prop.1)
+prop_long prop =
+    omega (arith, length-append (little_endian 2 prop.0) (holder_text prop.1), length-little_endian 2 prop.0, holder_long prop.1)
 
 props_long : (props : List (ℕ × Holder)) → length (flat_map prop_text props) ≡ 7 * length props
 props_long [] = refl
 props_long (prop ∷ props) =
-    omega (arith, ap length (flat_map-cons prop_text prop props), length-append (prop_text prop) (flat_map prop_text props), prop_long prop, props_long props)
+    omega (
+      arith,
+      ap length (flat_map-cons prop_text prop props),
+      length-append (prop_text prop) (flat_map prop_text props),
+      prop_long prop,
+      props_long props,
+    )
 
-tads_long : (supers : List ℕ) (class : Bool) (props : PropMap) → length (value_text (Tads supers class props)) ≤ 10 + 13 * (length supers + len props)
+tads_long : (supers : List ℕ) (class : Bool) (props : PropMap)
+    → length (value_text (Tads supers class props)) ≤ 10 + 13 * (length supers + len props)
 unfolding value_text counted_text class_text
 tads_long supers class props =
     let flags : List ℕ = little_endian 2 (class_flag class) in
@@ -124,10 +159,18 @@ object_long : (o : ℕ × Value) → IsSpellable o.1 → length (object_text o) 
 unfolding object_text
 object_long o fits = omega (arith, length-append (little_endian 4 o.0) (value_text o.1), length-little_endian 4 o.0, value_long o.1 fits)
 
-objects_long : (last next : ℕ) (os : List (ℕ × Value)) → AreInTurn last next os → length (flat_map object_text os) ≤ 14 * length os + 13 * sum_by (λ e. units_of e.1) os
+objects_long : (last next : ℕ) (os : List (ℕ × Value)) → AreInTurn last next os
+    → length (flat_map object_text os) ≤ 14 * length os + 13 * sum_by (λ e. units_of e.1) os
 objects_long last next [] turn = omega arith
 objects_long last next (o ∷ os) turn =
-    omega (arith, ap length (flat_map-cons object_text o os), length-append (object_text o) (flat_map object_text os), object_long o turn.2, objects_long o.0 next os turn.3, sum_by-cons (λ (e : ℕ × Value). units_of e.1) o os)
+    omega (
+      arith,
+      ap length (flat_map-cons object_text o os),
+      length-append (object_text o) (flat_map object_text os),
+      object_long o turn.2,
+      objects_long o.0 next os turn.3,
+      sum_by-cons (λ (e : ℕ × Value). units_of e.1) o os,
+    )
 
 saved_long : (version : Version) (state : Objects) (next : ℕ) (fingerprint : List ℕ) → length fingerprint ≡ 32 → IsSoundState state next
     → length (saved version state fingerprint next) ≤ state_limit

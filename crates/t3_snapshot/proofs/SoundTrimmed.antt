@@ -13,7 +13,7 @@ use Rattle.t3_tables.specs.declared.pair.Pair.{Pair}
 use Rattle.t3_store.specs.Value.{Value, Objects, Tads, Text, Items, Vector, Table}
 use Rattle.t3_snapshot.specs.State.{trimmed, trimmed_value, trimmed_holder, trimmed_prop, trimmed_entry, trimmed_entries, keeps_key, named_by, named_by_key, named_in, named_as_keys, can_be_key, IsSoundState}
 use Rattle.t3_snapshot.proofs.Sorted.{map_of_entries}
-use Rattle.t3_snapshot.proofs.Savable.{all_parts}
+use Rattle.t3_snapshot.proofs.TrimmedValues.{all_parts}
 use Rattle.t3_snapshot.proofs.Trim.{trim}
 
 -- each of these is an object
@@ -53,7 +53,8 @@ props_stay : (state : Objects) (props : List (ℕ × Holder)) → AreThere state
 props_stay state [] all = refl
 props_stay state (prop ∷ props) all =
     let parts = each_named (λ number. IsSome (get state number)) (λ (p : ℕ × Holder). named_by p.1) prop props all in
-    ap (λ h. (prop.0, h) ∷ map (trimmed_prop state) props) (holder_stays state prop.1 parts.0) ∙ ap (λ ps. prop ∷ ps) (props_stay state props parts.1)
+    ap (λ h. (prop.0, h) ∷ map (trimmed_prop state) props) (holder_stays state prop.1 parts.0)
+    ∙ ap (λ ps. prop ∷ ps) (props_stay state props parts.1)
 
 key_there : (o : Option Value) → IsTrue (can_be_key o) → is_some o ≡ true
 key_there None able = absurd cc
@@ -84,13 +85,16 @@ pairs_stay state (pair ∷ pairs) values keys =
 value_stays : (state : Objects) (v : Value) → AreThere state (named_in v) → AreKeys state (named_as_keys v) → trimmed_value state v ≡ v
 unfolding named_in named_as_keys
 value_stays state (Tads supers class props) named keys =
-    ap (λ ps. Tads supers class (from_entries {R = nat_cmp} ps)) (props_stay state (entries props) named) ∙ ap (Tads supers class) (map_of_entries props)
+    ap (λ ps. Tads supers class (from_entries {R = nat_cmp} ps)) (props_stay state (entries props) named)
+    ∙ ap (Tads supers class) (map_of_entries props)
 value_stays state (Text bytes) named keys = refl
 value_stays state (Items items) named keys = ap Items (items_stay state items named)
 value_stays state (Vector items) named keys = ap Vector (items_stay state items named)
 value_stays state (Table pairs default) named keys =
-    let parts = all_parts (λ number. IsSome (get state number)) (named_by default) (flat_map (λ (p : Pair). named_by p.value) pairs) named in
-    ap (λ ps. Table ps (trimmed_holder state default)) (pairs_stay state pairs parts.1 keys) ∙ ap (Table pairs) (holder_stays state default parts.0)
+    let parts = all_parts (λ number. IsSome (get state number)) (named_by default)
+    (flat_map (λ (p : Pair). named_by p.value) pairs) named in
+    ap (λ ps. Table ps (trimmed_holder state default)) (pairs_stay state pairs parts.1 keys)
+    ∙ ap (Table pairs) (holder_stays state default parts.0)
 
 objects_stay : (state : Objects) (es : List (ℕ × Value)) → AreThere state (flat_map (λ (o : ℕ × Value). named_in o.1) es)
     → AreKeys state (flat_map (λ (o : ℕ × Value). named_as_keys o.1) es) → map (trim state) es ≡ es
@@ -98,9 +102,11 @@ objects_stay state [] named keys = refl
 objects_stay state (e ∷ es) named keys =
     let holders = each_named (λ number. IsSome (get state number)) (λ (o : ℕ × Value). named_in o.1) e es named in
     let key = each_named (λ number. IsTrue (can_be_key (get state number))) (λ (o : ℕ × Value). named_as_keys o.1) e es keys in
-    ap (λ v. (e.0, v) ∷ map (trim state) es) (value_stays state e.1 holders.0 key.0) ∙ ap (λ es. e ∷ es) (objects_stay state es holders.1 key.1)
+    ap (λ v. (e.0, v) ∷ map (trim state) es) (value_stays state e.1 holders.0 key.0)
+    ∙ ap (λ es. e ∷ es) (objects_stay state es holders.1 key.1)
 
 pub sound_trimmed : (state : Objects) (next : ℕ) → IsSoundState state next → trimmed state ≡ state
 unfolding trimmed
 sound_trimmed state next sound =
-    ap (from_entries {R = nat_cmp}) (objects_stay state (entries state) sound.complete.references sound.complete.keys) ∙ map_of_entries state
+    ap (from_entries {R = nat_cmp}) (objects_stay state (entries state) sound.complete.references sound.complete.keys)
+    ∙ map_of_entries state

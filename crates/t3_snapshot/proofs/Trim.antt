@@ -28,10 +28,12 @@ unfolding trimmed
 trimmed_entries_are state = mapped_are (trimmed_value state) state
 
 -- each entry is found
-found_later : (e : ℕ × Value) (es fs : List (ℕ × Value)) → AllByRecursion (λ f. e.0 < f.0) fs → AllByRecursion (λ f. find nat_cmp f.0 es ≡ Some f.1) fs
+found_later : (e : ℕ × Value) (es fs : List (ℕ × Value)) → AllByRecursion (λ f. e.0 < f.0) fs
+    → AllByRecursion (λ f. find nat_cmp f.0 es ≡ Some f.1) fs
     → AllByRecursion (λ f. find nat_cmp f.0 (e ∷ es) ≡ Some f.1) fs
 found_later e es [] above all = tt
-found_later e es (f ∷ fs) above all = (ap (λ b. cond b (Some e.1) (find nat_cmp f.0 es)) (differ f.0 e.0 above.0) ∙ all.0, found_later e es fs above.1 all.1)
+found_later e es (f ∷ fs) above all =
+    (ap (λ b. cond b (Some e.1) (find nat_cmp f.0 es)) (differ f.0 e.0 above.0) ∙ all.0, found_later e es fs above.1 all.1)
 
 found_list : (es : List (ℕ × Value)) → IsTrue (is_sorted nat_cmp es) → AllByRecursion (λ e. find nat_cmp e.0 es ≡ Some e.1) es
 found_list [] s = tt
@@ -42,7 +44,8 @@ found_list (e ∷ es) s =
 abbrev pub IsThere : Objects → ℕ × Value → Type 0
 IsThere state e = get state e.0 ≡ Some e.1
 
-all_there : (state : Objects) (es : List (ℕ × Value)) → AllByRecursion (λ e. find nat_cmp e.0 (entries state) ≡ Some e.1) es → AllByRecursion (IsThere state) es
+all_there : (state : Objects) (es : List (ℕ × Value)) → AllByRecursion (λ e. find nat_cmp e.0 (entries state) ≡ Some e.1) es
+    → AllByRecursion (IsThere state) es
 all_there state [] all = tt
 all_there state (e ∷ es) all = (get-entries state e.0 ∙ all.0, all_there state es all.1)
 
@@ -63,31 +66,39 @@ texts_written state (e ∷ es) there =
 pub all_written : (state : Objects) → flat_map (object_written state) (keys state) ≡ flat_map object_text (entries (trimmed state))
 all_written state = texts_written state (entries state) (entries_there state) ∙ ap (flat_map object_text) (sym (trimmed_entries_are state))
 
-writable_each : (state : Objects) (last next : ℕ) (es : List (ℕ × Value)) → AllByRecursion (IsThere state) es → AreInTurn last next (map (trim state) es)
+writable_each : (state : Objects) (last next : ℕ) (es : List (ℕ × Value)) → AllByRecursion (IsThere state) es
+    → AreInTurn last next (map (trim state) es)
     → AllByRecursion (IsWritable state) (map (λ e. e.0) es)
 writable_each state last next [] there turn = tt
-writable_each state last next (e ∷ es) there turn = (subst (WritableAt state) (sym there.0) turn.2, writable_each state e.0 next es there.1 turn.3)
+writable_each state last next (e ∷ es) there turn =
+    (subst (WritableAt state) (sym there.0) turn.2, writable_each state e.0 next es there.1 turn.3)
 
 pub all_writable : (state : Objects) (next : ℕ) → IsSoundState (trimmed state) next → AllByRecursion (IsWritable state) (keys state)
-all_writable state next sound = writable_each state 0 next (entries state) (entries_there state) (subst (AreInTurn 0 next) (trimmed_entries_are state) sound.turn)
+all_writable state next sound =
+    writable_each state 0 next (entries state) (entries_there state) (subst (AreInTurn 0 next) (trimmed_entries_are state) sound.turn)
 
-above_each : (state : Objects) (last next least : ℕ) (es : List (ℕ × Value)) → least ≤ last → AreInTurn last next (map (trim state) es) → AllByRecursion (λ e. least < e.0) es
+above_each : (state : Objects) (last next least : ℕ) (es : List (ℕ × Value)) → least ≤ last → AreInTurn last next (map (trim state) es)
+    → AllByRecursion (λ e. least < e.0) es
 above_each state last next least [] le turn = tt
-above_each state last next least (e ∷ es) le turn = (omega (arith, turn.0), above_each state e.0 next least es (omega (arith, turn.0)) turn.3)
+above_each state last next least (e ∷ es) le turn =
+    (omega (arith, turn.0), above_each state e.0 next least es (omega (arith, turn.0)) turn.3)
 
 pub none_zero : (state : Objects) (next : ℕ) → IsSoundState (trimmed state) next → get state 0 ≡ None
 none_zero state next sound =
-    get-entries state 0 ∙ none_above 0 (entries state) (above_each state 0 next 0 (entries state) (omega arith) (subst (AreInTurn 0 next) (trimmed_entries_are state) sound.turn))
+    get-entries state 0 ∙ none_above 0 (entries state)
+    (above_each state 0 next 0 (entries state) (omega arith) (subst (AreInTurn 0 next) (trimmed_entries_are state) sound.turn))
 
 pub keys_long : (state : Objects) → length (keys state) ≡ length (entries (trimmed state))
-keys_long state = length-map (entries state) (λ e. e.0) ∙ sym (length-map (entries state) (trim state)) ∙ ap length (sym (trimmed_entries_are state))
+keys_long state =
+    length-map (entries state) (λ e. e.0) ∙ sym (length-map (entries state) (trim state)) ∙ ap length (sym (trimmed_entries_are state))
 
 pub few_keys : (state : Objects) (next : ℕ) → IsSoundState (trimmed state) next → length (keys state) < 2 ^ 32
 few_keys state next sound = omega (arith, keys_long state, len-entries (trimmed state), sound.complete.objects)
 
 -- ---- kinds
 
-pub is_tads : (o : Option Value) (supers : List ℕ) → option_and_then supers_of o ≡ Some supers → o ≡ Some (Tads supers (is_class_at o) (props_at o))
+pub is_tads : (o : Option Value) (supers : List ℕ) → option_and_then supers_of o ≡ Some supers
+    → o ≡ Some (Tads supers (is_class_at o) (props_at o))
 is_tads None supers e = absurd cc
 is_tads (Some (Tads xs class props)) supers e = ap (λ x. Some (Tads x class props)) (the_some xs supers e)
   where
@@ -120,7 +131,8 @@ is_list (Some (Items xs)) items e = ap (λ x. Some (Items x)) (the_some xs items
 is_list (Some (Vector xs)) items e = absurd cc
 is_list (Some (Table pairs default)) items e = absurd cc
 
-pub is_vector : (o : Option Value) (count : ℕ) → option_and_then length_of o ≡ Some count → (items : List Holder) × (o ≡ Some (Vector items)) × (count ≡ length items)
+pub is_vector : (o : Option Value) (count : ℕ) → option_and_then length_of o ≡ Some count
+    → (items : List Holder) × (o ≡ Some (Vector items)) × (count ≡ length items)
 is_vector None count e = absurd cc
 is_vector (Some (Tads supers class props)) count e = absurd cc
 is_vector (Some (Text b)) count e = absurd cc
@@ -132,7 +144,8 @@ is_vector (Some (Vector xs)) count e = (xs, refl, the_some count (length xs) (sy
 is_vector (Some (Table pairs default)) count e = absurd cc
 
 -- what is none of these, and has a text, is a table
-pub is_table_at : (state : Objects) (o : Option Value) → WritableAt state o → option_and_then supers_of o ≡ None → option_and_then text_of o ≡ None
+pub is_table_at : (state : Objects) (o : Option Value) → WritableAt state o → option_and_then supers_of o ≡ None
+    → option_and_then text_of o ≡ None
     → option_and_then items_in o ≡ None → option_and_then length_of o ≡ None → IsSome (option_and_then entries_in o)
 is_table_at state None fits s t i v = absurd fits
 is_table_at state (Some (Tads supers class props)) fits s t i v = absurd cc
@@ -141,7 +154,8 @@ is_table_at state (Some (Items xs)) fits s t i v = absurd cc
 is_table_at state (Some (Vector xs)) fits s t i v = absurd cc
 is_table_at state (Some (Table pairs default)) fits s t i v = refl
 
-pub table_is : (o : Option Value) (pairs : List Pair) → Some pairs ≡ option_and_then entries_in o → o ≡ Some (Table pairs (unwrap_or (holder_at o Default) Nil))
+pub table_is : (o : Option Value) (pairs : List Pair) → Some pairs ≡ option_and_then entries_in o
+    → o ≡ Some (Table pairs (unwrap_or (holder_at o Default) Nil))
 table_is None pairs e = absurd cc
 table_is (Some (Tads supers class props)) pairs e = absurd cc
 table_is (Some (Text b)) pairs e = absurd cc
@@ -152,7 +166,8 @@ table_is (Some (Table ps default)) pairs e = ap (λ x. Some (Table x default)) (
     the_some : (x y : List Pair) → Some x ≡ Some y → x ≡ y
     the_some x y e = cc
 
-pub element_more : (items : List Holder) (i : ℕ) → i < length items → take (suc i) items ≡ take i items ++ unwrap_or (slice_get items i) Nil ∷ []
+pub element_more : (items : List Holder) (i : ℕ) → i < length items
+    → take (suc i) items ≡ take i items ++ unwrap_or (slice_get items i) Nil ∷ []
 element_more [] i lt = absurd (omega arith)
 element_more (x ∷ items) zero lt = refl
 element_more (x ∷ items) (suc i) lt = ap (λ t. x ∷ t) (element_more items i (omega arith))
@@ -163,8 +178,10 @@ one_item xs ys e = cc
 pub element_is : (items : List Holder) (i : ℕ) (old new : List Holder) (element : Holder) → i < length items → old ≡ take i items
     → element ≡ unwrap_or (holder_at (Some (Vector items)) (Elem (i + 1))) Nil → new ≡ old ++ element ∷ [] → new ≡ take (i + 1) items
 element_is items i old new element lt so_far is more =
-    let e : element ≡ unwrap_or (slice_get items i) Nil = subst (λ k. element ≡ unwrap_or (holder_at (Some (Vector items)) (Elem k)) Nil) add_one_is is in
-    more ∙ ap (λ x. x ++ element ∷ []) so_far ∙ ap (λ x. take i items ++ x ∷ []) e ∙ sym (element_more items i lt) ∙ ap (λ k. take k items) (sym add_one_is)
+    let e : element ≡ unwrap_or (slice_get items i) Nil =
+    subst (λ k. element ≡ unwrap_or (holder_at (Some (Vector items)) (Elem k)) Nil) add_one_is is in
+    more ∙ ap (λ x. x ++ element ∷ []) so_far ∙ ap (λ x. take i items ++ x ∷ []) e ∙ sym (element_more items i lt)
+    ∙ ap (λ k. take k items) (sym add_one_is)
   where
     add_one_is : i + 1 ≡ suc i
     add_one_is = omega arith
@@ -184,6 +201,7 @@ tads_text state supers class props pairs is =
 
 -- and what has that text
 pub tads_fits : (state : Objects) (supers : List ℕ) (class : Bool) (props : PropMap) (pairs : List (ℕ × Holder)) → pairs ≡ entries props
-    → IsSpellable (trimmed_value state (Tads supers class props)) → (length supers < 2 ^ 16) × AreCounted 2 IsProp (map (trimmed_prop state) pairs)
+    → IsSpellable (trimmed_value state (Tads supers class props))
+    → (length supers < 2 ^ 16) × AreCounted 2 IsProp (map (trimmed_prop state) pairs)
 tads_fits state supers class props pairs is fits =
     (fits.0.few, subst (AreCounted 2 IsProp) (mapped_are (trimmed_holder state) props ∙ ap (map (trimmed_prop state)) (sym is)) fits.1)

@@ -76,7 +76,8 @@ Breaks fingerprint bytes refusals.Signature = take 8 bytes ≢ signature
 Breaks fingerprint bytes refusals.Version = (version : Version) → ¬ SaysVersion version bytes
 Breaks fingerprint bytes refusals.OtherImage = take 32 (drop 10 bytes) ≢ fingerprint
 Breaks fingerprint bytes refusals.Digest = (length bytes < 74) ⊎ (digest_in bytes ≢ sha256 (digested bytes))
-Breaks fingerprint bytes (refusals.Malformed items) = (version : Version) × SaysVersion version bytes × IsMalformed version (body_in bytes) items
+Breaks fingerprint bytes (refusals.Malformed items) =
+    (version : Version) × SaysVersion version bytes × IsMalformed version (body_in bytes) items
 Breaks fingerprint bytes refusals.NoMemory = ⊥
 
 -- a rule is broken, and none before it

@@ -158,7 +158,8 @@ fn append_entry(state: &Persistent, pair: &Pair, out: &mut Vec<u8>) -> Result<()
 
 /// Appends an entry, but none under a key that refers to what isn't there.
 fn append_kept(state: &Persistent, pair: &Pair, out: &mut Vec<u8>) -> Result<(), NoMemory>
-    requires { IsTrue (keeps_key state.now pair.now.key) → IsEntry (trimmed_entry state.now pair.now) }
+    requires { IsTrue (keeps_key state.now pair.now.key)
+        → IsEntry (trimmed_entry state.now pair.now) }
     ensures { OnOk result (out.new.items ≡ out.old.items ++ kept_text state.now pair.now) }
 {
     if keeps_key(state, &pair.key) {
@@ -171,7 +172,8 @@ fn append_kept(state: &Persistent, pair: &Pair, out: &mut Vec<u8>) -> Result<(),
 fn append_entries(state: &Persistent, pairs: &[Pair], out: &mut Vec<u8>) -> Result<(), NoMemory>
     requires { AllByRecursion (λ pair. IsTrue (keeps_key state.now pair.key)
         → IsEntry (trimmed_entry state.now pair)) pairs.now }
-    ensures { OnOk result (out.new.items ≡ out.old.items ++ flat_map (kept_text state.now) pairs.now) }
+    ensures { OnOk result (out.new.items
+        ≡ out.old.items ++ flat_map (kept_text state.now) pairs.now) }
 {
     for pair in pairs {
         append_kept(state, pair, out)?;

@@ -77,8 +77,8 @@ fn take_objects(
 
 /// The next number and the object count with which a body begins, and the bytes after them.
 fn take_head(body: &[u8]) -> Option<(u32, u32, &[u8])>
-    ensures { MatchOption result (length body.now < 8) (λ head. (head.0 < 2 ^ 32) × (head.1 < 2 ^ 32)
-        × (body.now ≡ with_counts One head.0 head.1 head.2.now)) }
+    ensures { MatchOption result (length body.now < 8) (λ head.
+        (head.0 < 2 ^ 32) × (head.1 < 2 ^ 32) × (body.now ≡ with_counts One head.0 head.1 head.2.now)) }
 {
     if body.len() < 8 {
         return None;
@@ -89,7 +89,8 @@ fn take_head(body: &[u8]) -> Option<(u32, u32, &[u8])>
 
 /// The state and the next number that a body says.
 pub(crate) fn decode_body(alloc: Global, body: &[u8]) -> Result<(Persistent, u32), BodyRefusal>
-    ensures { MatchResult result (λ x. IsBody One body.now x.0 x.1) (FailsAt (IsMalformed One body.now)) }
+    ensures { MatchResult result (λ x. IsBody One body.now x.0 x.1)
+        (FailsAt (IsMalformed One body.now)) }
 {
     match take_head(body) {
         Some((next, due, objects)) => decode_objects(alloc, body, next, due, objects),
@@ -106,7 +107,8 @@ fn decode_objects(
     objects: &[u8],
 ) -> Result<(Persistent, u32), BodyRefusal>
     requires { body.now ≡ with_counts One next due objects.now }
-    ensures { MatchResult result (λ x. IsBody One body.now x.0 x.1) (FailsAt (IsMalformed One body.now)) }
+    ensures { MatchResult result (λ x. IsBody One body.now x.0 x.1)
+        (FailsAt (IsMalformed One body.now)) }
 {
     let _ = body;
     let (builder, rest) = take_objects(alloc, due, next, objects)?;

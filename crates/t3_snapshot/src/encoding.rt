@@ -33,7 +33,8 @@ pub fn encode(
     next: u32,
 ) -> Result<Vec<u8>, NoMemory>
     requires { IsSoundState (trimmed state.now) next }
-    ensures { IfOk result (λ bytes. bytes.items ≡ saved One (trimmed state.now) fingerprint.now next) }
+    ensures { IfOk result (λ bytes.
+        bytes.items ≡ saved One (trimmed state.now) fingerprint.now next) }
 {
     let mut out = Vec::new(alloc);
     append_state(alloc, state, fingerprint, next, &mut out)?;

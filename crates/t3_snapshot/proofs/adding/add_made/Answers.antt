@@ -5,4 +5,6 @@ use Rattle.t3_snapshot.proofs.OneMore.{over_added}
 use Rattle.t3_snapshot.proofs.adding.add_made.Goals as goal
 
 pub returns-in-Err-Full : goal.returns-in-Err-Full
-returns-in-Err-Full c = over_added c.args.state.now c.args.number (new_value c.args.what) c.requires.new (c.in-Err-Full.ensures.full.0 (ap (λ (e : StoreRefusal). Err e) c.in-Err-Full.field-0-is))
+returns-in-Err-Full c =
+    over_added c.args.state.now c.args.number (new_value c.args.what) c.requires.new
+    (c.in-Err-Full.ensures.full.0 (ap (λ (e : StoreRefusal). Err e) c.in-Err-Full.field-0-is))

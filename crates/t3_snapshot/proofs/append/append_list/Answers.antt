@@ -10,5 +10,6 @@ pub returns : goal.returns
 unfolding counted_text
 returns c =
     counted_written 2 holder_text (map (trimmed_holder c.args.state.now) c.args.holders.now) (length c.args.holders.now) _ _ _ _
-    (sym (length-map c.args.holders.now (trimmed_holder c.args.state.now))) c.u16_bytes.ensures c.in_ok-extend_from_slice.ensures.items c.in_ok-append_holders.ensures
+    (sym (length-map c.args.holders.now (trimmed_holder c.args.state.now))) c.u16_bytes.ensures c.in_ok-extend_from_slice.ensures.items
+    c.in_ok-append_holders.ensures
     (sym (flat_map-map holder_text (trimmed_holder c.args.state.now) c.args.holders.now))

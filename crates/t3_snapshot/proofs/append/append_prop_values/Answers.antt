@@ -6,4 +6,5 @@ use Rattle.t3_snapshot.proofs.append.append_prop_values.Goals as goal
 
 pub append_prop-requires : goal.append_prop-requires
 append_prop-requires c =
-    each_at (λ prop. IsProp (trimmed_prop c.args.state.now (pair_of prop))) c.args.props.now c.loop-prop.prop-index _ c.requires c.loop-prop-test.true
+    each_at (λ prop. IsProp (trimmed_prop c.args.state.now (pair_of prop))) c.args.props.now c.loop-prop.prop-index _ c.requires
+    c.loop-prop-test.true

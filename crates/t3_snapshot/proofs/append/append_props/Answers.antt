@@ -15,5 +15,6 @@ pub returns : goal.returns
 unfolding counted_text
 returns c =
     counted_written 2 prop_text (map (trimmed_prop c.args.state.now) (map pair_of c.args.props.now)) (length c.args.props.now) _ _ _ _
-    (sym (mapped_length pair_of (trimmed_prop c.args.state.now) c.args.props.now)) c.u16_bytes.ensures c.in_ok-extend_from_slice.ensures.items
+    (sym (mapped_length pair_of (trimmed_prop c.args.state.now) c.args.props.now)) c.u16_bytes.ensures
+    c.in_ok-extend_from_slice.ensures.items
     c.in_ok-append_prop_values.ensures (texts_mapped prop_text pair_of (trimmed_prop c.args.state.now) c.args.props.now)

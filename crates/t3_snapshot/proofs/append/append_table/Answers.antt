@@ -14,5 +14,6 @@ pub returns : goal.returns
 unfolding counted_text
 returns c =
     counted_written 4 entry_text (trimmed_entries c.args.state.now c.args.pairs.now) c.count_kept-count.result _ _ _ _
-    (c.count_kept-count.ensures ∙ sym (kept_count c.args.state.now c.args.pairs.now)) c.u32_bytes.ensures c.in_ok-extend_from_slice.ensures.items c.in_ok-append_entries.ensures
+    (c.count_kept-count.ensures ∙ sym (kept_count c.args.state.now c.args.pairs.now)) c.u32_bytes.ensures
+    c.in_ok-extend_from_slice.ensures.items c.in_ok-append_entries.ensures
     (kept_texts c.args.state.now c.args.pairs.now)

@@ -29,12 +29,14 @@ returns-in-Some c =
     ∙ ap (trimmed_text c.args.state.now) (sym (is_tads o c.in-Some.supers.now (sym c.in-Some.ensures)))))
 
 pub append_string_value-requires : goal.append_string_value-requires
-append_string_value-requires c = subst (WritableAt c.args.state.now) (is_string c.args.state.now _ _ (sym c.in-Some-text.ensures)) c.requires
+append_string_value-requires c =
+    subst (WritableAt c.args.state.now) (is_string c.args.state.now _ _ (sym c.in-Some-text.ensures)) c.requires
 
 pub returns-in-Some-text : goal.returns-in-Some-text
 unfolding value_written
 returns-in-Some-text c = on_ok c.append_string_value.result _ _ c.append_string_value.ensures
-    (λ e. e ∙ ap (λ o. c.args.out.now.items ++ trimmed_text c.args.state.now o) (sym (is_string c.args.state.now _ _ (sym c.in-Some-text.ensures))))
+    (λ e. e ∙ ap (λ o. c.args.out.now.items ++ trimmed_text c.args.state.now o)
+    (sym (is_string c.args.state.now _ _ (sym c.in-Some-text.ensures))))
 
 pub append_list_value-requires : goal.append_list_value-requires
 append_list_value-requires c = subst (WritableAt c.args.state.now) (is_list _ _ (sym c.in-Some-items.ensures)) c.requires
@@ -48,12 +50,14 @@ pub elements-requires : goal.elements-requires
 elements-requires c = is_vector _ _ (sym c.in-Some-length.ensures)
 
 pub append_vector_value-requires : goal.append_vector_value-requires
-append_vector_value-requires c = subst (WritableAt c.args.state.now) (c.in_ok-items.ensures ∙ ap (λ xs. Some (Vector xs)) (sym c.deref.ensures.value)) c.requires
+append_vector_value-requires c =
+    subst (WritableAt c.args.state.now) (c.in_ok-items.ensures ∙ ap (λ xs. Some (Vector xs)) (sym c.deref.ensures.value)) c.requires
 
 pub returns-in-Some-length : goal.returns-in-Some-length
 unfolding value_written
 returns-in-Some-length c = on_ok c.append_vector_value.result _ _ c.append_vector_value.ensures
-    (λ e. e ∙ ap (λ o. c.args.out.now.items ++ trimmed_text c.args.state.now o) (sym (c.in_ok-items.ensures ∙ ap (λ xs. Some (Vector xs)) (sym c.deref.ensures.value))))
+    (λ e. e ∙ ap (λ o. c.args.out.now.items ++ trimmed_text c.args.state.now o)
+    (sym (c.in_ok-items.ensures ∙ ap (λ xs. Some (Vector xs)) (sym c.deref.ensures.value))))
 
 pub entries-requires : goal.entries-requires
 entries-requires c = is_table_at c.args.state.now _ c.requires (sym c.in_default.ensures) (sym c.in_default-text.ensures)
@@ -68,4 +72,5 @@ pub returns : goal.returns
 unfolding value_written
 returns c = on_ok c.append_table_value.result _ _ c.append_table_value.ensures
     (λ e. e ∙ ap (λ o. c.args.out.now.items ++ trimmed_text c.args.state.now o)
-    (sym (table_is (get c.args.state.now c.args.number) c.in_ok-pairs.pairs c.in_ok-pairs.ensures ∙ made _ _ _ _ (sym c.items-3.ensures.items) (sym c.default_of.ensures))))
+    (sym (table_is (get c.args.state.now c.args.number) c.in_ok-pairs.pairs c.in_ok-pairs.ensures
+    ∙ made _ _ _ _ (sym c.items-3.ensures.items) (sym c.default_of.ensures))))

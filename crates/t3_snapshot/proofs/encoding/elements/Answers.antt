@@ -16,4 +16,5 @@ loop-index-preserved c = λ items is.
 
 pub returns : goal.returns
 returns c =
-    c.requires.1 ∙ ap (λ xs. Some (Vector xs)) (sym (c.loop-index.invariant c.requires.0 c.requires.1 ∙ take_all _ _ (omega (arith, c.requires.2, c.loop-index-test.false))))
+    c.requires.1 ∙ ap (λ xs. Some (Vector xs))
+    (sym (c.loop-index.invariant c.requires.0 c.requires.1 ∙ take_all _ _ (omega (arith, c.requires.2, c.loop-index-test.false))))

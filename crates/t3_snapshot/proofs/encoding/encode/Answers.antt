@@ -5,4 +5,7 @@ use Rattle.t3_snapshot.proofs.encoding.encode.Goals as goal
 
 pub returns : goal.returns
 unfolding saved
-returns c = c.in_ok-append_digest.ensures ∙ ap with_digest (c.in_ok-append_state.ensures ∙ ap (λ (x : List ℕ). x ++ (head_text One c.args.fingerprint.now ++ body_text One c.args.next (entries (trimmed c.args.state.now)))) c.new-out.ensures.items)
+returns c =
+    let empty = c.new-out.ensures.items in
+    c.in_ok-append_digest.ensures ∙ ap with_digest (c.in_ok-append_state.ensures
+    ∙ ap (λ (x : List ℕ). x ++ (head_text One c.args.fingerprint.now ++ body_text One c.args.next (entries (trimmed c.args.state.now)))) empty)
