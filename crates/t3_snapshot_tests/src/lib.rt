@@ -1,0 +1,18 @@
+//! Tests of `t3_snapshot`, by its public calls: worked bytes, every change of them, and states that break
+//! one condition each.
+#![tactic(auto)]
+
+#[cfg(test)]
+mod broken_fields;
+#[cfg(test)]
+mod broken_states;
+#[cfg(test)]
+mod changes;
+#[cfg(test)]
+mod encoded;
+#[cfg(test)]
+mod fixture;
+#[cfg(test)]
+mod references;
+#[cfg(test)]
+mod worked;
