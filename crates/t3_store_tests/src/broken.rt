@@ -9,7 +9,7 @@ use t3_store::{Broken, NewObject, Persistent};
 use t3_undo::Numbers;
 
 /// Adds an object.
-fn add(objects: &mut Persistent, number: u32, what: NewObject) -> Result<(), Fail>
+pub(crate) fn add(objects: &mut Persistent, number: u32, what: NewObject) -> Result<(), Fail>
     requires { HasFittingLength (new_value what) }
 {
     if number == 0 || number >= 0x8000_0000 {

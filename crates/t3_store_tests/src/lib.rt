@@ -5,9 +5,15 @@
 #[cfg(test)]
 mod broken;
 #[cfg(test)]
+mod persistents;
+#[cfg(test)]
 mod random_runs;
 #[cfg(test)]
 mod replacing;
+#[cfg(test)]
+mod restoring;
+#[cfg(test)]
+mod saved_states;
 #[cfg(test)]
 mod stores;
 #[cfg(test)]

@@ -4,6 +4,7 @@ ghost use Rattle.std.specs.Prelude.{◌≡◌, Some, IsTrue, IfOk, IsSome, lengt
 ghost use Rattle.t3_store.specs.Value.{new_value, supers_of};
 ghost use Rattle.t3_store.specs.Whole.{supers_for};
 
+use crate::saved_states::{Saved, save, step_or_state};
 use crate::stores::{answer, empty_store, savepoint, set, set_element, set_key, take_last};
 use crate::whole_copies::{
     DEFAULT, NIL, OBJECTS, RECORDS, Row, SAVEPOINTS, TEXTS, UNITS, Whole, has_row,
@@ -26,17 +27,23 @@ struct Change {
     anew: bool,
 }
 
-/// One random step, of both. Whether they gave the same answer.
-fn step(store: &mut Store, whole: &mut Whole, alloc: Global, roll: u32) -> Result<bool, Fail> {
-    match roll % 10 {
+/// A call of both. Whether they gave the same answer.
+pub(crate) fn step(
+    store: &mut Store,
+    whole: &mut Whole,
+    alloc: Global,
+    call: u32,
+    roll: u32,
+) -> Result<bool, Fail> {
+    match call {
         0 => {
             savepoint(store)?;
             whole.savepoint(alloc)?;
             Ok(true)
         }
         1 => Ok(store.undo() == whole.undo()),
-        2 | 3 => create_object(store, whole, alloc, roll / 10),
-        _ => change_cell(store, whole, alloc, roll / 10),
+        2 | 3 => create_object(store, whole, alloc, roll / 12),
+        _ => change_cell(store, whole, alloc, roll / 12),
     }
 }
 
@@ -357,10 +364,11 @@ fn agrees_all_along(alloc: Global, seed: u32) -> Result<bool, Fail> {
         SAVEPOINTS as u32,
     )?;
     let mut whole = Whole::start(alloc);
+    let mut saved = save(&store, &whole, alloc)?;
     let mut state = seed;
     for _ in 0..60 {
         state = state.wrapping_mul(1_664_525).wrapping_add(1_013_904_223);
-        if !agrees_after(&mut store, &mut whole, alloc, state >> 8)? {
+        if !agrees_after(&mut store, &mut whole, &mut saved, alloc, state >> 8)? {
             return Ok(false);
         }
     }
@@ -371,10 +379,11 @@ fn agrees_all_along(alloc: Global, seed: u32) -> Result<bool, Fail> {
 fn agrees_after(
     store: &mut Store,
     whole: &mut Whole,
+    saved: &mut Saved,
     alloc: Global,
     roll: u32,
 ) -> Result<bool, Fail> {
-    if !step(store, whole, alloc, roll)? {
+    if !step_or_state(store, whole, saved, alloc, roll)? {
         return Ok(false);
     }
     agree(store, whole, alloc)

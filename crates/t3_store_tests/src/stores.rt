@@ -63,7 +63,7 @@ pub fn create(store: &mut Store, alloc: Global, transient: bool) -> Result<u32, 
 }
 
 /// A list of numbers.
-fn numbers(alloc: Global, values: &[i32]) -> Result<Holders, NoMemory>
+pub(crate) fn numbers(alloc: Global, values: &[i32]) -> Result<Holders, NoMemory>
     ensures { IfOk result (λ items. length items ≡ length values.now) }
 {
     let items = values.iter().map(|value| Holder::Int(*value));
@@ -233,7 +233,7 @@ fn has_numbers(store: &Store, number: u32, expected: &[i32]) -> bool {
 
 /// A store with a tads-object, whose property 5 is 10, a vector of 1, 2, 3, and a table with `a` to 1 and `b` to
 /// 2, under the numbers 1, 2, 3.
-fn three_kinds(alloc: Global) -> Result<Store, Fail> {
+pub(crate) fn three_kinds(alloc: Global) -> Result<Store, Fail> {
     let mut store = empty_store(alloc, 9, 99, 8, 2)?;
     let _set = add_object(&mut store, alloc)?;
     let _vector = store.create(NewObject::Vector(numbers(alloc, &[1, 2, 3])?), false)?;

@@ -55,7 +55,8 @@ pub(crate) struct Whole {
     savepoints: Vec<Savepoint>,
 }
 
-fn copy_rows(alloc: Global, rows: &[Row]) -> Result<Vec<Row>, NoMemory> {
+/// A copy of rows.
+pub(crate) fn copy_rows(alloc: Global, rows: &[Row]) -> Result<Vec<Row>, NoMemory> {
     let mut copy = Vec::new(alloc);
     for row in rows {
         copy.push(Row {
@@ -317,6 +318,19 @@ impl Whole {
             }
             None => false,
         }
+    }
+
+    /// Puts rows in place of the persistent ones, which ends all savepoints. `false` where there is no room for
+    /// them beside the transient ones.
+    pub(crate) fn replace(&mut self, rows: Vec<Row>, next: u32) -> bool {
+        let objects = rows.len().saturating_add(self.transient.len());
+        if objects > OBJECTS || units(&rows).saturating_add(units(&self.transient)) > UNITS {
+            return false;
+        }
+        self.persistent = rows;
+        self.next = self.next.max(next);
+        self.savepoints.clear();
+        true
     }
 
     /// The change of a persistent object's cell, noted at the newest savepoint where it is the
