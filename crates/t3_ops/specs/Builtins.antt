@@ -28,17 +28,17 @@ pub record BuiltinRow : Type 0 where
   pub least : ℕ
   pub most : Option ℕ
 
-abbrev row : ℕ → List ℕ → ℕ → Option ℕ → BuiltinRow
-row index name least most = record { index = index; name = name; least = least; most = most }
+abbrev function_row : ℕ → List ℕ → ℕ → Option ℕ → BuiltinRow
+function_row index name least most = record { index = index; name = name; least = least; most = most }
 
 -- index, name, least and most arguments
 abbrev pub row_of : PureBuiltin → BuiltinRow
-row_of builtins.DataType = row 0 (codes "dataType") 1 (Some 1)
-row_of builtins.ToString = row 6 (codes "toString") 1 (Some 1)
-row_of builtins.ToInteger = row 7 (codes "toInteger") 1 (Some 1)
-row_of builtins.Max = row 18 (codes "max") 1 None
-row_of builtins.Min = row 19 (codes "min") 1 None
-row_of builtins.MakeString = row 20 (codes "makeString") 1 (Some 2)
+row_of builtins.DataType = function_row 0 (codes "dataType") 1 (Some 1)
+row_of builtins.ToString = function_row 6 (codes "toString") 1 (Some 1)
+row_of builtins.ToInteger = function_row 7 (codes "toInteger") 1 (Some 1)
+row_of builtins.Max = function_row 18 (codes "max") 1 None
+row_of builtins.Min = function_row 19 (codes "min") 1 None
+row_of builtins.MakeString = function_row 20 (codes "makeString") 1 (Some 2)
 
 -- each of them
 abbrev pub every : List PureBuiltin

@@ -1,14 +1,16 @@
 -- The bytes of a kept pool.
-use Rattle.std.proofs.Common.{◌≡◌, ◌≢◌, ℕ, zero, suc, ◌+◌, ◌*◌, ◌/◌, ◌%◌, ◌^◌, ◌<◌, ◌≤◌, ◌⊎◌, inl, inr, subst, Bool, true, false, cond, nat_eq, nat_lt, ◌||◌, List, [], ◌∷◌, ◌++◌, drop, length, Option, Some, None, refl, sym, ap, ◌∙◌, arith}
+use Rattle.std.proofs.Common.{◌≡◌, ◌≢◌, ℕ, zero, suc, ◌+◌, ◌*◌, ◌/◌, ◌%◌, ◌^◌, ◌<◌, ◌≤◌, ◌⊎◌, inl, inr, subst, Bool, true, false, cond, nat_eq, nat_lt, ◌||◌, List, [], ◌∷◌, ◌++◌, drop, get_or, length, Option, Some, None, refl, sym, ap, ◌∙◌, arith}
 use Rattle.std.specs.Ordering.{nat_cmp}
 use Rattle.std.specs.Cmp.{nat_cmp_total}
 use Rattle.std.specs.FinMap.{get, find, from_entries, get-from_entries, same_map, nat_cmp-IsAntisymmetric}
-use Rattle.std.specs.List.{flat_map, list_any, slice_get}
+use Rattle.std.specs.List.{AllByRecursion, flat_map, list_any, slice_get}
 use Rattle.std.proofs.lemmas.Bool.{ltb-false, cases_lt, cases_eq, eq-eqb}
 use Rattle.std.proofs.lemmas.Option.{slice_get_past}
 use Rattle.std.proofs.lemmas.List.{length-drop}
 use Rattle.std.proofs.Math.Nat.{div-add-mod, mul-le-mul_right}
+use Rattle.t3_holder.specs.NumberText.{AreBytes}
 use Rattle.t3_pools.specs.Pool.{Pool, Paged, page_bytes, HasBytes, ReachesPageEnd}
+use Rattle.t3_pools.specs.Constants.{IsOfBytes}
 use Rattle.t3_pools.specs.Building.{pages_at}
 use Rattle.t3_pools.specs.Finding.{listed}
 use Rattle.t3_pools.specs.Inner.Keeping.{paged_from, kept_bytes, IsKept, bytes_of, run_in, Runs}
@@ -228,6 +230,35 @@ kept-beyond : (size : ℕ) (pages : List (List ℕ)) (run : List ℕ) (far : ℕ
 kept-beyond size pages [] far le runs = runs.empty refl
 kept-beyond size pages (byte ∷ run) far le runs = absurd (omega (arith, runs.narrow (omega arith)))
 
+-- a list is bytes where each item is below 256
+pub AreBytes-each : (bytes : List ℕ) → ((i : ℕ) → get_or bytes i 0 < 256) → AreBytes bytes
+AreBytes-each [] each = tt
+AreBytes-each (byte ∷ bytes) each = (each 0, AreBytes-each bytes (λ i. each (suc i)))
+
+-- what stands in a list of bytes is a byte
+byte_in : (bytes : List ℕ) (place byte : ℕ) → AreBytes bytes → slice_get bytes place ≡ Some byte → byte < 256
+byte_in [] place byte are there = absurd cc
+byte_in (b ∷ bytes) zero byte are there = let same : b ≡ byte = cc in subst (λ (n : ℕ). n < 256) same are.0
+byte_in (b ∷ bytes) (suc place) byte are there = byte_in bytes place byte are.1 there
+
+byte_in-page : (pages : List (List ℕ)) (index place byte : ℕ) → AllByRecursion AreBytes pages
+    → slice_get (bytes_of (slice_get pages index)) place ≡ Some byte → byte < 256
+byte_in-page [] index place byte are there = absurd cc
+byte_in-page (page ∷ pages) zero place byte are there = byte_in page place byte are.0 there
+byte_in-page (page ∷ pages) (suc index) place byte are there = byte_in-page pages index place byte are.1 there
+
+-- each byte that stands is one of a page's
+kept-IsOfBytes : (size : ℕ) (pages : List (List ℕ)) → IsKept size pages → IsOfBytes (kept_bytes size pages)
+kept-IsOfBytes zero pages kept address byte there =
+    let none : None ≡ Some byte = sym (kept_none pages address kept.fits) ∙ there in
+    absurd cc
+kept-IsOfBytes (suc n) pages kept address byte there =
+    let size : ℕ = suc n in
+    let at : address / size * size + address % size ≡ address = omega (arith, div-add-mod address size) in
+    byte_in-page pages (address / size) (address % size) byte kept.bytes
+    (sym (kept_byte size (address / size) (address % size) pages (omega arith) kept.fits)
+    ∙ ap (λ n. get (kept_bytes size pages) n) at ∙ there)
+
 pub kept_runs : (size : ℕ) (pages : List (List ℕ)) (address : ℕ) → IsKept size pages
     → Runs size (kept_bytes size pages) address (run_in size pages address)
 kept_runs size pages address kept =
@@ -238,4 +269,5 @@ kept_runs size pages address kept =
       narrow = runs.narrow;
       whole = runs.whole;
       beyond = λ far le. kept-beyond size pages (run_in size pages far) far le (runs_in size pages far kept);
+      bytes = kept-IsOfBytes size pages kept;
     }

@@ -1,12 +1,13 @@
 -- What is known of a pool's pages from the pages that were gathered, and from those that were placed by their indices.
 use Rattle.std.proofs.Common.{◌≡◌, ◌≢◌, ℕ, zero, suc, ◌*◌, ◌^◌, ◌<◌, ◌≤◌, inl, inr, subst, true, false, cond, nat_eq, nat_lt, nat_le, ◌||◌, List, [], ◌∷◌, ◌++◌, map, drop, get_or, length, Option, Some, None, refl, sym, ap, ◌∙◌, arith}
-use Rattle.std.specs.List.{list_any, slice_get}
+use Rattle.std.specs.List.{AllByRecursion, list_any, slice_get}
 use Rattle.std.specs.Option.{is_some, option_map}
 use Rattle.std.proofs.lemmas.Bool.{cases_lt, cases_eq, eq-eqb, or_from}
 use Rattle.std.proofs.lemmas.Option.{slice_get_past, slice_get-map}
 use Rattle.std.proofs.lemmas.List.{length-map}
 use Rattle.std.proofs.Math.Seq.{drop-cons}
 use denote.Ref.{Bor}
+use Rattle.t3_holder.specs.NumberText.{AreBytes}
 use Rattle.t3_pools.specs.declared.sheets.Sheet.{Sheet}
 use Rattle.t3_pools.specs.Pool.{Paged}
 use Rattle.t3_pools.specs.Building.{pages_at}
@@ -25,12 +26,13 @@ long_map size [] = refl
 long_map size (page ∷ pages) = ap (λ b. nat_lt size (length page.now) || b) (long_map size pages)
 
 pub kept_pages : (size : ℕ) (pages : List (Bor (List ℕ))) → list_any (λ page. nat_lt size (length page.now)) pages ≡ false
-    → length pages * size < 2 ^ 31
+    → length pages * size < 2 ^ 31 → AllByRecursion AreBytes (map now pages)
     → IsKept size (map now pages)
-kept_pages size pages fits narrow =
+kept_pages size pages fits narrow bytes =
     record {
       fits = sym (long_map size pages) ∙ fits;
       narrow = subst (λ (n : ℕ). n * size < 2 ^ 31) (sym (length-map pages now)) narrow;
+      bytes = bytes;
     }
 
 -- ---- two pages of one index

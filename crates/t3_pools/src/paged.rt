@@ -1,7 +1,8 @@
 //! A pool as it is kept: its pages by their indices, whose bytes it shares with the image.
 ghost use Rattle.std.specs.Prelude.{◌≡◌, ◌+◌, ◌<◌, ◌*◌, ◌^◌, nat_lt, false, length, map, drop, IfOk, IfSome};
 ghost use Rattle.std.specs.FinMap.{get};
-ghost use Rattle.std.specs.List.{list_any};
+ghost use Rattle.std.specs.List.{AllByRecursion, list_any};
+ghost use Rattle.t3_holder.specs.NumberText.{AreBytes};
 ghost use Rattle.t3_pools.specs.Inner.Keeping.{run_in, kept_pool, Runs};
 
 use crate::page_size::PageSize;
@@ -64,14 +65,21 @@ impl PagedPool {
 }
 
 fn shared(alloc: Global, pages: &[&PageBytes]) -> Result<Vec<PageBytes>, AllocError>
-    ensures { IfOk result (λ shared. shared.items ≡ map (λ page. page.now) pages.now) }
+    ensures same { IfOk result (λ shared. shared.items ≡ map (λ page. page.now) pages.now) }
+    ensures bytes { IfOk result (λ shared. AllByRecursion AreBytes shared.items) }
 {
     let mut shared = Vec::with_capacity(alloc, pages.len())?;
     for page in pages {
+        are_bytes(page.as_slice());
         shared.push(page.share()?)?;
     }
     Ok(shared)
 }
+
+/// The items of a slice of bytes are below 256, by their type. It only says so.
+fn are_bytes(bytes: &[u8])
+    ensures { AreBytes bytes.now }
+{}
 
 /// The bytes from an address to the end of its page.
 #[inline(always)]

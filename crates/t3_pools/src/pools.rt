@@ -2,7 +2,7 @@ ghost use Rattle.std.specs.Prelude.{◌≡◌, ◌≢◌, ℕ, None, ◌<◌, �
 ghost use Rattle.std.specs.FinMap.{get};
 ghost use Rattle.t3_pools.specs.Pool.{numbered, page_size_of, pools_in, HasBytes, ReachesPageEnd};
 ghost use Rattle.t3_pools.specs.Building.{Builds};
-ghost use Rattle.t3_pools.specs.Constants.{FindsText, FindsHolder, FindsList, extent_of, text_in, list_in, holder_in};
+ghost use Rattle.t3_pools.specs.Constants.{FindsText, FindsHolder, FindsList, extent_of, text_in, list_in, holder_in, IsOfBytes};
 
 use crate::paged::PagedPool;
 use crate::pages::gathered;
@@ -58,6 +58,7 @@ impl Pools {
         ensures empty { result.now ≡ [] → get (numbered self.now pool) address ≡ None }
         ensures bounded { result.now ≢ [] → address + length result.now < 2 ^ 31 }
         ensures beyond { (far : ℕ) → 2 ^ 31 ≤ far → get (numbered self.now pool) far ≡ None }
+        ensures bytes { IsOfBytes (numbered self.now pool) }
         ensures whole { ReachesPageEnd (page_size_of self.now pool) (numbered self.now pool) address
             result.now }
     {

@@ -2,6 +2,7 @@ pub mod Leaves
 pub mod Loop
 pub mod Keys
 pub mod Sorted
+pub mod Entries
 pub mod Rising
 pub mod Readers
 pub mod TadsReaders
@@ -21,4 +22,9 @@ pub mod Sizes
 pub mod TrimmedValues
 pub mod Savable
 pub mod SoundTrimmed
+pub mod Decided
+pub mod Acyclic
 pub mod SomeAnswer
+pub mod Answers
+pub mod GoodObjects
+pub mod SoundGood

@@ -1,16 +1,18 @@
 -- Bytes spell a state, or are refused.
-use Rattle.std.proofs.Common.{◌≡◌, ℕ, zero, suc, ◌<◌, ◌≤◌, ◌-◌, ◌^◌, List, [], ◌∷◌, ◌++◌, length, take, drop, Option, Some, None, refl, sym, ap, subst, ◌∙◌, inl, inr, append_assoc, arith}
+use Rattle.std.proofs.Common.{◌≡◌, ℕ, zero, suc, ◌<◌, ◌≤◌, ◌-◌, ◌^◌, List, [], ◌∷◌, ◌++◌, length, take, drop, Option, Some, None, IsTrue, IsSome, refl, sym, ap, subst, ◌∙◌, inl, inr, append_assoc, arith}
 use Rattle.std.specs.Prelude.{◌⊎◌}
-use Rattle.std.specs.FinMap.{from_entries}
-use Rattle.std.specs.List.{flat_map}
+use Rattle.std.specs.FinMap.{from_entries, get, len, entries}
+use Rattle.std.specs.List.{flat_map, AllByRecursion}
 use Rattle.std.proofs.lemmas.Bool.{cases_lt}
 use Rattle.std.proofs.lemmas.List.{append-nil, length-drop}
 use Rattle.std.proofs.lemmas.List.Concat.{flat_map-cons}
+use Rattle.sha2.specs.Sha256.{sha256}
 use Rattle.t3_holder.specs.NumberText.{little_endian, AreBytes}
-use Rattle.t3_store.specs.Value.{Value, Objects}
+use Rattle.t3_store.specs.Value.{Value, Objects, units_in}
+use Rattle.t3_store.specs.Whole.{IsWhole, supers_in}
 use Rattle.t3_snapshot.specs.Layout.{object_text, AreInTurn}
-use Rattle.t3_snapshot.specs.State.{Version, One, with_counts, body_text, state_limit, signature, IsComplete, Spells}
-use Rattle.t3_snapshot.specs.Refusal.{SaysVersion, HasObjectInTurn, last_number, IsMalformed, body_in, digested, IsRefused}
+use Rattle.t3_snapshot.specs.State.{Version, One, number_of, with_counts, body_text, state_limit, signature, named_in, named_as_keys, can_be_key, IsComplete, Spells}
+use Rattle.t3_snapshot.specs.Refusal.{SaysVersion, HasObjectInTurn, last_number, IsMalformed, body_in, digested, digest_in, IsRefused}
 use Rattle.t3_snapshot.specs.Inner.Envelope.{HasEnvelope}
 use Rattle.t3_snapshot.specs.Inner.Body.{IsBody}
 use Rattle.t3_snapshot.specs.Inner.Reading.{object_at}
@@ -18,7 +20,9 @@ use Rattle.t3_snapshot.specs.declared.refusal.SnapshotRefusal.{SnapshotRefusal}
 use Rattle.t3_snapshot.specs.declared.refusal.SnapshotRefusal.TheVariants as refusals
 use Rattle.t3_snapshot.proofs.Leaves.{AreBytes-take, AreBytes-drop, number_there}
 use Rattle.t3_snapshot.proofs.Turn.{object_takes, goes_not_on}
-use Rattle.t3_snapshot.proofs.Envelopes.{IsGoodTo, good_start, good_size, good_signature, good_version, good_image, refused_by, malformed, spelled}
+use Rattle.t3_snapshot.proofs.Envelopes.{IsGoodTo, good_start, good_size, good_signature, good_version, good_image, other_version, refused_by, malformed, spelled}
+use Rattle.t3_snapshot.proofs.Decided.{IsDecided, decided_le, decided_true, decided_some, decided_all, decided_same}
+use Rattle.t3_snapshot.proofs.Acyclic.{decided_whole}
 
 -- so many objects stand in turn, and then these bytes
 pub record HasObjectsInTurn (last next due : ℕ) (bytes : List ℕ) : Type 0 where
@@ -118,86 +122,160 @@ whole_body body has all none complete = record {
   complete = complete;
 }
 
--- a body that says no state is malformed
-body_answered : (body : List ℕ) → AreBytes body → ((state : Objects) (next : ℕ) → ¬ IsBody One body state next)
-    → ((items : ℕ) → ¬ IsMalformed One body items) → ⊥
-body_answered body are no_state no_items = by (cases_lt (length body) 8)
+-- objects are a complete state, or not
+decided_complete : (state : Objects) (top : ℕ) → IsDecided (IsComplete state top)
+decided_complete state top =
+    by (decided_le top (2 ^ 31)) (decided_all IsObject (λ number. decided_some (get state number)) named)
+    (decided_all IsKey (λ number. decided_true (can_be_key (get state number))) named_keys) (decided_whole state)
+    (decided_le (len state) 1048576) (decided_le (units_in state) 4194304)
   where
-    at_end : (has : HasCounts body) → (all : HasObjectsInTurn 0 has.next has.due has.after) → (rest : List ℕ) → all.rest ≡ rest → ⊥
-    at_end has all [] none = no_items (length all.objects) (inr (record {
-      next = has.next;
-      due = has.due;
-      objects = all.objects;
-      rest = all.rest;
-      next_fits = has.next_fits;
-      due_fits = has.due_fits;
-      is = has.is ∙ ap (with_counts One has.next has.due) all.is;
-      turn = all.turn;
-      count = refl;
-      breaks = inr (all.count, inr (λ complete. no_state (from_entries all.objects) has.next (whole_body body has all none complete)));
-    }))
-    at_end has all (byte ∷ rest) some = no_items (length all.objects) (inr (record {
-      next = has.next;
-      due = has.due;
-      objects = all.objects;
-      rest = all.rest;
-      next_fits = has.next_fits;
-      due_fits = has.due_fits;
-      is = has.is ∙ ap (with_counts One has.next has.due) all.is;
-      turn = all.turn;
-      count = refl;
-      breaks = inr (all.count, inl (λ none. not_nil byte rest (sym some ∙ none)));
-    }))
+    named : List ℕ
+    named = flat_map (λ (object : ℕ × Value). named_in object.1) (entries state)
+
+    named_keys : List ℕ
+    named_keys = flat_map (λ (object : ℕ × Value). named_as_keys object.1) (entries state)
+
+    IsObject : ℕ → Type 0
+    IsObject number = IsSome (get state number)
+
+    IsKey : ℕ → Type 0
+    IsKey number = IsTrue (can_be_key (get state number))
+
+    by : IsDecided (top ≤ 2 ^ 31) → IsDecided (AllByRecursion IsObject named) → IsDecided (AllByRecursion IsKey named_keys)
+        → IsDecided (IsWhole (supers_in state)) → IsDecided (len state ≤ 1048576) → IsDecided (units_in state ≤ 4194304)
+        → IsDecided (IsComplete state top)
+    by (inl next) (inl references) (inl keys) (inl whole) (inl objects) (inl units) =
+        inl (record { next = next; references = references; keys = keys; whole = whole; objects = objects; units = units })
+    by (inr not) references keys whole objects units = inr (λ complete. not complete.next)
+    by (inl next) (inr not) keys whole objects units = inr (λ complete. not complete.references)
+    by (inl next) (inl references) (inr not) whole objects units = inr (λ complete. not complete.keys)
+    by (inl next) (inl references) (inl keys) (inr not) objects units = inr (λ complete. not complete.whole)
+    by (inl next) (inl references) (inl keys) (inl whole) (inr not) units = inr (λ complete. not complete.objects)
+    by (inl next) (inl references) (inl keys) (inl whole) (inl objects) (inr not) = inr (λ complete. not complete.units)
+
+-- a body says a state, or is malformed
+abbrev BodyAnswer : List ℕ → Type 0
+BodyAnswer body = ((state : Objects) × (next : ℕ) × IsBody One body state next) ⊎ ((items : ℕ) × IsMalformed One body items)
+
+body_answer : (body : List ℕ) → AreBytes body → BodyAnswer body
+body_answer body are = by (cases_lt (length body) 8)
+  where
+    at_end : (has : HasCounts body) (all : HasObjectsInTurn 0 has.next has.due has.after) (rest : List ℕ) → all.rest ≡ rest
+        → IsDecided (IsComplete (from_entries all.objects) has.next) → BodyAnswer body
+    at_end has all [] none (inl complete) = inl (from_entries all.objects, has.next, whole_body body has all none complete)
+    at_end has all [] none (inr not) = inr (
+      length all.objects,
+      inr (record {
+        next = has.next;
+        due = has.due;
+        objects = all.objects;
+        rest = all.rest;
+        next_fits = has.next_fits;
+        due_fits = has.due_fits;
+        is = has.is ∙ ap (with_counts One has.next has.due) all.is;
+        turn = all.turn;
+        count = refl;
+        breaks = inr (all.count, inr not);
+      }),
+    )
+    at_end has all (byte ∷ rest) some decided = inr (
+      length all.objects,
+      inr (record {
+        next = has.next;
+        due = has.due;
+        objects = all.objects;
+        rest = all.rest;
+        next_fits = has.next_fits;
+        due_fits = has.due_fits;
+        is = has.is ∙ ap (with_counts One has.next has.due) all.is;
+        turn = all.turn;
+        count = refl;
+        breaks = inr (all.count, inl (λ none. not_nil byte rest (sym some ∙ none)));
+      }),
+    )
       where
         not_nil : (byte : ℕ) (rest : List ℕ) → byte ∷ rest ≡ [] → ⊥
         not_nil byte rest e = cc
 
-    read : (has : HasCounts body) → HasObjectsInTurn 0 has.next has.due has.after ⊎ HasFewer 0 has.next has.due has.after → ⊥
-    read has (inl all) = at_end has all all.rest refl
-    read has (inr fewer) = no_items (length fewer.objects) (inr (record {
-      next = has.next;
-      due = has.due;
-      objects = fewer.objects;
-      rest = fewer.rest;
-      next_fits = has.next_fits;
-      due_fits = has.due_fits;
-      is = has.is ∙ ap (with_counts One has.next has.due) fewer.is;
-      turn = fewer.turn;
-      count = refl;
-      breaks = inl (fewer.less, fewer.none);
-    }))
+    read : (has : HasCounts body) → HasObjectsInTurn 0 has.next has.due has.after ⊎ HasFewer 0 has.next has.due has.after
+        → BodyAnswer body
+    read has (inl all) = at_end has all all.rest refl (decided_complete (from_entries all.objects) has.next)
+    read has (inr fewer) = inr (
+      length fewer.objects,
+      inr (record {
+        next = has.next;
+        due = has.due;
+        objects = fewer.objects;
+        rest = fewer.rest;
+        next_fits = has.next_fits;
+        due_fits = has.due_fits;
+        is = has.is ∙ ap (with_counts One has.next has.due) fewer.is;
+        turn = fewer.turn;
+        count = refl;
+        breaks = inl (fewer.less, fewer.none);
+      }),
+    )
 
-    by : (length body < 8) ⊎ (8 ≤ length body) → ⊥
-    by (inl short) = no_items 0 (inl (short, refl))
+    by : (length body < 8) ⊎ (8 ≤ length body) → BodyAnswer body
+    by (inl short) = inr (0, inl (short, refl))
     by (inr long) =
         let has = counts_there body are long in
         read has (all_or_fewer has.due 0 has.next has.after has.next_fits has.left)
 
--- bytes that spell no state are refused by a rule
-pub some_answer : (fingerprint bytes : List ℕ) → AreBytes bytes → ((state : Objects) (next : ℕ) → ¬ Spells state next fingerprint bytes)
-    → ((why : SnapshotRefusal) → ¬ IsRefused fingerprint bytes why) → ⊥
-some_answer fingerprint bytes are no_state no_rule = sized (cases_lt state_limit (length bytes))
-  where
-    enveloped : (version : Version) → HasEnvelope version fingerprint bytes → ⊥
-    enveloped One envelope = body_answered (body_in bytes) (AreBytes-drop 42 (digested bytes) (AreBytes-take (length bytes - 32) bytes are))
-        (λ state next is. no_state state next (spelled One fingerprint bytes (body_in bytes) state next envelope refl is))
-        (λ items is. no_rule (refusals.Malformed items) (malformed One fingerprint bytes items envelope is))
+-- a state that the bytes spell, or the rule by which they are refused
+abbrev Answer : List ℕ → List ℕ → Type 0
+Answer fingerprint bytes =
+    ((state : Objects) × (next : ℕ) × Spells state next fingerprint bytes) ⊎ ((why : SnapshotRefusal) × IsRefused fingerprint bytes why)
 
-    sized : (state_limit < length bytes) ⊎ (length bytes ≤ state_limit) → ⊥
-    sized (inl long) = no_rule refusals.TooLong (refused_by fingerprint bytes refusals.TooLong (good_start fingerprint bytes) long)
-    sized (inr size) =
-        no_rule refusals.Signature (refused_by fingerprint bytes refusals.Signature (good_size fingerprint bytes size) (λ signed.
-        let good = good_signature fingerprint bytes (good_size fingerprint bytes size) signed in
-        no_rule refusals.Version (refused_by fingerprint bytes refusals.Version good (λ version says.
-        let good = good_version version fingerprint bytes good says in
-        no_rule refusals.OtherImage (refused_by fingerprint bytes refusals.OtherImage good (λ image.
-        let good = good_image fingerprint bytes good image in
-        digested_or version size signed says image good (cases_lt (length bytes) 74)))))))
+enveloped : (version : Version) (fingerprint bytes : List ℕ) → AreBytes bytes → HasEnvelope version fingerprint bytes → Answer fingerprint bytes
+enveloped One fingerprint bytes are envelope =
+    by (body_answer (body_in bytes) (AreBytes-drop 42 (digested bytes) (AreBytes-take (length bytes - 32) bytes are)))
+  where
+    by : BodyAnswer (body_in bytes) → Answer fingerprint bytes
+    by (inl (state, next, is)) = inl (state, next, spelled One fingerprint bytes (body_in bytes) state next envelope refl is)
+    by (inr (items, is)) = inr (refusals.Malformed items, malformed One fingerprint bytes items envelope is)
+
+-- bytes spell a state, or are refused by a rule
+pub some_answer : (fingerprint bytes : List ℕ) → AreBytes bytes
+    → ((state : Objects) × (next : ℕ) × Spells state next fingerprint bytes)
+    ⊎ ((why : SnapshotRefusal) × IsRefused fingerprint bytes why)
+some_answer fingerprint bytes are =
+    by (decided_le (length bytes) state_limit) (decided_same (take 8 bytes) signature)
+    (decided_same (take 2 (drop 8 bytes)) (little_endian 2 (number_of One)))
+    (decided_same (take 32 (drop 10 bytes)) fingerprint) (cases_lt (length bytes) 74)
+    (decided_same (digest_in bytes) (sha256 (digested bytes)))
+  where
+    refused : (why : SnapshotRefusal) → IsRefused fingerprint bytes why → Answer fingerprint bytes
+    refused why is = inr (why, is)
+
+    to_version : length bytes ≤ state_limit → take 8 bytes ≡ signature → IsGoodTo fingerprint bytes 3
+    to_version short signed = good_signature fingerprint bytes (good_size fingerprint bytes short) signed
+
+    to_image : length bytes ≤ state_limit → take 8 bytes ≡ signature → SaysVersion One bytes → IsGoodTo fingerprint bytes 4
+    to_image short signed says = good_version One fingerprint bytes (to_version short signed) says
+
+    to_digest : length bytes ≤ state_limit → take 8 bytes ≡ signature → SaysVersion One bytes → take 32 (drop 10 bytes) ≡ fingerprint
+        → IsGoodTo fingerprint bytes 5
+    to_digest short signed says image = good_image fingerprint bytes (to_image short signed says) image
+
+    by : IsDecided (length bytes ≤ state_limit) → IsDecided (take 8 bytes ≡ signature) → IsDecided (SaysVersion One bytes)
+        → IsDecided (take 32 (drop 10 bytes) ≡ fingerprint) → (length bytes < 74) ⊎ (74 ≤ length bytes)
+        → IsDecided (digest_in bytes ≡ sha256 (digested bytes)) → Answer fingerprint bytes
+    by (inr long) signed says image size digest =
+        refused refusals.TooLong (refused_by fingerprint bytes refusals.TooLong (good_start fingerprint bytes) (above long))
       where
-        digested_or : (version : Version) → length bytes ≤ state_limit → take 8 bytes ≡ signature → SaysVersion version bytes
-            → take 32 (drop 10 bytes) ≡ fingerprint → IsGoodTo fingerprint bytes 5 → (length bytes < 74) ⊎ (74 ≤ length bytes) → ⊥
-        digested_or version size signed says image good (inl short) =
-            no_rule refusals.Digest (refused_by fingerprint bytes refusals.Digest good (inl short))
-        digested_or version size signed says image good (inr long) =
-            no_rule refusals.Digest (refused_by fingerprint bytes refusals.Digest good (inr (λ digest.
-            enveloped version (record { size = size; signed = signed; versioned = says; image = image; long = long; digest = digest }))))
+        above : ¬ (length bytes ≤ state_limit) → state_limit < length bytes
+        above long = omega arith
+    by (inl short) (inr unsigned) says image size digest =
+        refused refusals.Signature (refused_by fingerprint bytes refusals.Signature (good_size fingerprint bytes short) unsigned)
+    by (inl short) (inl signed) (inr other) image size digest =
+        refused refusals.Version (refused_by fingerprint bytes refusals.Version (to_version short signed) (other_version bytes other))
+    by (inl short) (inl signed) (inl says) (inr other) size digest =
+        refused refusals.OtherImage (refused_by fingerprint bytes refusals.OtherImage (to_image short signed says) other)
+    by (inl short) (inl signed) (inl says) (inl image) (inl none) digest =
+        refused refusals.Digest (refused_by fingerprint bytes refusals.Digest (to_digest short signed says image) (inl none))
+    by (inl short) (inl signed) (inl says) (inl image) (inr long) (inr other) =
+        refused refusals.Digest (refused_by fingerprint bytes refusals.Digest (to_digest short signed says image) (inr other))
+    by (inl short) (inl signed) (inl says) (inl image) (inr long) (inl digest) =
+        enveloped One fingerprint bytes are
+        (record { size = short; signed = signed; versioned = says; image = image; long = long; digest = digest })

@@ -1,9 +1,7 @@
 -- The objects of a trimmed state, and what is written of them.
-use Rattle.std.proofs.Common.{◌≡◌, ℕ, zero, suc, ◌+◌, ◌<◌, ◌≤◌, ◌^◌, Bool, cond, List, [], ◌∷◌, ◌++◌, length, map, take, Option, Some, None, IsTrue, IsSome, refl, sym, ap, subst, ◌∙◌, arith}
+use Rattle.std.proofs.Common.{◌≡◌, ℕ, zero, suc, ◌+◌, ◌<◌, ◌≤◌, ◌^◌, Bool, List, [], ◌∷◌, ◌++◌, length, map, take, Option, Some, None, IsSome, refl, sym, ap, subst, ◌∙◌, arith}
 use Rattle.std.specs.Prelude.{unwrap_or, option_and_then, slice_get}
-use Rattle.std.specs.FinMap.{get, entries, keys, find, is_sorted, get-entries, len-entries}
-use Rattle.std.specs.FinMap.Entries.{below_all}
-use Rattle.std.specs.Ordering.{nat_cmp}
+use Rattle.std.specs.FinMap.{get, entries, keys, get-entries, len-entries}
 use Rattle.std.specs.List.{AllByRecursion, flat_map}
 use Rattle.std.proofs.lemmas.List.{length-map}
 use Rattle.std.proofs.lemmas.List.Concat.{flat_map-cons}
@@ -13,11 +11,11 @@ use Rattle.t3_holder.specs.declared.holder.Holder.TheVariants.{Nil}
 use Rattle.t3_undo.specs.declared.cell.Cell.TheVariants.{Default, Elem}
 use Rattle.t3_tables.specs.declared.pair.Pair.{Pair}
 use Rattle.t3_store.specs.Value.{Value, Objects, PropMap, Tads, Text, Items, Vector, Table, supers_of, is_class_at, props_at, text_of, items_in, length_of, entries_in, holder_at}
-use Rattle.t3_store.proofs.Rows.{same-itself}
 use Rattle.t3_snapshot.specs.Layout.{object_text, class_text, super_text, prop_text, counted_text, value_text, IsProp, AreCounted, AreInTurn, IsSpellable}
 use Rattle.t3_snapshot.specs.State.{trimmed, trimmed_holder, trimmed_prop, trimmed_value, IsSoundState}
 use Rattle.t3_snapshot.specs.Inner.Writing.{WritableAt, IsWritable, trimmed_text, tads_written, object_written, value_written}
-use Rattle.t3_snapshot.proofs.Sorted.{differ, and_parts, all_below, in_order, mapped_are}
+use Rattle.t3_snapshot.proofs.Sorted.{mapped_are}
+use Rattle.t3_snapshot.proofs.Entries.{entries_held}
 use Rattle.t3_snapshot.proofs.Walk.{none_above}
 
 abbrev pub trim : Objects → ℕ × Value → ℕ × Value
@@ -27,30 +25,11 @@ pub trimmed_entries_are : (state : Objects) → entries (trimmed state) ≡ map 
 unfolding trimmed
 trimmed_entries_are state = mapped_are (trimmed_value state) state
 
--- each entry is found
-found_later : (e : ℕ × Value) (es fs : List (ℕ × Value)) → AllByRecursion (λ f. e.0 < f.0) fs
-    → AllByRecursion (λ f. find nat_cmp f.0 es ≡ Some f.1) fs
-    → AllByRecursion (λ f. find nat_cmp f.0 (e ∷ es) ≡ Some f.1) fs
-found_later e es [] above all = tt
-found_later e es (f ∷ fs) above all =
-    (ap (λ b. cond b (Some e.1) (find nat_cmp f.0 es)) (differ f.0 e.0 above.0) ∙ all.0, found_later e es fs above.1 all.1)
-
-found_list : (es : List (ℕ × Value)) → IsTrue (is_sorted nat_cmp es) → AllByRecursion (λ e. find nat_cmp e.0 es ≡ Some e.1) es
-found_list [] s = tt
-found_list (e ∷ es) s =
-    let p = and_parts (below_all nat_cmp e.0 es) (is_sorted nat_cmp es) s in
-    (ap (λ b. cond b (Some e.1) (find nat_cmp e.0 es)) (same-itself e.0), found_later e es es (all_below e.0 es p.0) (found_list es p.1))
-
 abbrev pub IsThere : Objects → ℕ × Value → Type 0
 IsThere state e = get state e.0 ≡ Some e.1
 
-all_there : (state : Objects) (es : List (ℕ × Value)) → AllByRecursion (λ e. find nat_cmp e.0 (entries state) ≡ Some e.1) es
-    → AllByRecursion (IsThere state) es
-all_there state [] all = tt
-all_there state (e ∷ es) all = (get-entries state e.0 ∙ all.0, all_there state es all.1)
-
 pub entries_there : (state : Objects) → AllByRecursion (IsThere state) (entries state)
-entries_there state = all_there state (entries state) (found_list (entries state) (in_order state))
+entries_there state = entries_held state
 
 -- what is written of each number is the text of its object
 texts_written : (state : Objects) (es : List (ℕ × Value)) → AllByRecursion (IsThere state) es

@@ -1,7 +1,12 @@
 //! Laws of saved states.
-ghost use Rattle.std.specs.Prelude.{◌≡◌, ℕ, List, length};
+ghost use Rattle.std.specs.Prelude.{◌≡◌, ◌≤◌, ◌^◌, ◌⊎◌, ℕ, List, Some, length};
+ghost use Rattle.std.specs.FinMap.{get, len};
 ghost use Rattle.t3_holder.specs.NumberText.{AreBytes};
-ghost use Rattle.t3_store.specs.Value.{Objects};
+ghost use Rattle.t3_store.specs.Distinct.{HasDistinctEntries};
+ghost use Rattle.t3_store.specs.Value.{Value, Objects, units_in, HasFittingLength};
+ghost use Rattle.t3_store.specs.Whole.{IsWhole, supers_in};
+ghost use Rattle.t3_snapshot.specs.Good.{AreGoodObjects, HasGoodParts};
+ghost use Rattle.t3_snapshot.specs.Layout.{IsGoodHolder};
 ghost use Rattle.t3_snapshot.specs.Refusal.{IsRefused};
 ghost use Rattle.t3_snapshot.specs.Savable.{IsSavable};
 ghost use Rattle.t3_snapshot.specs.State.{Version, IsSoundState, Spells, saved, trimmed};
@@ -26,8 +31,8 @@ pub fn state_text()
         (why : AnyRefusal) → length fingerprint ≡ 32 → Spells state next fingerprint bytes
         → ¬ IsRefused fingerprint bytes why }
     ensures some_answer { (fingerprint bytes : List ℕ) → AreBytes bytes
-        → ((state : Objects) (next : ℕ) → ¬ Spells state next fingerprint bytes)
-        → ¬ ((why : AnyRefusal) → ¬ IsRefused fingerprint bytes why) }
+        → ((state : Objects) × (next : ℕ) × Spells state next fingerprint bytes)
+        ⊎ ((why : AnyRefusal) × IsRefused fingerprint bytes why) }
     ensures nothing_trimmed { (state : Objects) (next : ℕ) → IsSoundState state next
         → trimmed state ≡ state }
 {}
@@ -36,4 +41,32 @@ pub fn state_text()
 pub fn savable_objects()
     ensures { (objects : Objects) (next : ℕ) → IsSavable next objects
         → IsSoundState (trimmed objects) next }
+{}
+
+/// Persistent objects whose holders are good can be saved, by what a store knows of them; and the objects of a
+/// saved state are such objects.
+pub fn good_objects_can_be_saved()
+    ensures saved { (objects : Objects) (next : ℕ) → AreGoodObjects IsGoodHolder next objects
+        → next ≤ 2 ^ 31 → IsWhole (supers_in objects) → len objects ≤ 1048576
+        → units_in objects ≤ 4194304
+        → ((number : ℕ) (value : Value) → get objects number ≡ Some value
+        → HasFittingLength value × HasDistinctEntries value)
+        → IsSavable next objects }
+    ensures restored { (objects : Objects) (next : ℕ) → IsSoundState objects next
+        → AreGoodObjects IsGoodHolder next objects × (next ≤ 2 ^ 31) }
+{}
+
+/// Something that can hold of a holder.
+pub trait HolderProperty {
+    ghost use Rattle.t3_holder.specs.declared.holder.Holder.{Holder};
+
+    ghost good: { Holder → Type 0 };
+}
+
+/// The objects of a saved state whose holders have a property are persistent objects that have it: their
+/// numbers and their keys are as such objects have them.
+pub fn state_objects_are_good<G: HolderProperty>()
+    ensures { (objects : Objects) (next : ℕ) → IsSoundState objects next
+        → ((number : ℕ) (value : Value) → get objects number ≡ Some value
+        → HasGoodParts G.good value) → AreGoodObjects G.good next objects }
 {}

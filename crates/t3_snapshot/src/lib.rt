@@ -11,7 +11,8 @@
 //!
 //! A [`StateBuilder`] makes a state of objects that come one after the other and may refer to later ones, as
 //! [`decode`] does. [`state_text`] has the laws of the bytes, and [`savable_objects`] says which objects a
-//! machine may keep so that they can always be saved.
+//! machine may keep so that they can always be saved: [`good_objects_can_be_saved`] says it of their holders, and
+//! [`state_objects_are_good`] what is known of the objects of a state.
 //!
 //! docs/SAVED_STATE.md has the layout.
 #![tactic(auto)]
@@ -35,6 +36,8 @@ mod saved_object;
 pub use builder::StateBuilder;
 pub use decoding::decode;
 pub use encoding::{encode, numbers_of};
-pub use laws::{savable_objects, state_text};
+pub use laws::{
+    HolderProperty, good_objects_can_be_saved, savable_objects, state_objects_are_good, state_text,
+};
 pub use refusal::SnapshotRefusal;
 pub use saved_object::SavedObject;

@@ -37,6 +37,10 @@ impl Store {
 
     /// Puts a state in place of all persistent objects, and gives up all savepoints. Transient objects stay. The
     /// next persistent number is the greater of the store's and this one. No memory is taken.
+    ///
+    /// The state is one that the store [`admits`](Store::admits). Each superclass in it is one of its tads-objects,
+    /// none of which is its own ancestor, as [`Persistent::first_broken`] tests. Its numbers are below `next`, which
+    /// is at most 2^31.
     pub fn replace(&mut self, state: Persistent, next: u32)
         requires fits { admit_of state self.old.store ≡ Admit.Fits }
         requires whole { IsWhole (supers_in state) }

@@ -8,4 +8,5 @@ unfolding saved
 returns c =
     let empty = c.new-out.ensures.items in
     c.in_ok-append_digest.ensures ∙ ap with_digest (c.in_ok-append_state.ensures
-    ∙ ap (λ (x : List ℕ). x ++ (head_text One c.args.fingerprint.now ++ body_text One c.args.next (entries (trimmed c.args.state.now)))) empty)
+    ∙ ap (λ (x : List ℕ). x ++ (head_text One c.args.fingerprint.now
+    ++ body_text One c.args.next (entries (trimmed c.args.state.now)))) empty)

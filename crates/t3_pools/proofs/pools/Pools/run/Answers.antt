@@ -1,4 +1,4 @@
-use Rattle.std.proofs.Common.{◌+◌, inr, arith}
+use Rattle.std.proofs.Common.{◌≡◌, ◌+◌, Some, None, inr, sym, ◌∙◌, arith}
 use Rattle.t3_pools.proofs.Rules.{no_pool}
 use Rattle.t3_pools.proofs.pools.Pools.run.Goals as goal
 
@@ -12,3 +12,8 @@ returns-else-pool-eq2-clause-whole c =
 
 pub returns-else-pool-eq2-clause-beyond : goal.returns-else-pool-eq2-clause-beyond
 returns-else-pool-eq2-clause-beyond c far le = no_pool c.args.self.now c.args.pool far c.if-pool-eq1.false c.if-pool-eq2.false
+
+pub returns-else-pool-eq2-clause-bytes : goal.returns-else-pool-eq2-clause-bytes
+returns-else-pool-eq2-clause-bytes c address byte there =
+    let none : None ≡ Some byte = sym (no_pool c.args.self.now c.args.pool address c.if-pool-eq1.false c.if-pool-eq2.false) ∙ there in
+    absurd cc
