@@ -4,7 +4,7 @@ _t3() {
     local LC_ALL=C word=${COMP_WORDS[COMP_CWORD]} names options='' name given
     COMPREPLY=()
     if ((COMP_CWORD == 1)); then
-        COMPREPLY=($(compgen -W 'check show list run rewrite asm' -- "$word"))
+        COMPREPLY=($(compgen -W 'check show list run rewrite asm drill' -- "$word"))
         return
     fi
     case ${COMP_WORDS[1]} in

@@ -1,7 +1,7 @@
 #!/bin/sh
 # Makes the sample images. Each is named for what it shows: an image that has no code and so can't be run,
 # one with a malformed block, which is refused, a story that says 42, and an image with a block of every kind.
-# The sources, *.t3s, are for `t3 asm`, which made counter.t3, asks.t3 and cave.t3.
+# The sources, *.t3s, are for `t3 asm`, which made counter.t3, asks.t3, cave.t3 and saves.t3.
 set -eu
 cd "$(dirname "$0")"
 

@@ -15,15 +15,18 @@ use Rattle.t3_run.proofs.Asks.{asks-none, asks-moves}
 use Rattle.t3_interp.specs.declared.event.End.TheVariants as ends
 use Rattle.t3_cli.specs.Cause.{Cause}
 use Rattle.t3_image_read.specs.declared.reader.Totals.{Totals}
-use Rattle.t3_cli.specs.Command.{CommandValue, Check, Show, Run, Rewrite, Listing, Asm}
+use Rattle.t3_image_read.specs.ImageText.{ImageValue}
+use Rattle.t3_words.specs.Command.{CommandValue, Check, Rewrite}
 use Rattle.t3_cli.specs.Lines.{usage_line}
-use Rattle.t3_cli.specs.Outcome.{Outcome, showing, IsResult, IsImageOutcome, input_of, status_of}
+use Rattle.t3_cli.specs.Plan.{Plan, Showing, Putting, Running, plan_of}
+use Rattle.t3_cli.specs.Outcome.{Outcome, showing, IsResult, IsPlanOutcome, status_of}
+use Rattle.t3_words.specs.Input.{input_of}
 use Rattle.t3_cli.specs.Top.{CutsShort, IsWhole, IsCut, IsShown, MovesSome, HasExactCause}
 use Rattle.t3_cli.specs.Inner.Reading.{ReadsInput}
 use Rattle.t3_cli.specs.Inner.Following.{Answers, Follows, FollowsSome, IsReadOutcome, IsCountedOutcome, IsWrittenOutcome}
 use Rattle.t3_cli.proofs.Results.{read_result}
 use Rattle.t3_cli.proofs.Causes.{exact_cause, result_not_cut}
-use Rattle.t3_cli.proofs.Followed.{input_in, follows_shown}
+use Rattle.t3_cli.proofs.Followed.{input_in, text_follows}
 
 answers_by : (command : Option CommandValue) (files : Files) (left : Option Files) (before after : Option Session) (answer : Status) (input : List ℕ)
     (outcome : Outcome) → IsInput before input → IsResult command files input outcome → Follows outcome (Some files) left before after answer
@@ -72,7 +75,7 @@ pub untouched_answers : (command : Option CommandValue) (all left : Option Files
 untouched_answers command None left before answer same cut = tt
 untouched_answers command (Some files) left before answer same cut = inr (cut, inl (same, refl))
 
-pub follows_some : (IsOutcome : List ℕ → Outcome → Type 0) (all left : Option Files) (before after : Option Session) (answer : Status)
+pub follows_some : (IsOutcome : Option Files → List ℕ → Outcome → Type 0) (all left : Option Files) (before after : Option Session) (answer : Status)
     → FollowsSome IsOutcome all left before after answer → MovesSome before after
 follows_some IsOutcome all left before after answer (input, is_input, outcome, gives, inl whole) =
     (shown_by outcome.acts, asks-moves outcome.acts before after (shown_by outcome.acts) whole.asks)
@@ -96,18 +99,14 @@ other_status : (outcome : Outcome) (status : Status) (text : List ℕ) → outco
     → outcome.status ≢ Usage
 other_status outcome status text is other same = other (sym (ap (λ (o : Outcome). o.status) is) ∙ same)
 
-image_not_usage : (command : CommandValue) (image : _) (input : List ℕ) (outcome : Outcome) → IsImageOutcome command image input outcome
-    → outcome.status ≢ Usage
-image_not_usage (Check name) image input outcome is = other_status outcome Done _ is (λ e. absurd cc)
-image_not_usage (Show name) image input outcome is = other_status outcome Done _ is (λ e. absurd cc)
-image_not_usage (Rewrite name out mask) image input outcome is =
+plan_not_usage : (plan : Plan) (image : ImageValue) (files : Option Files) (input : List ℕ) (outcome : Outcome)
+    → IsPlanOutcome plan image files input outcome → outcome.status ≢ Usage
+plan_not_usage (Showing text) image files input outcome is = other_status outcome Done text is (λ e. absurd cc)
+plan_not_usage (Putting out bytes) image files input outcome is =
     λ same. let clash : Done ≡ Usage = sym (ap (λ (o : Outcome). o.status) is) ∙ same in absurd cc
-image_not_usage (Listing name out) image input outcome is =
-    λ same. let clash : Done ≡ Usage = sym (ap (λ (o : Outcome). o.status) is) ∙ same in absurd cc
-image_not_usage (Asm name out) image input outcome is =
-    λ same. let clash : Done ≡ Usage = sym (ap (λ (o : Outcome). o.status) is) ∙ same in absurd cc
-image_not_usage (Run name options) image input outcome (inl (why, loaded, is)) = other_status outcome LoadRefused _ is (λ e. absurd cc)
-image_not_usage (Run name options) image input outcome (inr (ran, runs, is)) =
+plan_not_usage (Running options actions) image files input outcome (inl (why, loaded, is)) =
+    other_status outcome LoadRefused _ is (λ e. absurd cc)
+plan_not_usage (Running options actions) image files input outcome (inr (ran, runs, is)) =
     λ same. stop_not_usage ran.stop (sym (ap (λ (o : Outcome). o.status) is) ∙ same)
 
 counted_not_usage : (command : CommandValue) (totals : Totals) (outcome : Outcome) → IsCountedOutcome command totals outcome
@@ -121,19 +120,19 @@ written_not_usage (Rewrite name out under) mask written outcome is =
     λ same. let clash : Done ≡ Usage = sym (ap (λ (o : Outcome). o.status) is) ∙ same in absurd cc
 written_not_usage _ mask written outcome is = absurd is
 
-read_not_usage : (command : CommandValue) (found : ReadImage) (input : List ℕ) (outcome : Outcome) → IsReadOutcome command found input outcome
-    → outcome.status ≢ Usage
-read_not_usage command read.Absent input outcome is = other_status outcome Absent _ is (λ e. absurd cc)
-read_not_usage command (read.Refused place why) input outcome is = other_status outcome ImageRefused _ is (λ e. absurd cc)
-read_not_usage command (read.BadLine line why) input outcome is = other_status outcome SourceRefused _ is (λ e. absurd cc)
-read_not_usage command (read.Counted totals) input outcome is = counted_not_usage command totals outcome is
-read_not_usage command (read.Rewritten mask written) input outcome is = written_not_usage command mask written.items outcome is.1
-read_not_usage command (read.Image image) input outcome is = image_not_usage command image input outcome is
+read_not_usage : (command : CommandValue) (found : ReadImage) (files : Option Files) (input : List ℕ) (outcome : Outcome)
+    → IsReadOutcome command found files input outcome → outcome.status ≢ Usage
+read_not_usage command read.Absent files input outcome is = other_status outcome Absent _ is (λ e. absurd cc)
+read_not_usage command (read.Refused place why) files input outcome is = other_status outcome ImageRefused _ is (λ e. absurd cc)
+read_not_usage command (read.BadLine line why) files input outcome is = other_status outcome SourceRefused _ is (λ e. absurd cc)
+read_not_usage command (read.Counted totals) files input outcome is = counted_not_usage command totals outcome is
+read_not_usage command (read.Rewritten mask written) files input outcome is = written_not_usage command mask written.items outcome is.1
+read_not_usage command (read.Image image) files input outcome is = plan_not_usage (plan_of command image) image files input outcome is
 
 pub follows_not_usage : (command : CommandValue) (found : ReadImage) (all left : Option Files) (before after : Option Session) (answer : Status)
     → FollowsSome (IsReadOutcome command found) all left before after answer → answer ≢ Usage
 follows_not_usage command found all left before after answer (input, is_input, outcome, gives, inl whole) =
-    λ is. read_not_usage command found input outcome gives (sym whole.status ∙ is)
+    λ is. read_not_usage command found all input outcome gives (sym whole.status ∙ is)
 follows_not_usage command found all left before after answer (input, is_input, outcome, gives, inr breaks) = cut_not_usage answer breaks.cut
 
 -- ---- words that are no command
@@ -144,7 +143,7 @@ usage_answers None before after answer shown = tt
 usage_answers (Some files) before after answer shown =
     let input = input_in before in
     answers_by None files (Some files) before after answer input.0 (showing Usage usage_line) input.1 refl
-    (follows_shown (Some files) before before after [] usage_line Usage answer (shows_nothing before) shown)
+    (text_follows (Some files) before after usage_line Usage answer (inl shown))
 
 pub shown_some : (before after : Option Session) (text : List ℕ) (status answer : Status) → IsShown before after text status answer
     → MovesSome before after

@@ -10,10 +10,14 @@ use Rattle.t3_cli.specs.declared.status.Status.TheVariants.{Done, Usage, Absent,
 use Rattle.t3_run.specs.declared.stop.Stop.{Stop}
 use Rattle.t3_run.specs.declared.stop.Stop.TheVariants.{Ends, NoStep, NoLine}
 use Rattle.t3_interp.specs.declared.event.End.TheVariants as ends
-use Rattle.t3_cli.specs.Command.{CommandValue, Run, Asm, RunOptions}
+use Rattle.t3_words.specs.Command.{CommandValue, RunOptions}
 use Rattle.t3_cli.specs.Lines.{absent_line, refused_line, bad_line, load_line}
-use Rattle.t3_cli.specs.Outcome.{Outcome, showing, IsResult, IsInputOutcome, IsFileOutcome, IsImageOutcome, IsRunOutcome, IsTextOutcome, IsSourceOutcome, assembled, InputFile, ImageFile, SourceFile, input_of, BeginsWith, read_bytes, ran_outcome, status_of}
-use Rattle.t3_cli.specs.Cause.{Cause, WordsCause, CommandCause, IsAbsent, IsRefusedImage, IsRefusedSource, IsUnloadable, EndsBy, RunsFile}
+use Rattle.t3_cli.specs.Outcome.{Outcome, showing, IsResult, IsInputOutcome, IsFileOutcome, IsPlanOutcome, IsImageOutcome, IsRunOutcome, IsTextOutcome, IsSourceOutcome, assembled, ran_outcome, status_of}
+use Rattle.t3_words.specs.Input.{InputFile, ImageFile, SourceFile, MadeImage, input_of}
+use Rattle.t3_files.specs.Reading.{read_bytes}
+use Rattle.t3_drill.specs.Drill.{drill_image}
+use Rattle.t3_cli.specs.Plan.{Plan, Showing, Putting, Running, plan_of}
+use Rattle.t3_cli.specs.Cause.{Cause, WordsCause, CommandCause, IsAbsent, IsRefusedImage, IsRefusedSource, HasImage, IsUnloadable, EndsBy, RunsInput}
 use Rattle.t3_cli.specs.Top.{CutsShort, HasExactCause}
 use Rattle.t3_cli.specs.Inner.Following.{Answers}
 use Rattle.t3_cli.proofs.Results.{one_outcome}
@@ -34,31 +38,31 @@ stop_cause (Ends (ends.Unhandled object fault)) command files input by = inr by
 stop_cause (Ends (ends.BadCode at cause)) command files input by = inr by
 stop_cause (Ends ends.StoreFull) command files input by = inr by
 
-run_cause : (name file : List ℕ) (image : ImageValue) (options : RunOptions) (files : Files) (input : List ℕ) (outcome : Outcome)
-    → get files name ≡ Some file
-    → BeginsWith (read_bytes file) image → IsRunOutcome image options input outcome
-    → HasCause outcome.status (Run name options) files input
-run_cause name file image options files input outcome there begins (inl (why, loaded, is)) =
-    let runs : RunsFile (Run name options) files image options = record { name = name; file = file; command_is = refl; there = there; begins = begins } in
-    let P : Status → Type 0 = λ s. HasCause s (Run name options) files input in
-    subst P (sym (ap (λ (o : Outcome). o.status) is)) (inr (image, options, why, runs, loaded))
-run_cause name file image options files input outcome there begins (inr (ran, is_run, is)) =
-    let runs : RunsFile (Run name options) files image options = record { name = name; file = file; command_is = refl; there = there; begins = begins } in
-    let P : Status → Type 0 = λ s. HasCause s (Run name options) files input in
-    subst P (sym (ap (λ (o : Outcome). o.status) is)) (stop_cause ran.stop (Run name options) files input (image, options, ran, runs, is_run, refl))
-
-image_cause : (command : CommandValue) (name file : List ℕ) (image : ImageValue) (files : Files) (input : List ℕ) (outcome : Outcome)
-    → input_of command ≡ ImageFile name
-    → get files name ≡ Some file → BeginsWith (read_bytes file) image → IsImageOutcome command image input outcome
+-- what a plan gives
+plan_cause : (command : CommandValue) (image : ImageValue) (files : Files) (input : List ℕ) (outcome : Outcome) (plan : Plan)
+    → HasImage (input_of command) files image → plan_of command image ≡ plan → IsPlanOutcome plan image (Some files) input outcome
     → HasCause outcome.status command files input
-image_cause (Run own options) name file image files input outcome reads there begins is =
-    let same : own ≡ name = cc in
-    run_cause own file image options files input outcome (ap (get files) same ∙ there) begins is
-image_cause command name file image files input outcome reads there begins is = inl (ap (λ (o : Outcome). o.status) is)
+plan_cause command image files input outcome (Showing text) has planned is = inl (ap (λ (o : Outcome). o.status) is)
+plan_cause command image files input outcome (Putting out bytes) has planned is = inl (ap (λ (o : Outcome). o.status) is)
+plan_cause command image files input outcome (Running options actions) has planned (inl (why, loaded, is)) =
+    let runs : RunsInput command files image options = record { actions = actions; has = has; runs = planned } in
+    let P : Status → Type 0 = λ s. HasCause s command files input in
+    subst P (sym (ap (λ (o : Outcome). o.status) is)) (inr (image, options, why, runs, loaded))
+plan_cause command image files input outcome (Running options actions) has planned (inr (ran, is_run, is)) =
+    let runs : RunsInput command files image options = record { actions = actions; has = has; runs = planned } in
+    let P : Status → Type 0 = λ s. HasCause s command files input in
+    subst P (sym (ap (λ (o : Outcome). o.status) is)) (stop_cause ran.stop command files input (image, options, ran, runs, is_run, refl))
+
+image_cause : (command : CommandValue) (from : InputFile) (image : ImageValue) (files : Files) (input : List ℕ) (outcome : Outcome)
+    → input_of command ≡ from → HasImage from files image → IsImageOutcome command image (Some files) input outcome
+    → HasCause outcome.status command files input
+image_cause command from image files input outcome reads has is =
+    plan_cause command image files input outcome (plan_of command image)
+    (subst (λ (i : InputFile). HasImage i files image) (sym reads) has) refl is
 
 file_cause : (command : CommandValue) (name : List ℕ) (file : Option (List ℕ)) (files : Files) (input : List ℕ) (outcome : Outcome)
     → input_of command ≡ ImageFile name
-    → get files name ≡ file → IsFileOutcome command name file input outcome → HasCause outcome.status command files input
+    → get files name ≡ file → IsFileOutcome command name file (Some files) input outcome → HasCause outcome.status command files input
 file_cause command name None files input outcome reads there is =
     let P : InputFile → Type 0 = λ i. IsAbsent i files in
     let Q : Status → Type 0 = λ s. HasCause s command files input in
@@ -68,18 +72,13 @@ file_cause command name (Some file) files input outcome reads there (inl refusal
     let Q : Status → Type 0 = λ s. HasCause s command files input in
     subst Q (sym (ap (λ (o : Outcome). o.status) refusal.is)) (inr (subst P (sym reads) (file, there, (refusal.place, refusal.why, refusal.refused))))
 file_cause command name (Some file) files input outcome reads there (inr (image, begins, is)) =
-    image_cause command name file image files input outcome reads there begins is
-
--- a source's image is written by one command alone
-written_cause : (command : CommandValue) (name : List ℕ) (image : ImageValue) (files : Files) (input : List ℕ) (outcome : Outcome)
-    → input_of command ≡ SourceFile name → IsImageOutcome command image input outcome → HasCause outcome.status command files input
-written_cause (Asm own out) name image files input outcome reads is = inl (ap (λ (o : Outcome). o.status) is)
-written_cause command name image files input outcome reads is = absurd cc
+    image_cause command (ImageFile name) image files input outcome reads (file, there, begins) is
 
 source_cause : (command : CommandValue) (name file : List ℕ) (found : Result ImageValue AsmRefusal) (files : Files) (input : List ℕ) (outcome : Outcome)
     → input_of command ≡ SourceFile name → get files name ≡ Some file → assembled (read_bytes file) ≡ found
-    → IsSourceOutcome command found input outcome → HasCause outcome.status command files input
-source_cause command name file (Ok image) files input outcome reads there says is = written_cause command name image files input outcome reads is
+    → IsSourceOutcome command found (Some files) input outcome → HasCause outcome.status command files input
+source_cause command name file (Ok image) files input outcome reads there says is =
+    image_cause command (SourceFile name) image files input outcome reads (file, there, says) is
 source_cause command name file (Err refused) files input outcome reads there says is =
     let P : InputFile → Type 0 = λ i. IsRefusedSource i files in
     let Q : Status → Type 0 = λ s. HasCause s command files input in
@@ -87,7 +86,7 @@ source_cause command name file (Err refused) files input outcome reads there say
 
 text_cause : (command : CommandValue) (name : List ℕ) (file : Option (List ℕ)) (files : Files) (input : List ℕ) (outcome : Outcome)
     → input_of command ≡ SourceFile name
-    → get files name ≡ file → IsTextOutcome command name file input outcome → HasCause outcome.status command files input
+    → get files name ≡ file → IsTextOutcome command name file (Some files) input outcome → HasCause outcome.status command files input
 text_cause command name None files input outcome reads there is =
     let P : InputFile → Type 0 = λ i. IsAbsent i files in
     let Q : Status → Type 0 = λ s. HasCause s command files input in
@@ -102,6 +101,8 @@ input_cause command (ImageFile name) files input outcome reads is =
     file_cause command name (get files name) files input outcome reads refl is
 input_cause command (SourceFile name) files input outcome reads is =
     text_cause command name (get files name) files input outcome reads refl is
+input_cause command (MadeImage number) files input outcome reads is =
+    image_cause command (MadeImage number) (drill_image number) files input outcome reads refl is
 
 result_cause : (command : Option CommandValue) (files : Files) (input : List ℕ) (outcome : Outcome) → IsResult command files input outcome
     → (outcome.status ≡ Done) ⊎ WordsCause outcome.status command files input
@@ -146,40 +147,54 @@ of_input status command files input (outcome, result, is) = record { outcome = o
 absent_status : (command : CommandValue) (from : InputFile) (files : Files) (input : List ℕ) → IsAbsent from files
     → ReadsOutcome command from files input Absent
 absent_status command (ImageFile name) files input absent =
-    let P : Option (List ℕ) → Type 0 = λ o. IsFileOutcome command name o input (showing Absent (absent_line name)) in
+    let P : Option (List ℕ) → Type 0 = λ o. IsFileOutcome command name o (Some files) input (showing Absent (absent_line name)) in
     (showing Absent (absent_line name), subst P (sym absent) refl, refl)
 absent_status command (SourceFile name) files input absent =
-    let P : Option (List ℕ) → Type 0 = λ o. IsTextOutcome command name o input (showing Absent (absent_line name)) in
+    let P : Option (List ℕ) → Type 0 = λ o. IsTextOutcome command name o (Some files) input (showing Absent (absent_line name)) in
     (showing Absent (absent_line name), subst P (sym absent) refl, refl)
+absent_status command (MadeImage number) files input absent = absurd absent
 
 refused_status : (command : CommandValue) (from : InputFile) (files : Files) (input : List ℕ) → IsRefusedImage from files
     → ReadsOutcome command from files input ImageRefused
 refused_status command (SourceFile name) files input refused = absurd refused
+refused_status command (MadeImage number) files input refused = absurd refused
 refused_status command (ImageFile name) files input (file, there, (place, why, refused)) =
     let outcome = showing ImageRefused (refused_line why place) in
-    let P : Option (List ℕ) → Type 0 = λ o. IsFileOutcome command name o input outcome in
+    let P : Option (List ℕ) → Type 0 = λ o. IsFileOutcome command name o (Some files) input outcome in
     (outcome, subst P (sym there) (inl (record { place = place; why = why; refused = refused; is = refl })), refl)
 
 bad_status : (command : CommandValue) (from : InputFile) (files : Files) (input : List ℕ) → IsRefusedSource from files
     → ReadsOutcome command from files input SourceRefused
 bad_status command (ImageFile name) files input refused = absurd refused
+bad_status command (MadeImage number) files input refused = absurd refused
 bad_status command (SourceFile name) files input (file, refused, there, says) =
     let outcome = showing SourceRefused (bad_line refused.line refused.why) in
-    let P : Option (List ℕ) → Type 0 = λ o. IsTextOutcome command name o input outcome in
-    let Q : Result ImageValue AsmRefusal → Type 0 = λ r. IsSourceOutcome command r input outcome in
+    let P : Option (List ℕ) → Type 0 = λ o. IsTextOutcome command name o (Some files) input outcome in
+    let Q : Result ImageValue AsmRefusal → Type 0 = λ r. IsSourceOutcome command r (Some files) input outcome in
     (outcome, subst P (sym there) (subst Q (sym says) refl), refl)
 
 -- a command that runs an image has the outcome of that
+image_outcome : (command : CommandValue) (from : InputFile) (files : Files) (input : List ℕ) (image : ImageValue) (outcome : Outcome)
+    → HasImage from files image → IsImageOutcome command image (Some files) input outcome → IsInputOutcome command from files input outcome
+image_outcome command (ImageFile name) files input image outcome (file, there, begins) is =
+    let P : Option (List ℕ) → Type 0 = λ o. IsFileOutcome command name o (Some files) input outcome in
+    subst P (sym there) (inr (image, begins, is))
+image_outcome command (SourceFile name) files input image outcome (file, there, says) is =
+    let P : Option (List ℕ) → Type 0 = λ o. IsTextOutcome command name o (Some files) input outcome in
+    let Q : Result ImageValue AsmRefusal → Type 0 = λ r. IsSourceOutcome command r (Some files) input outcome in
+    subst P (sym there) (subst Q (sym says) is)
+image_outcome command (MadeImage number) files input image outcome same is =
+    subst (λ (i : ImageValue). IsImageOutcome command i (Some files) input outcome) same is
+
 runs_status : (command : CommandValue) (files : Files) (input : List ℕ) (image : ImageValue) (options : RunOptions) (outcome : Outcome)
-    → RunsFile command files image options
-    → IsRunOutcome image options input outcome → HasStatus outcome.status (Some command) files input
+    → (runs : RunsInput command files image options)
+    → IsRunOutcome options runs.actions image (Some files) input outcome → HasStatus outcome.status (Some command) files input
 runs_status command files input image options outcome runs is =
-    let P : Option (List ℕ) → Type 0 = λ o. IsFileOutcome (Run runs.name options) runs.name o input outcome in
-    let Q : CommandValue → Type 0 = λ c. IsResult (Some c) files input outcome in
+    let planned : IsImageOutcome command image (Some files) input outcome =
+    subst (λ (plan : Plan). IsPlanOutcome plan image (Some files) input outcome) (sym runs.runs) is in
     record {
-      outcome =
-          outcome;
-      result = subst Q (sym runs.command_is) (subst P (sym runs.there) (inr (image, runs.begins, is)));
+      outcome = outcome;
+      result = image_outcome command (input_of command) files input image outcome runs.has planned;
       is = refl;
     }
 
@@ -196,7 +211,7 @@ ends_status : (status : Status) (command : CommandValue) (files : Files) (input 
     → HasStatus status (Some command) files input
 ends_status status command files input (image, options, ran, runs, is_run, is) =
     as_status (status_of ran.stop) status (Some command) files input is
-    (runs_status command files input image options (ran_outcome ran) runs (inr (ran, is_run, refl)))
+    (runs_status command files input image options (ran_outcome runs.actions ran) runs (inr (ran, is_run, refl)))
 
 command_status : (status : Status) (command : CommandValue) (files : Files) (input : List ℕ) → CommandCause status command files input
     → HasStatus status (Some command) files input

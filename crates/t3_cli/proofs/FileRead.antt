@@ -2,11 +2,8 @@
 use Rattle.std.proofs.Common.{◌≡◌, ℕ, ◌+◌, ◌≤◌, inl, inr, Bool, true, false, List, [], ◌++◌, length, take, drop, Option, Some, None, Result, Ok, Err, refl, sym, ap, subst, ◌∙◌, arith}
 use Rattle.std.specs.FinMap.{get}
 use Rattle.std.specs.Global.{Vec}
-use Rattle.std.specs.Option.{option_map}
-use Rattle.std.proofs.lemmas.List.{take-append-drop, take-take, take_all, length-append, length-take-le}
+use Rattle.std.proofs.lemmas.List.{take-take, length-append, length-take-le}
 use Rattle.t3_io.specs.Files.{Files}
-use Rattle.t3_io.specs.Reading.{IsAtMost}
-use Rattle.t3_io.specs.declared.depot.Got.{Got}
 use Rattle.t3_io.specs.declared.depot.Got.TheVariants as got
 use Rattle.t3_io.specs.declared.refusal.DeviceRefusal.{DeviceRefusal}
 use Rattle.t3_io.specs.declared.refusal.DeviceRefusal.TheVariants as device
@@ -24,31 +21,11 @@ use Rattle.t3_image_write.specs.Rewriting.{HasRewritten}
 use Rattle.t3_image_read.proofs.Lists.{take_add}
 use Rattle.t3_cli.specs.declared.images.read.ReadImage.{ReadImage}
 use Rattle.t3_cli.specs.declared.images.read.ReadImage.TheVariants as read
-use Rattle.t3_cli.specs.Outcome.{read_bytes, read_limit}
-use Rattle.t3_cli.specs.Inner.Reading.{ReadsBytes, ReadsImage, IsPiece, PieceOf, GivesPiece, Concludes, TellsText, TakesPrefix, TakesSoFar, HasRead, IsEndOf, IsEnd, HasReadAll, IsFed, ReadsFile}
-
--- ---- one file
-
--- the prefix and the piece are the prefix up to the end of the piece
-prefix_and_piece : (file taken buffer : List ℕ) (at want count : ℕ) → taken ≡ take at file → IsPiece file at want buffer count
-    → taken ++ take count buffer ≡ take (at + count) file
-prefix_and_piece file taken buffer at want count so_far piece = (λ i. so_far i ++ piece.is i) ∙ sym (take_add at count file)
-
--- a prefix of the file is one of what is read of it
-prefix_of_read : (file : List ℕ) (at : ℕ) → at ≤ read_limit → read_bytes file ≡ take at file ++ drop at (read_bytes file)
-prefix_of_read file at le =
-    sym (take-append-drop at (read_bytes file)) ∙ ap (λ t. t ++ drop at (read_bytes file)) (take-take at read_limit file le)
-
--- a whole file, or all that is read of it
-whole_file : (file : List ℕ) (at : ℕ) → at ≤ read_limit → length file ≤ at → take at file ≡ read_bytes file
-whole_file file at le short = take_all at file short ∙ sym (take_all read_limit file (omega arith))
+use Rattle.t3_files.specs.Reading.{read_bytes, read_limit, PieceOf, GivesPiece, TakesPrefix, TakesSoFar, IsEndOf, IsEnd}
+use Rattle.t3_files.proofs.Pieces.{prefix_and_piece, prefix_of_read, none_so_far, so_far_more, ends_nothing, ends_limit}
+use Rattle.t3_cli.specs.Inner.Reading.{ReadsBytes, ReadsImage, Concludes, TellsText, HasRead, HasReadAll, IsFed}
 
 -- ---- the file of a name, if there is one
-
-more_of : (o : Option (List ℕ)) (taken buffer : List ℕ) (at want count : ℕ) → TakesPrefix o taken at
-    → PieceOf o at want buffer (got.Count count) → TakesPrefix o (taken ++ take count buffer) (at + count)
-more_of None taken buffer at want count so_far piece = absurd piece
-more_of (Some file) taken buffer at want count so_far piece = prefix_and_piece file taken buffer at want count so_far piece
 
 done_of : (o : Option (List ℕ)) (taken buffer : List ℕ) (at want count used : ℕ) (image : ImageValue) → TakesPrefix o taken at
     → PieceOf o at want buffer (got.Count count) → length taken ≡ at → count ≤ length buffer → at + want ≤ read_limit
@@ -77,20 +54,7 @@ refused_of (Some file) taken buffer at want count place why so_far piece near re
 -- ---- the device's files, where it tells them
 
 pub begins_reading : (files : Option Files) (name : List ℕ) (reader : Reading) → reader ≡ Taking [] → HasRead files name reader 0
-begins_reading files name reader is = subst (λ r. HasRead files name r 0) (sym is) (refl, none_so_far files)
-  where
-    prefix_none : (o : Option (List ℕ)) → TakesPrefix o [] 0
-    prefix_none None = refl
-    prefix_none (Some file) = refl
-
-    none_so_far : (files : Option Files) → TakesSoFar files name [] 0
-    none_so_far None = tt
-    none_so_far (Some files) = prefix_none (get files name)
-
-so_far_more : (files : Option Files) (name taken buffer : List ℕ) (at want count : ℕ) → TakesSoFar files name taken at
-    → GivesPiece files name at want buffer (Ok (got.Count count)) → TakesSoFar files name (taken ++ take count buffer) (at + count)
-so_far_more None name taken buffer at want count so_far piece = tt
-so_far_more (Some files) name taken buffer at want count so_far piece = more_of (get files name) taken buffer at want count so_far piece
+begins_reading files name reader is = subst (λ r. HasRead files name r 0) (sym is) (refl, none_so_far files name)
 
 -- the answer is that of the file where the device tells it
 told : (files : Option Files) (name : List ℕ) (found : ReadImage) → ((all : Files) → files ≡ Some all → ReadsBytes (get all name) found)
@@ -195,25 +159,6 @@ pub reads_text : (mask : Option ℕ) (files : Option Files) (name : List ℕ) (r
 reads_text mask files name reader true answer is has concludes = text_at mask files name reader has.0 answer has.1 has.2 concludes
 reads_text mask files name reader false answer is has concludes = absurd cc
 
--- a read that gave nothing was at the end
-ends_nothing : (files : Option Files) (name buffer : List ℕ) (at want : ℕ) → GivesPiece files name at want buffer (Ok (got.Count 0))
-    → at ≤ read_limit → IsEnd files name at
-ends_nothing None name buffer at want piece near = tt
-ends_nothing (Some files) name buffer at want piece near = ended_of (get files name) piece
-  where
-    ended_of : (o : Option (List ℕ)) → PieceOf o at want buffer (got.Count 0) → IsEndOf o at
-    ended_of None piece = absurd piece
-    ended_of (Some file) piece = whole_file file at near (piece.ended refl)
-
--- and no more is read behind the limit
-ends_limit : (files : Option Files) (name : List ℕ) (at : ℕ) → at ≡ read_limit → IsEnd files name at
-ends_limit None name at limit = tt
-ends_limit (Some files) name at limit = ended_of (get files name)
-  where
-    ended_of : (o : Option (List ℕ)) → IsEndOf o at
-    ended_of None = λ none. absurd (omega (arith, limit, none))
-    ended_of (Some file) = ap (λ n. take n file) limit
-
 pub reads_ended : (files : Option Files) (name buffer : List ℕ) (reader : Reading) (at want : ℕ) → HasRead files name reader at
     → GivesPiece files name at want buffer (Ok (got.Count 0)) → at ≤ read_limit → HasReadAll files name reader true
 reads_ended files name buffer reader at want has piece near = (at, has, ends_nothing files name buffer at want piece near)
@@ -230,44 +175,3 @@ pub reads_absent : (files : Option Files) (name buffer : List ℕ) (at want : �
     → ReadsImage files name (Ok read.Absent)
 reads_absent None name buffer at want piece = tt
 reads_absent (Some files) name buffer at want piece = absent_of (get files name) buffer at want piece
-
--- ---- what one read gave, as the steps of the loop have it
-
-pub piece_is : (a b : Option Files) (name buffer : List ℕ) (at want : ℕ) (gave found : Got) → a ≡ b → gave ≡ found
-    → GivesPiece a name at want buffer (Ok gave) → GivesPiece b name at want buffer (Ok found)
-piece_is a b name buffer at want gave found same is piece =
-    subst (λ f. GivesPiece f name at want buffer (Ok found)) same (subst (λ x. GivesPiece a name at want buffer (Ok x)) is piece)
-
-pub count_within : (want count : ℕ) (gave : Got) → gave ≡ got.Count count → IsAtMost want gave → count ≤ want
-count_within want count gave is within = subst (λ x. IsAtMost want x) is within
-
--- ---- a file whose bytes are kept
-
--- so much of it was taken
-pub record HasTaken (files : Option Files) (name text : List ℕ) (at : ℕ) : Type 0 where
-  pub so_far : TakesSoFar files name text at
-
-pub takes_more : (files : Option Files) (name text more buffer : List ℕ) (at want count : ℕ) → HasTaken files name text at
-    → GivesPiece files name at want buffer (Ok (got.Count count)) → more ≡ text ++ take count buffer → HasTaken files name more (at + count)
-takes_more files name text more buffer at want count has piece is =
-    record { so_far = subst (λ t. TakesSoFar files name t (at + count)) (sym is) (so_far_more files name text buffer at want count has.so_far piece) }
-
-file_text : (files : Option Files) (name : List ℕ) (text : Vec ℕ) (at : ℕ) → TakesSoFar files name text.items at → IsEnd files name at
-    → ReadsFile files name (Ok (Some text))
-file_text None name text at so_far ended = tt
-file_text (Some files) name text at so_far ended = whole (get files name) so_far ended
-  where
-    whole : (o : Option (List ℕ)) → TakesPrefix o text.items at → IsEndOf o at → Some text.items ≡ option_map read_bytes o
-    whole None so_far ended = absurd (ended so_far)
-    whole (Some file) so_far ended = ap Some (so_far ∙ ended)
-
-pub file_ended : (files : Option Files) (name buffer : List ℕ) (text : Vec ℕ) (at want : ℕ) → HasTaken files name text.items at
-    → GivesPiece files name at want buffer (Ok (got.Count 0)) → at ≤ read_limit → ReadsFile files name (Ok (Some text))
-file_ended files name buffer text at want has piece near =
-    file_text files name text at has.so_far (ends_nothing files name buffer at want piece near)
-
-pub file_limit : (files : Option Files) (name : List ℕ) (text : Vec ℕ) (at : ℕ) → HasTaken files name text.items at → at ≡ read_limit
-    → ReadsFile files name (Ok (Some text))
-file_limit files name text at has limit = file_text files name text at has.so_far (ends_limit files name at limit)
-
--- ---- a source's file

@@ -1,5 +1,4 @@
 -- What only the contracts of private functions cite.
-pub mod Parsing
 pub mod Reading
 pub mod Showing
 pub mod Following

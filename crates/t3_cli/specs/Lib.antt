@@ -1,9 +1,7 @@
 pub mod Status
-pub mod Number
-pub mod Options
-pub mod Command
 pub mod Lines
 pub mod BlockLines
+pub mod Plan
 pub mod Outcome
 pub mod Cause
 pub mod Top

@@ -9,6 +9,7 @@ use Rattle.t3_pools.specs.declared.refusal.PoolRefusal.TheVariants as pools
 use Rattle.t3_load.specs.declared.refusal.LoadRefusal.{LoadRefusal}
 use Rattle.t3_load.specs.declared.refusal.LoadRefusal.TheVariants as load
 use Rattle.t3_run.specs.EndLines.{newline}
+use Rattle.t3_run.specs.declared.stop.RunEnd.{RunEnd}
 use Rattle.t3_image_read.specs.declared.refusal.ReadWhy.TheVariants.{Signature, Version, TooLong, TooMany, UnknownMandatory, Malformed, EofSize, Truncated}
 
 abbrev pub usage_line : List ℕ
@@ -49,6 +50,12 @@ ok_line blocks bytes = codes "ok blocks=" ++ (decimal blocks ++ (codes " bytes="
 -- how many bytes a file has that was put
 abbrev pub put_line : ℕ → List ℕ
 put_line bytes = codes "ok bytes=" ++ (decimal bytes ++ newline)
+
+-- what a drill shows behind its run: how many actions and steps were made, and how many savepoints and changed cells are held
+abbrev pub drill_line : ℕ → RunEnd → List ℕ
+drill_line actions ended =
+    codes "drill actions=" ++ (decimal actions ++ (codes " steps=" ++ (decimal ended.steps
+    ++ (codes " held=" ++ (decimal ended.held ++ (codes " records=" ++ (decimal ended.records ++ newline)))))))
 
 -- the name of a rule of sources
 abbrev pub source_why_name : AsmWhy → List ℕ

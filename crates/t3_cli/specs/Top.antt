@@ -7,7 +7,7 @@ use Rattle.t3_run.specs.Showing.{ShowsMore, ShowsPrefix}
 use Rattle.t3_run.specs.Asking.{IsInput, Moves, AsksBy}
 use Rattle.t3_cli.specs.declared.status.Status.{Status}
 use Rattle.t3_cli.specs.declared.status.Status.TheVariants.{DepotFault, ConsoleFault, NoMemory}
-use Rattle.t3_cli.specs.Command.{CommandValue}
+use Rattle.t3_words.specs.Command.{CommandValue}
 use Rattle.t3_cli.specs.Outcome.{Outcome, IsResult}
 
 -- an answer of a call that was cut short

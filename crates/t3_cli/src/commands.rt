@@ -1,7 +1,3 @@
-//! The words of the command line, and how a command is carried out.
+//! How a command is carried out.
 
 pub(crate) mod carry;
-pub(crate) mod command;
-mod file_name;
-pub(crate) mod number;
-mod options;

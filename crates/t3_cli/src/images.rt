@@ -1,6 +1,7 @@
-//! Images that are read or assembled, shown, and written.
+//! Images that are read, assembled or made, shown, and written.
 
 pub(crate) mod image_lines;
+pub(crate) mod made;
 pub(crate) mod put;
 pub(crate) mod read;
 pub(crate) mod rewrite;

@@ -21,6 +21,5 @@ mod status;
 mod story;
 mod top;
 
-pub use commands::number::number_within;
 pub use status::Status;
 pub use top::{one_outcome, t3_main};

@@ -1,13 +1,14 @@
 //! The lines that are shown.
 ghost use Rattle.std.specs.Prelude.{◌≡◌, Some, None, IfOk, codes, string_bytes};
 ghost use Rattle.std.specs.Fmt.{decimal};
-ghost use Rattle.t3_cli.specs.Lines.{absent_line, refused_line, ok_line, put_line, why_name as name_of, items_of, bad_line as bad_line_of, source_why_name as name_of_rule, load_line, load_text, pool_rule_name};
+ghost use Rattle.t3_cli.specs.Lines.{absent_line, refused_line, ok_line, put_line, why_name as name_of, items_of, drill_line, bad_line as bad_line_of, source_why_name as name_of_rule, load_line, load_text, pool_rule_name};
 
 use std::alloc::{AllocError, Global};
 use t3_asm::AsmWhy;
 use t3_image_read::ReadWhy;
 use t3_load::LoadRefusal;
 use t3_pools::PoolRefusal;
+use t3_run::RunEnd;
 
 /// Shown where the words are no command.
 pub(crate) const USAGE: &str =
@@ -51,6 +52,19 @@ pub(crate) fn put(alloc: Global, bytes: usize) -> Result<String, AllocError>
     ensures { IfOk result (λ line. string_bytes line ≡ put_line bytes) }
 {
     format!(in alloc; "ok bytes={bytes}\n")
+}
+
+/// The line behind the run of a drill of so many actions.
+pub(crate) fn drill(alloc: Global, actions: u32, end: RunEnd) -> Result<String, AllocError>
+    ensures { IfOk result (λ line. string_bytes line ≡ drill_line actions end) }
+{
+    let RunEnd {
+        steps,
+        held,
+        records,
+        ..
+    } = end;
+    format!(in alloc; "drill actions={actions} steps={steps} held={held} records={records}\n")
 }
 
 /// The line of an image of which no program is made.

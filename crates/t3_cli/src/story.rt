@@ -1,24 +1,23 @@
-//! `run IMAGE`: carries out the story that an image is.
-ghost use Rattle.std.specs.Prelude.{◌≡◌, ◌≢◌, ◌⊎◌, ◌<◌, ◌-◌, ◌^◌, Option};
-ghost use Rattle.t3_io.specs.Files.{Files};
+//! Carries out the story that an image is.
+ghost use Rattle.std.specs.Prelude.{◌≡◌, ◌≢◌, ◌⊎◌, ◌<◌, ◌-◌, ◌^◌};
 ghost use Rattle.t3_load.specs.Loading.{Loads};
 ghost use Rattle.t3_cli.specs.Outcome.{IsRunOutcome, fingerprint_of, run_limits, status_of as status_by};
 ghost use Rattle.t3_cli.specs.Lines.{load_line};
-ghost use Rattle.t3_cli.specs.Command.{AreWithin, options_value};
+ghost use Rattle.t3_words.specs.Command.{AreWithin, options_value};
 ghost use Rattle.t3_cli.specs.Inner.Showing.{ShowsOrWants};
-ghost use Rattle.t3_cli.specs.Inner.Following.{FollowsSome, IsProgramOutcome};
+ghost use Rattle.t3_cli.specs.Inner.Following.{FollowsSome, IsProgramOutcome, IsClosed};
 
-use crate::commands::command::RunOptions;
 use crate::console::answer;
 use crate::lines;
 use crate::status::Status;
 use std::alloc::Global;
 use t3_image_read::Image;
 use t3_interp::End;
-use t3_io::{Console, DeviceRefusal};
+use t3_io::{Console, Depot};
 use t3_load::{LoadRefusal, Program, load};
-use t3_run::{Stop, run};
+use t3_run::{RunEnd, RunRefusal, Stop, run};
 use t3_store::StoreLimits;
+use t3_words::RunOptions;
 
 /// How many objects a story has at most.
 const OBJECTS: u32 = 1_048_576;
@@ -26,26 +25,32 @@ const OBJECTS: u32 = 1_048_576;
 /// How many units its objects count at most.
 const UNITS: u32 = 4_194_304;
 
-/// Runs an image, and shows what it says and how it ends.
-pub(crate) fn launch<C: Console>(
+/// Runs an image, and shows what it says and how it ends; of a drill of so many actions a line besides.
+pub(crate) fn launch<D: Depot, C: Console>(
     alloc: Global,
     image: Image,
     fingerprint: [u8; 32],
     options: RunOptions,
+    actions: Option<u32>,
+    depot: &mut D,
     console: &mut C,
 ) -> Status
     requires fingerprint { fingerprint ≡ fingerprint_of image }
     requires within { AreWithin (options_value options) }
-    requires faults { C.faults console.old < 2 ^ 64 - 1 }
-    ensures follows { (files : Option Files) → FollowsSome
-        (IsRunOutcome image (options_value options)) files files (C.session console.old)
-        (C.session console.new) result }
-    ensures fault { result ≡ Status.ConsoleFault → C.faults console.old < C.faults console.new }
-    ensures rise { (result ≡ Status.ConsoleFault) ⊎ (C.faults console.new ≡ C.faults console.old) }
-    ensures no_depot { result ≢ Status.DepotFault }
+    requires depot { D.faults depot.old < 2 ^ 64 - 1 }
+    requires console { C.faults console.old < 2 ^ 64 - 1 }
+    ensures follows { FollowsSome (IsRunOutcome (options_value options) actions image)
+        (D.files depot.old) (D.files depot.new) (C.session console.old) (C.session console.new)
+        result }
+    ensures depot_fault { result ≡ Status.DepotFault → D.faults depot.old < D.faults depot.new }
+    ensures depot_rise { (result ≡ Status.DepotFault) ⊎ (D.faults depot.new ≡ D.faults depot.old) }
+    ensures console_fault { result ≡ Status.ConsoleFault → C.faults console.old < C.faults
+        console.new }
+    ensures console_rise { (result ≡ Status.ConsoleFault) ⊎
+        (C.faults console.new ≡ C.faults console.old) }
 {
     match program_of(alloc, image, fingerprint, options) {
-        Ok(program) => play(alloc, program, options, console),
+        Ok(program) => play(alloc, program, options, actions, depot, console),
         Err(why) => unloaded(alloc, why, console),
     }
 }
@@ -91,26 +96,54 @@ fn unloaded<C: Console>(alloc: Global, why: LoadRefusal, console: &mut C) -> Sta
 }
 
 /// Runs a program, and answers the status of how it stopped, or that of the failure.
-fn play<C: Console>(alloc: Global, program: Program, options: RunOptions, console: &mut C) -> Status
+fn play<D: Depot, C: Console>(
+    alloc: Global,
+    program: Program,
+    options: RunOptions,
+    actions: Option<u32>,
+    depot: &mut D,
+    console: &mut C,
+) -> Status
     requires width { 0 < options.width }
-    requires faults { C.faults console.old < 2 ^ 64 - 1 }
-    ensures follows { (files : Option Files) → FollowsSome
-        (IsProgramOutcome program (options_value options)) files files (C.session console.old)
-        (C.session console.new) result }
+    requires depot { D.faults depot.old < 2 ^ 64 - 1 }
+    requires console { C.faults console.old < 2 ^ 64 - 1 }
+    ensures follows { FollowsSome (IsProgramOutcome program (options_value options) actions)
+        (D.files depot.old) (D.files depot.new) (C.session console.old) (C.session console.new)
+        result }
+    ensures depot_fault { result ≡ Status.DepotFault → D.faults depot.old < D.faults depot.new }
+    ensures depot_rise { (result ≡ Status.DepotFault) ⊎ (D.faults depot.new ≡ D.faults depot.old) }
+    ensures console_fault { result ≡ Status.ConsoleFault → C.faults console.old < C.faults
+        console.new }
+    ensures console_rise { (result ≡ Status.ConsoleFault) ⊎
+        (C.faults console.new ≡ C.faults console.old) }
+{
+    match run(alloc, program, options.steps, options.width, depot, console) {
+        Ok(end) => closed(alloc, end, actions, console),
+        Err(RunRefusal::DepotFault) => Status::DepotFault,
+        Err(RunRefusal::ConsoleFault) => Status::ConsoleFault,
+        Err(RunRefusal::NoMemory) => Status::NoMemory,
+    }
+}
+
+/// The status of a run that ended so. Of a drill of so many actions a line is shown.
+fn closed<C: Console>(alloc: Global, end: RunEnd, actions: Option<u32>, console: &mut C) -> Status
+    requires { C.faults console.old < 2 ^ 64 - 1 }
+    ensures closed { IsClosed (C.session console.old) (C.session console.new) actions end result }
     ensures fault { result ≡ Status.ConsoleFault → C.faults console.old < C.faults console.new }
     ensures rise { (result ≡ Status.ConsoleFault) ⊎ (C.faults console.new ≡ C.faults console.old) }
     ensures no_depot { result ≢ Status.DepotFault }
 {
-    match run(alloc, program, options.steps, options.width, console) {
-        Ok(stop) => status_of(stop),
-        Err(DeviceRefusal::Fault) => Status::ConsoleFault,
-        Err(DeviceRefusal::NoMemory) => Status::NoMemory,
+    let status = status_of(end.stop);
+    match actions {
+        Some(actions) => answer(console, lines::drill(alloc, actions, end), status),
+        None => status,
     }
 }
 
 /// The status of a run that stopped so.
 fn status_of(stop: Stop) -> Status
-    ensures { result ≡ status_by stop }
+    ensures status { result ≡ status_by stop }
+    ensures whole { (result ≢ Status.DepotFault) × (result ≢ Status.ConsoleFault) }
 {
     match stop {
         Stop::Ends(End::Returned) => Status::Done,

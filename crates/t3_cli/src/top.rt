@@ -2,19 +2,20 @@
 ghost use Rattle.std.specs.Prelude.{◌≡◌, ◌<◌, ◌-◌, ◌^◌, ◌⊎◌, List, ℕ, Option, None, IfSome, map, string_bytes};
 ghost use Rattle.t3_io.specs.Files.{Files};
 ghost use Rattle.t3_cli.specs.declared.status.Status.{Status as AnyStatus};
-ghost use Rattle.t3_cli.specs.Command.{CommandValue, command_of};
+ghost use Rattle.t3_words.specs.Command.{CommandValue};
+ghost use Rattle.t3_words.specs.Verbs.{command_of};
 ghost use Rattle.t3_cli.specs.Lines.{usage_line};
 ghost use Rattle.t3_cli.specs.Outcome.{Outcome, IsResult, HoldBytes};
 ghost use Rattle.t3_cli.specs.Cause.{Cause};
 ghost use Rattle.t3_cli.specs.Top.{CutsShort, HasExactCause, IsWhole, IsCut, IsShown, MovesSome};
 
 use crate::commands::carry::carry_out;
-use crate::commands::command::Command;
 use crate::console::end_with;
 use crate::lines;
 use crate::status::Status;
 use std::alloc::Global;
 use t3_io::{Console, Depot};
+use t3_words::Command;
 
 /// Does all that the program does: carries out the command that the words are, over the files of a
 /// depot and a console, and answers how that ended.
@@ -25,10 +26,12 @@ use t3_io::{Console, Depot};
 /// OUT` with the image that a source says, or shows the source's first bad line. `run IMAGE [--steps=N]
 /// [--records=N] [--savepoints=N] [--width=N]` runs the image by at most so many steps, holds at most so many
 /// savepoints with so many changes, shows what it says on lines of that width, gives it the console's lines of
-/// input where it wants them, and shows, if it didn't return, how it ended; of an image of which no program is
-/// made it shows `load refused RULE`, by the first rule that it breaks.
-/// Each shows that the file isn't there, and each but `asm` why it is no image. Words that are no command
-/// show how the program is used.
+/// input where it wants them and the depot's files where it restores them, puts its saved states into files, and
+/// shows, if it didn't return, how it ended; of an image of which no program is made it shows `load refused RULE`,
+/// by the first rule that it breaks. `drill N` makes an image for the number, from 0 to 200, runs it so, and shows
+/// `drill actions=A steps=S held=H records=R`.
+/// Each that names a file shows that it isn't there, and each but `asm` why it is no image. Words that are no
+/// command show how the program is used.
 ///
 /// `DepotFault` and `ConsoleFault` come exactly where that device counted a fault. `NoMemory` is meant
 /// for refused allocations, though no clause ties it to them. Each other answer comes with its whole
@@ -47,7 +50,8 @@ pub fn t3_main<D: Depot, C: Console>(
     requires console { C.faults console.old < 2 ^ 64 - 1 }
 
     // Where the call wasn't cut short, the whole outcome of the words stands: for every image that is run, every input and
-    // all options the bytes that are shown and the status are those of a machine that is described apart from the code.
+    // all options the bytes that are shown, the files that are put and the status are those of a machine that is
+    // described apart from the code.
     // Each instruction does what its row says. An undo puts each persistent object back as the newest savepoint's copy
     // has it, and takes away those made since; and a savepoint is lost unasked only oldest first, to a full journal.
     ensures whole { IfSome (D.files depot.old) (λ files. ¬ CutsShort result

@@ -77,7 +77,11 @@ const WITH_OBJECTS: [(&str, &str, &str); 8] = [
         "[unhandled object=8 fault=4]\n",
     ),
     (PLAIN_7, "push_1 / builtin_c 1 0 / retnil", "1\n"),
-    (PLAIN_7, "builtin_a 0 17", "[bad code at=10 why=Unbuilt]\n"),
+    (
+        PLAIN_7,
+        "builtin_a 0 17 / push_1 / builtin_c 1 0 / retnil",
+        "1\n",
+    ),
     (PLAIN_7, "builtin_a 0 12", "[unhandled object=8 fault=8]\n"),
     (PLAIN_7, "builtin_b 0 1", "[unhandled object=8 fault=2]\n"),
     (PLAIN_7, "builtin_b 0 0", "[unhandled object=8 fault=8]\n"),

@@ -1,4 +1,4 @@
-//! Tests of the commands but `run`: words, numbers of options, and what `check`, `show`, `rewrite`,
+//! Tests of the commands but `run`: words, and what `check`, `show`, `rewrite`,
 //! `list` and `asm` show and put, over devices in memory.
 #![tactic(auto)]
 
@@ -6,8 +6,6 @@
 mod assemble;
 #[cfg(test)]
 mod check;
-#[cfg(test)]
-mod numbers;
 #[cfg(test)]
 mod rewrite;
 #[cfg(test)]

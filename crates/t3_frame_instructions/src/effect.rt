@@ -20,8 +20,6 @@ pub enum CodeWhy {
     Local,
     /// The instruction names an argument that its method hasn't got.
     Argument,
-    /// The instruction can't be carried out yet.
-    Unbuilt,
 }
 
 /// What an instruction asks for that says nothing. It owns nothing, so handing it on costs nothing.

@@ -4,8 +4,8 @@ use Rattle.std.proofs.Common.{ℕ, ◌+◌, nat_le, ◌&&◌, ◌||◌, Bool, tr
 use Rattle.t3_holder.specs.declared.holder.Holder.{Holder}
 use Rattle.t3_holder.specs.declared.holder.Holder.TheVariants as holders
 use Rattle.t3_undo.specs.declared.cell.Cell.{Cell}
-use Rattle.t3_store.specs.Value.{Value, holder_at, cell_units, units_of}
-use Rattle.t3_store.specs.Store.{StoreValue, value_at, is_full_with, no_number, next_number, with_object, set_cell, taken, written, created_in}
+use Rattle.t3_store.specs.Value.{Value, Objects, holder_at, cell_units, units_of}
+use Rattle.t3_store.specs.Store.{StoreValue, value_at, is_full_with, no_number, next_number, with_object, set_cell, taken, written, created_in, replaced}
 use Rattle.t3_ops.specs.declared.fault.Fault.{Fault}
 use Rattle.t3_ops.specs.declared.fault.Fault.TheVariants as faulty
 use Rattle.t3_ops.specs.Making.{Made, AsIs, New, made_in}
@@ -14,11 +14,12 @@ use Rattle.t3_frames.specs.Frame.{values_of, value_limit, topmost_two}
 use Rattle.t3_frame_instructions.specs.Context.{Context, Action, leaving, with_store, faults, with_room, by_top, pops, by_two, pops_two}
 use Rattle.t3_frame_instructions.specs.Making.{gives, takes_made, makes}
 
--- what is kept where an object is made, and where a cell is set or taken away
+-- what is kept where an object is made, where a cell is set or taken away, and where a state takes the place of the persistent objects
 pub record AreKept (P : StoreValue → Type 0) : Type 0 where
   pub made : (value : Value) (transient : Bool) (store : StoreValue) → P store → P (with_object value transient store)
   pub set : (number : ℕ) (cell : Cell) (value : Holder) (store : StoreValue) → P store → P (set_cell number cell value store)
   pub taken : (number : ℕ) (cell : Cell) (store : StoreValue) → P store → P (taken number cell store)
+  pub replaced : (objects : Objects) (next : ℕ) (store : StoreValue) → P store → P (replaced objects next store)
 
 -- an action keeps it
 abbrev pub Keeps : (StoreValue → Type 0) → (Context → Action) → Type 0

@@ -8,3 +8,9 @@ mod CallsKeep
 mod InstructionsKeep
 mod TakingBack
 pub mod Runs
+mod GoodCode
+mod GoodExceptions
+mod GoodEffects
+mod GoodSteps
+mod GoodRuns
+mod GoodProgram

@@ -4,5 +4,6 @@ pub mod Step
 pub mod Catching
 pub mod Wanting
 pub mod Steady
+pub mod Good
 pub mod Undoing
 pub mod Inner

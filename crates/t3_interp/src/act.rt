@@ -1,13 +1,17 @@
 //! An instruction is carried out, and what comes of it.
-ghost use Rattle.std.specs.Prelude.{◌≡◌, ◌+◌, ◌≤◌, ◌<◌, ◌^◌, IfOk, IsOk, IsTrue, OnOk};
+ghost use Rattle.std.specs.Prelude.{◌≡◌, ◌<◌, ◌^◌, IfOk, IsOk, IsTrue, OnOk};
 ghost use Rattle.t3_interp.specs.declared.event.Event.TheVariants.{Went};
 ghost use Rattle.t3_interp.specs.declared.running.Stage.TheVariants.{Method};
 ghost use Rattle.t3_methods.specs.declared.instr.Instr.TheVariants.{Call, Make};
 ghost use Rattle.t3_object_instructions.specs.Steady.{is_steady_make};
 ghost use Rattle.t3_interp.specs.Steady.{is_steady};
-ghost use Rattle.t3_interp.specs.Inner.Acting.{IsCased, HasActed, Tells};
+ghost use Rattle.t3_frame_instructions.specs.Acting.{context_of};
+ghost use Rattle.t3_good_instructions.specs.Contexts.{IsGoodProgram, IsGoodContext};
+ghost use Rattle.t3_snapshot.specs.Layout.{IsGoodHolder};
+ghost use Rattle.t3_interp.specs.Inner.Acting.{IsCased, IsStanding, HasActed, MayWrite, Tells};
 
-use crate::running::Running;
+use crate::event::Event;
+use crate::running::{Awaited, Running};
 use std::alloc::Global;
 use t3_frame_instructions::{jump, math, push, stack};
 use t3_holder::NoMemory;
@@ -28,8 +32,12 @@ pub(crate) fn act(
     requires untold { running.old.event ≡ Went }
     requires cases { IsCased program.now.pools.code instr.now }
     requires next { running.old.core.frames.newest.next < 2 ^ 31 }
-    requires few { running.old.core.store.writes + 131072 ≤ 2 ^ 63 }
+    requires few { MayWrite running.old }
     requires marks { running.old.core.store.savepoints < 2 ^ 63 }
+    requires program { IsGoodProgram IsGoodHolder program.now }
+    requires stands { IsStanding program.now.pools.code running.old.core.frames.newest.place
+        instr.now }
+    requires context { IsGoodContext IsGoodHolder (context_of running.old.core) }
     ensures acted { OnOk result (HasActed program.now instr.now running.old running.new) }
     ensures told { IfOk result (Tells running.new) }
     ensures steady { IsTrue (is_steady program.now running.old.core.store.store
@@ -75,7 +83,7 @@ fn act_call(
 ) -> Result<bool, NoMemory>
     requires method { running.old.stage ≡ Method }
     requires untold { running.old.event ≡ Went }
-    requires few { running.old.core.store.writes + 131072 ≤ 2 ^ 63 }
+    requires few { MayWrite running.old }
     ensures acted { OnOk result (HasActed program.now (Call code.now) running.old running.new) }
     ensures told { IfOk result (Tells running.new) }
 {
@@ -84,7 +92,7 @@ fn act_call(
 }
 
 /// The same for what makes an object, says, throws, or calls a built-in function. It stands apart, since its
-/// effect, which has room for a text, is handed over in memory.
+/// effect, which has room for a text or a name, is handed over in memory.
 #[inline(never)]
 fn act_make(
     alloc: Global,
@@ -94,7 +102,12 @@ fn act_make(
 ) -> Result<bool, NoMemory>
     requires method { running.old.stage ≡ Method }
     requires untold { running.old.event ≡ Went }
+    requires few { MayWrite running.old }
     requires marks { running.old.core.store.savepoints < 2 ^ 63 }
+    requires program { IsGoodProgram IsGoodHolder program.now }
+    requires stands { IsStanding program.now.pools.code running.old.core.frames.newest.place
+        (Make code.now) }
+    requires context { IsGoodContext IsGoodHolder (context_of running.old.core) }
     ensures acted { OnOk result (HasActed program.now (Make code.now) running.old running.new) }
     ensures told { IfOk result (Tells running.new) }
     ensures steady { IsTrue (is_steady_make program.now code.now) → IsOk result }
@@ -105,5 +118,8 @@ fn act_make(
             running.say(text);
             Ok(true)
         }
+        MakeEffect::Save(name) => running.save(alloc, program, name),
+        MakeEffect::Restore(name) => Ok(running.wait(Awaited::File, Event::WantGet(name))),
+        MakeEffect::Restart => running.restart(alloc, program),
     }
 }

@@ -26,6 +26,10 @@ pub enum Event {
     Said(Bytes),
     /// It wants a line of input, by which its instruction is finished.
     WantLine,
+    /// It wants a saved state to be put into the file of this name, and to be told that it is stored.
+    WantPut(Bytes, Bytes),
+    /// It wants the file of this name, or to be told that there is none.
+    WantGet(Bytes),
     /// It ended the run.
     Ended(End),
 }
@@ -37,6 +41,10 @@ pub enum Want {
     Go,
     /// A line of input, or to be told that none is left.
     Line,
+    /// To be told that a file is stored.
+    Stored,
+    /// A file, or to be told that there is none.
+    File,
     /// Nothing: the run has ended.
     Nothing,
 }
@@ -50,4 +58,10 @@ pub enum Input {
     Line(Bytes),
     /// That no line of input is left.
     EndOfInput,
+    /// That the file is stored.
+    Stored,
+    /// The bytes of the file.
+    File(Bytes),
+    /// That there is no such file.
+    NoFile,
 }

@@ -5,10 +5,15 @@ ghost use Rattle.t3_frames.specs.Frame.{FrameValue};
 ghost use Rattle.t3_except.specs.Covering.{covered};
 ghost use Rattle.t3_store.specs.Store.{is_held};
 ghost use Rattle.t3_load.specs.Loading.{ProgramValue};
-ghost use Rattle.t3_interp.specs.Machine.{State};
-ghost use Rattle.t3_interp.specs.Step.{After, catcher_in};
+ghost use Rattle.t3_interp.specs.Machine.{State, initial};
+ghost use Rattle.t3_good_instructions.specs.Contexts.{IsGoodProgram};
+ghost use Rattle.t3_interp.specs.declared.event.Input.{Input as AnyInput};
+ghost use Rattle.t3_interp.specs.Good.{IsGoodInput, IsGoodState};
+ghost use Rattle.t3_interp.specs.Step.{After, StepsBy, catcher_in};
 ghost use Rattle.t3_interp.specs.Undoing.{MakesSavepoint, MakesUndo, MovesOnTo, IsTakenBack};
 ghost use Rattle.t3_interp.specs.Catching.{spot_of, covered_from};
+
+use t3_snapshot::HolderProperty;
 
 /// What catches an object in a machine's frames is what [`t3_except::cover`] tells of where they are.
 pub fn one_cover()
@@ -25,4 +30,16 @@ pub fn undo_takes_back()
         → MakesSavepoint program first marked → MovesOnTo program count marked.state later
         → MakesUndo program later taken → is_held later.store.marks ≡ true
         → IsTakenBack first later taken.state }
+{}
+
+/// Each step, and each input that finishes an instruction, keeps of a state that all of its values have a property, where
+/// those of the program have it, and those of an input: so has the state before the first step. A line is UTF-8, and what
+/// a file spells of the program's image is objects that have it.
+pub fn steps_stay_good<G: HolderProperty>()
+    ensures begins { (program : ProgramValue) → IsGoodProgram G.good program
+        → IsGoodState G.good (initial program) }
+    ensures steps { (program : ProgramValue) (input : AnyInput) (state : State) (after : After)
+        → IsGoodProgram G.good program → IsGoodInput G.good program input
+        → StepsBy program input state after → IsGoodState G.good state
+        → IsGoodState G.good after.state }
 {}

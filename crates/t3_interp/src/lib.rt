@@ -25,12 +25,13 @@ mod machine;
 #[cfg(test)]
 mod machine_tests;
 mod running;
+mod saving;
 mod settle;
 mod step;
 mod superinstruction;
 
 pub use event::{End, Event, Input, Want};
-pub use laws::{one_cover, undo_takes_back};
+pub use laws::{one_cover, steps_stay_good, undo_takes_back};
 pub use machine::Machine;
 pub use t3_frame_instructions::CodeWhy;
 pub use t3_kinds::search_order;

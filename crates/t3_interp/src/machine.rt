@@ -6,11 +6,12 @@ ghost use Rattle.t3_interp.specs.declared.event.Want.TheVariants.{Go};
 ghost use Rattle.t3_interp.specs.Machine.{initial};
 ghost use Rattle.t3_interp.specs.Step.{StepsBy, IsWanted, Goes, state_of};
 ghost use Rattle.t3_interp.specs.Steady.{IsSteady};
-ghost use Rattle.t3_interp.specs.Inner.Acting.{IsBetweenSteps};
+ghost use Rattle.t3_interp.specs.Wanting.{IsNamed};
+ghost use Rattle.t3_interp.specs.Inner.Acting.{IsBetweenSteps, IsGoodRun};
 
 use crate::decode_cache::DecodeCache;
 use crate::event::{Event, Input, Want};
-use crate::running::{Running, Stage};
+use crate::running::{Awaited, Running, Stage};
 use std::alloc::Global;
 use std::marker::Model;
 use t3_frame_instructions::Core;
@@ -52,11 +53,12 @@ impl Model for Machine {
 
     ghost view = { λ m. record { program = m.whole.value.program; state = state_of m.whole.value.running } };
 
-    ghost use Rattle.t3_interp.specs.Inner.Acting.{IsBetweenSteps};
+    ghost use Rattle.t3_interp.specs.Inner.Acting.{IsBetweenSteps, IsGoodRun};
     ghost use Rattle.t3_interp.specs.Inner.DecodeCache.{IsCacheOf};
 
     ghost invariant = { λ m. IsBetweenSteps m.whole.value.running
-        × IsCacheOf m.whole.value.program.pools.code m.whole.value.cache };
+        × IsCacheOf m.whole.value.program.pools.code m.whole.value.cache
+        × IsGoodRun m.whole.value.program m.whole.value.running };
 }
 
 impl Machine {
@@ -87,7 +89,11 @@ impl Machine {
     {
         match self.whole.running.stage {
             Stage::Entry | Stage::Method => Want::Go,
-            Stage::Line => Want::Line,
+            Stage::Waits => match self.whole.running.awaited {
+                Awaited::Line => Want::Line,
+                Awaited::Stored => Want::Stored,
+                Awaited::File => Want::File,
+            },
             Stage::Over => Want::Nothing,
         }
     }
@@ -114,8 +120,10 @@ impl Machine {
     }
 
     /// Moves on by what the machine wants, which has to be what it is given. `Go` makes a step: it calls the
-    /// entry method at first, and then carries out an instruction. A line, or that none is left, finishes the
-    /// instruction that waits, which isn't counted as a step again. Fewer than 2^40 steps were made. Want of
+    /// entry method at first, and then carries out an instruction. Any other input finishes the instruction that
+    /// waits, which isn't counted as a step again: a line, or that none is left; that a file was put; a file, whose
+    /// state takes the place of the persistent objects where it is one of this image, or that there is none. A
+    /// file that is wanted has a name that files may have. Fewer than 2^40 steps were made. Want of
     /// memory takes the machine with it. It doesn't come where the instruction makes a savepoint, undoes to
     /// one, or sets a property or a vector's element that is present.
     pub fn step(mut self, input: Input) -> Result<(Machine, Event), NoMemory>
@@ -124,6 +132,7 @@ impl Machine {
         ensures program { IfOk result (λ stepped. stepped.0.program ≡ self.program) }
         ensures step { IfOk result (λ stepped. StepsBy self.program input self.state
             (record { state = stepped.0.state; event = stepped.1 })) }
+        ensures named { IfOk result (λ stepped. IsNamed stepped.1) }
         ensures steady { IsSteady self.program self.state input → IsOk result }
     {
         let whole = &mut *self.whole;
@@ -145,6 +154,7 @@ impl Machine {
             (record { state = gone.0.state; event = gone.2 })) }
         ensures bound { IfOk result (λ gone. gone.1 ≤ most) }
         ensures all { IfOk result (λ gone. gone.2 ≡ Went → gone.1 ≡ most) }
+        ensures named { IfOk result (λ gone. IsNamed gone.2) }
         ensures steady { most ≤ 1 → IsSteady self.program self.state Input.Go → IsOk result }
     {
         let whole = &mut *self.whole;
@@ -156,14 +166,25 @@ impl Machine {
     }
 }
 
+/// The number of the pool of code.
+const CODE: u8 = 1;
+
+/// The number of the pool of constants.
+const CONSTANTS: u8 = 2;
+
 /// The state before the first step.
 fn begin(alloc: Global, program: &Program) -> Result<Running, NoMemory>
     ensures state { IfOk result (λ running. state_of running ≡ initial program.now) }
     ensures between { IfOk result IsBetweenSteps }
+    ensures good { IfOk result (IsGoodRun program.now) }
 {
+    // These calls tell which bytes code and constants have, and which numbers a store's objects.
+    let _ = program.pools.run(CODE, 0x7FFF_FFFF);
+    let _ = program.pools.run(CONSTANTS, 0);
     let first = program.first.copy(alloc)?;
     let passing = program.passing.copy(alloc)?;
     let store = Store::start(alloc, program.limits, first, passing, program.next)?;
+    let _ = store.next();
     Ok(Running {
         core: Core {
             frames: Frames::new(alloc)?,
@@ -173,6 +194,7 @@ fn begin(alloc: Global, program: &Program) -> Result<Running, NoMemory>
             call: Call::function(0, 0),
         },
         stage: Stage::Entry,
+        awaited: Awaited::Line,
         steps: 0,
         event: Event::Went,
     })

@@ -13,10 +13,21 @@ pub(crate) enum Stage {
     Entry,
     /// A method is carried out.
     Method,
-    /// The newest method's instruction waits for a line of input.
-    Line,
+    /// The newest method's instruction waits for an input.
+    Waits,
     /// The run has ended.
     Over,
+}
+
+/// What an instruction waits for.
+#[derive(Clone, Copy, Debug)]
+pub(crate) enum Awaited {
+    /// A line of input.
+    Line,
+    /// That a file is stored.
+    Stored,
+    /// A file.
+    File,
 }
 
 /// What changes from step to step. Contracts see a state by `state_of`.
@@ -25,6 +36,8 @@ pub(crate) struct Running {
     /// Its frames count while a method is carried out.
     pub(crate) core: Core,
     pub(crate) stage: Stage,
+    /// What the newest method's instruction waits for, where it does.
+    pub(crate) awaited: Awaited,
     pub(crate) steps: u64,
     /// What the step that is made tells. It lies here so that a step that tells nothing moves none of it.
     pub(crate) event: Event,

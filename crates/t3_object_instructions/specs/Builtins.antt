@@ -1,5 +1,5 @@
 -- What the built-in functions do (the chapter on function sets, in this project's profile).
-use Rattle.std.specs.Prelude.{ℕ, ◌==◌, ◌&&◌, Bool, nat_le, List, drop, Option, Some, None, Result, Ok, Err, if◌then◌else◌}
+use Rattle.std.specs.Prelude.{ℕ, ◌==◌, List, drop, Option, Some, None, Result, Ok, Err, if◌then◌else◌}
 use Rattle.std.specs.List.{slice_get}
 use Rattle.t3_holder.specs.declared.holder.Holder.TheVariants.{Nil}
 use Rattle.t3_load.specs.Loading.{ProgramValue}
@@ -11,13 +11,13 @@ use Rattle.t3_ops.specs.declared.fault.Fault.TheVariants.{ArgCount, NoBuiltin}
 use Rattle.t3_ops.specs.declared.builtins.PureBuiltin.{PureBuiltin}
 use Rattle.t3_ops.specs.Builtins.{pure_at, pure_builtin_of}
 use Rattle.t3_ops.specs.Saying.{said_text_of}
-use Rattle.t3_frame_instructions.specs.Effect.{Say, WantLine}
-use Rattle.t3_frame_instructions.specs.declared.effect.CodeWhy.TheVariants.{Unbuilt}
-use Rattle.t3_frame_instructions.specs.Context.{Context, Action, leaving, faults, stops, answers, pops}
+use Rattle.t3_frame_instructions.specs.Effect.{Say, WantLine, Save, Restore}
+use Rattle.t3_frame_instructions.specs.Context.{Context, Action, leaving, faults, answers, pops}
 use Rattle.t3_frame_instructions.specs.Making.{makes}
 use Rattle.t3_object_instructions.specs.Creating.{arguments}
 use Rattle.t3_object_instructions.specs.Evaluating.{unless_argued}
 use Rattle.t3_object_instructions.specs.Savepoints.{savepoint_function, undo_function, saves, undoes}
+use Rattle.t3_object_instructions.specs.SavedStates.{save_function, restore_function, restart_function, asks_of_file, restarts}
 use Rattle.t3_object_instructions.specs.Saying.{sets_say}
 
 -- ---- saying one or more values, the topmost first
@@ -38,26 +38,29 @@ takes_line count context = if count == 0 then (WantLine, context) else faults Ar
 
 -- ---- functions by their index in their set
 
--- a function that is listed isn't built yet
-abbrev pub unless_listed : Bool → Context → Action
-unless_listed listed context = if listed then stops Unbuilt context else faults NoBuiltin context
-
 -- the set for input and output: 0 says values, 4 takes a line
 abbrev pub io_action : Pool → (index count : ℕ) → Context → Action
 io_action constants index count context =
     if index == 0 then says constants count context else (if index == 4 then takes_line count context else faults NoBuiltin context)
 
--- the general set besides: savepoints, and 15 to 17, which save, restore and restart
-abbrev pub savepoint_action : (index count : ℕ) → Context → Action
-savepoint_action index count context =
+-- saved states: 15 saves one, 16 restores one, 17 restarts
+abbrev pub state_action : Pool → (index count : ℕ) → Context → Action
+state_action constants index count context =
+    if index == save_function then asks_of_file Save constants count context
+    else (if index == restore_function then asks_of_file Restore constants count context
+    else (if index == restart_function then restarts count context else faults NoBuiltin context))
+
+-- the general set besides what makes one object at most: savepoints, and saved states
+abbrev pub savepoint_action : Pool → (index count : ℕ) → Context → Action
+savepoint_action constants index count context =
     if index == savepoint_function then unless_argued count (saves context) context
-    else (if index == undo_function then unless_argued count (undoes context) context else unless_listed (nat_le 15 index && nat_le index 17) context)
+    else (if index == undo_function then unless_argued count (undoes context) context else state_action constants index count context)
 
 -- the general set: those that make one object at most, and the others
 abbrev pub gen_by : Pool → Option PureBuiltin → (index count : ℕ) → Context → Action
 gen_by constants (Some builtin) index count context =
     makes (pure_builtin_of constants context.store index (arguments count context)) (λ value context. answers value count context) context
-gen_by constants None index count context = savepoint_action index count context
+gen_by constants None index count context = savepoint_action constants index count context
 
 -- one argument: by which function values are said
 abbrev pub takes_say : ℕ → Context → Action

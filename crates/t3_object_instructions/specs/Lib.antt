@@ -7,6 +7,7 @@ pub mod Evaluating
 pub mod Setting
 pub mod Exceptions
 pub mod Savepoints
+pub mod SavedStates
 pub mod Builtins
 pub mod Instructions
 pub mod Steady

@@ -32,8 +32,9 @@ pub(crate) fn evaluate(
 {
     match value {
         Holder::Obj(number) => evaluate_object(alloc, program, core, number, property, count),
-        Holder::Text(_) => ask(alloc, program, core, property, count, value, Kind::Text),
-        Holder::List(_) => ask(alloc, program, core, property, count, value, Kind::List),
+        // What is asked is answered anew, so that what comes of a property that is found is known here.
+        Holder::Text(_) => Ok(ask(alloc, program, core, property, count, value, Kind::Text)?),
+        Holder::List(_) => Ok(ask(alloc, program, core, property, count, value, Kind::List)?),
         _ => Ok(Quiet::Fault(Fault::NotObject)),
     }
 }
@@ -126,7 +127,7 @@ fn evaluate_object(
 {
     match find_property(alloc, &core.store, number, property)? {
         Some(found) => Ok(give_found(core, Holder::Obj(number), found, count)),
-        None => ask_object(alloc, program, core, number, property, count),
+        None => Ok(ask_object(alloc, program, core, number, property, count)?),
     }
 }
 

@@ -5,7 +5,7 @@ ghost use Rattle.t3_frame_instructions.specs.Acting.{HasAction, HasDone};
 ghost use Rattle.t3_object_instructions.specs.Exceptions.{throws};
 ghost use Rattle.t3_object_instructions.specs.Instructions.{make_action};
 ghost use Rattle.t3_object_instructions.specs.Steady.{is_steady_make};
-ghost use Rattle.t3_object_instructions.specs.Acting.{effect_of};
+ghost use Rattle.t3_object_instructions.specs.Acting.{effect_of, HasFileName};
 
 use crate::builtin::builtin;
 use crate::create::create;
@@ -25,7 +25,8 @@ use t3_ops::Fault;
 /// `CannotMake` comes where the image lists no metaclass of that index, or one that has no objects of its own;
 /// else the faults of creating, of [`t3_ops::index`], [`t3_ops::pure_builtin`] and [`t3_ops::said_text`];
 /// `NoBuiltin` where there is no such function; and of throwing `NotObject`, and `Stale` where the object
-/// isn't there. Fewer than 2^63 savepoints were made. Making one, and undoing to the newest, take no memory.
+/// isn't there. A file that is asked for has a name that files may have; `FileName` comes where a story names it
+/// otherwise. Fewer than 2^63 savepoints were made. Making one, and undoing to the newest, take no memory.
 pub fn make(
     alloc: Global,
     program: &Program,
@@ -35,6 +36,7 @@ pub fn make(
     requires { core.old.store.savepoints < 2 ^ 63 }
     ensures done { IfOk result (λ effect. HasAction (make_action program.now code) core.old
         (effect_of effect core.new.call) core.new) }
+    ensures named { IfOk result HasFileName }
     ensures steady { IsTrue (is_steady_make program.now code)
         → result ≡ Ok (MakeEffect.Quiet Quiet.Next) }
 {

@@ -1,20 +1,11 @@
--- For other crates too: where acts that put no file are cut short, by what was shown of them.
-use Rattle.std.proofs.Common.{◌≡◌, ℕ, List, [], ◌∷◌, ◌++◌, ◌⊎◌, inl, inr, Option, Some, refl, sym, ap, subst, ◌∙◌, append_assoc}
+-- For other crates too: where acts are cut short, by what was shown of them and the files that they left.
+use Rattle.std.proofs.Common.{◌≡◌, ℕ, List, [], ◌∷◌, ◌++◌, ◌⊎◌, inl, inr, Option, Some, None, Err, refl, sym, ap, subst, ◌∙◌, append_assoc}
+use Rattle.std.proofs.lemmas.List.{append-nil}
+use Rattle.t3_io.specs.declared.refusal.DeviceRefusal.TheVariants.{NoMemory}
+use Rattle.t3_run.specs.Inner.Playing.{NoPuts}
+use Rattle.t3_run.proofs.Acts.{shown_by-append, files_by-append}
 use Rattle.t3_io.specs.Files.{Files}
-use Rattle.t3_run.specs.Act.{Act, Shows, Puts, Asks, shown_by, files_by, StopsIn}
-
-abbrev pub NoPuts : List Act → Type 0
-NoPuts [] = Unit {0}
-NoPuts (Shows text ∷ acts) = NoPuts acts
-NoPuts (Puts name bytes ∷ acts) = ⊥
-NoPuts (Asks ∷ acts) = NoPuts acts
-
--- then the files stay
-pub files_by-none : (files : Files) (acts : List Act) → NoPuts acts → files_by files acts ≡ files
-files_by-none files [] none = refl
-files_by-none files (Shows text ∷ acts) none = files_by-none files acts none
-files_by-none files (Puts name bytes ∷ acts) none = absurd none
-files_by-none files (Asks ∷ acts) none = files_by-none files acts none
+use Rattle.t3_run.specs.Act.{Act, Shows, Puts, Asks, shown_by, files_by, StopsIn, LeavesActs, StopsBehind}
 
 -- of two texts that begin one text, one begins the other
 split : (text a said b : List ℕ) → text ++ a ≡ said ++ b
@@ -82,3 +73,54 @@ cut_at files (Puts name bytes ∷ acts) said unsaid none is = absurd none
 cut_at files (Asks ∷ acts) said unsaid none is =
     let later = cut_at files acts said unsaid none is in
     record { done = Asks ∷ later.done; rest = later.rest; is = ap (λ a. Asks ∷ a) later.is; stops = later.stops }
+
+-- ---- acts behind
+
+-- before an act whatever it is, as by a put for which there was no memory
+pub stops_before : (files : Files) (shown : List ℕ) (acts : List Act) → StopsIn files shown acts (Some files) shown
+stops_before files shown [] = (refl, refl)
+stops_before files shown (Shows text ∷ acts) =
+    (refl, record { part = []; rest = text; is = refl; said_is = sym (append-nil shown) })
+stops_before files shown (Puts name bytes ∷ acts) = (Err NoMemory, refl, refl)
+stops_before files shown (Asks ∷ acts) = (refl, refl)
+
+pub stops_more : (files : Files) (shown : List ℕ) (rest more : List Act) (left : Option Files) (said : List ℕ) → StopsIn files shown rest left said
+    → StopsIn files shown (rest ++ more) left said
+stops_more files shown [] more left said (left_is, said_is) =
+    subst (λ (l : Option Files). StopsIn files shown more l said) (sym left_is)
+    (subst (λ (s : List ℕ). StopsIn files shown more (Some files) s) (sym said_is) (stops_before files shown more))
+stops_more files shown (Shows text ∷ rest) more left said stops = stops
+stops_more files shown (Puts name bytes ∷ rest) more left said stops = stops
+stops_more files shown (Asks ∷ rest) more left said stops = stops
+
+-- acts were cut short behind some of them
+pub record IsCutBehind (before : Option Files) (acts : List Act) (left : Option Files) (said : List ℕ) : Type 0 where
+  pub done : List Act
+  pub rest : List Act
+  pub is : acts ≡ done ++ rest
+  pub stops : StopsBehind before done rest left said
+
+-- these were done, and of some that put no file so much was shown
+pub cut_behind : (before left : Option Files) (done recent more : List Act) (said pending : List ℕ) → NoPuts recent → LeavesActs before left done
+    → shown_by recent ≡ said ++ pending → IsCutBehind before ((done ++ recent) ++ more) left (shown_by done ++ said)
+cut_behind None left done recent more said pending unput leaves is =
+    record { done = []; rest = (done ++ recent) ++ more; is = refl; stops = tt }
+cut_behind (Some files) left done recent more said pending unput leaves is =
+    let cut = cut_at (files_by files done) recent said pending unput is in
+    let stops =
+    behind_text (files_by (files_by files done) cut.done) (shown_by done) (shown_by cut.done) said (cut.rest ++ more) (Some (files_by files done))
+    (stops_more (files_by (files_by files done) cut.done) (shown_by cut.done) cut.rest more (Some (files_by files done)) said cut.stops) in
+    record {
+      done = done ++ cut.done;
+      rest = cut.rest ++ more;
+      is =
+          ap (λ a. (done ++ a) ++ more) cut.is ∙ ap (λ a. a ++ more) (sym (append_assoc done cut.done cut.rest))
+          ∙ append_assoc (done ++ cut.done) cut.rest more;
+      stops =
+          subst (λ (l : Option Files). StopsIn (files_by files (done ++ cut.done)) (shown_by (done ++ cut.done)) (cut.rest ++ more) l (shown_by done ++ said))
+          (sym leaves)
+          (subst (λ (f : Files). StopsIn f (shown_by (done ++ cut.done)) (cut.rest ++ more) (Some (files_by files done)) (shown_by done ++ said))
+          (sym (files_by-append files done cut.done))
+          (subst (λ (t : List ℕ). StopsIn (files_by (files_by files done) cut.done) t (cut.rest ++ more) (Some (files_by files done)) (shown_by done ++ said))
+          (sym (shown_by-append done cut.done)) stops));
+    }

@@ -1,21 +1,24 @@
 -- For other crates too: what a run is by its first step, and that there is exactly one.
-use Rattle.std.proofs.Common.{◌≡◌, ℕ, zero, suc, ◌+◌, List, [], ◌∷◌, ◌++◌, refl, sym, ap, subst, ◌∙◌, append_assoc, arith}
+use Rattle.std.proofs.Common.{◌≡◌, ℕ, zero, suc, ◌+◌, List, [], ◌∷◌, ◌++◌, Option, Some, None, refl, sym, ap, subst, ◌∙◌, append_assoc, arith}
+use Rattle.std.specs.FinMap.{get, insert}
+use Rattle.std.specs.Option.{option_map}
+use Rattle.t3_io.specs.Files.{Files}
+use Rattle.t3_files.specs.Reading.{read_bytes}
 use Rattle.t3_console.specs.Output.{said_out, rest_out}
 use Rattle.t3_lines.specs.Lines.{wanted_line}
 use Rattle.t3_lines.specs.declared.line.WantedLine.{WantedLine}
 use Rattle.t3_lines.specs.declared.line.WantedLine.TheVariants as lines
 use Rattle.t3_load.specs.Loading.{ProgramValue}
 use Rattle.t3_interp.specs.declared.event.Event.{Event}
-use Rattle.t3_interp.specs.declared.event.Event.TheVariants.{Went, Said, WantLine, Ended}
+use Rattle.t3_interp.specs.declared.event.Event.TheVariants.{Went, Said, WantLine, WantPut, WantGet, Ended}
 use Rattle.t3_interp.specs.declared.event.Input.{Input}
 use Rattle.t3_interp.specs.declared.event.Input.TheVariants as inputs
 use Rattle.t3_interp.specs.Machine.{State}
 use Rattle.t3_interp.specs.Step.{After, Steps, Goes}
 use Rattle.t3_interp.proofs.Runs.{one_after, some_after, one_by, some_by}
 use Rattle.t3_run.specs.declared.stop.Stop.TheVariants.{Ends, NoStep, NoLine}
-use Rattle.t3_run.specs.Act.{Act, Shows, Asks}
-use Rattle.t3_run.proofs.Cutting.{NoPuts}
-use Rattle.t3_run.specs.Run.{Terms, World, Ran, preceded_by, stopped, GoesOn, IsAnswered, TakesLine, RunsOn, Runs}
+use Rattle.t3_run.specs.Act.{Act, Shows, Puts, Asks, with_file}
+use Rattle.t3_run.specs.Run.{Terms, World, Ran, preceded_by, stopped, GoesOn, IsAnswered, TakesLine, file_input, GivesFile, RunsOn, Runs}
 
 -- ---- acts in front
 
@@ -58,45 +61,64 @@ by_step terms program left world after ran steps runs =
 
 -- ---- one run
 
-abbrev IsOne : (World → Ran → Type 0) → Type 0
-IsOne Rest = (world : World) (a b : Ran) → Rest world a → Rest world b → a ≡ b
+-- the files are told
+abbrev HasFiles : World → Type 0
+HasFiles world = (files : Files) × (world.files ≡ Some files)
 
-one_going : (Rest : World → Ran → Type 0) → IsOne Rest → (terms : Terms) (event : Event) (world : World) (a b : Ran)
+abbrev IsOne : (World → Ran → Type 0) → Type 0
+IsOne Rest = (world : World) (a b : Ran) → HasFiles world → Rest world a → Rest world b → a ≡ b
+
+one_going : (Rest : World → Ran → Type 0) → IsOne Rest → (terms : Terms) (event : Event) (world : World) (a b : Ran) → HasFiles world
     → GoesOn Rest terms event world a → GoesOn Rest terms event world b → a ≡ b
-one_going Rest one terms Went world a b on_a on_b = one world a b on_a on_b
-one_going Rest one terms (Said text) world a b on_a on_b = one world a b on_a on_b
-one_going Rest one terms WantLine world a b on_a on_b = one world a b on_a on_b
-one_going Rest one terms (Ended end) world a b on_a on_b = on_a ∙ sym on_b
+one_going Rest one terms Went world a b told on_a on_b = one world a b told on_a on_b
+one_going Rest one terms (Said text) world a b told on_a on_b = one world a b told on_a on_b
+one_going Rest one terms WantLine world a b told on_a on_b = one world a b told on_a on_b
+one_going Rest one terms (WantPut name bytes) world a b told on_a on_b = one world a b told on_a on_b
+one_going Rest one terms (WantGet name) world a b told on_a on_b = one world a b told on_a on_b
+one_going Rest one terms (Ended end) world a b told on_a on_b = on_a ∙ sym on_b
 
 one_answered : (Rest : World → Ran → Type 0) → IsOne Rest → (terms : Terms) (program : ProgramValue) (input : Input) (world : World) (a b : Ran)
-    → IsAnswered Rest terms program input world a → IsAnswered Rest terms program input world b → a ≡ b
-one_answered Rest one terms program input world a b on_a on_b =
+    → HasFiles world → IsAnswered Rest terms program input world a → IsAnswered Rest terms program input world b → a ≡ b
+one_answered Rest one terms program input world a b told on_a on_b =
     let same : on_a.0 ≡ on_b.0 = one_by program input world.state on_a.0 on_b.0 on_a.1 on_b.1 in
     let P : After → Type 0 = λ after. GoesOn Rest terms after.event (record world { state = after.state }) a in
-    one_going Rest one terms on_b.0.event (record world { state = on_b.0.state }) a b (subst P same on_a.2) on_b.2
+    one_going Rest one terms on_b.0.event (record world { state = on_b.0.state }) a b told (subst P same on_a.2) on_b.2
 
 one_line : (Rest : World → Ran → Type 0) → IsOne Rest → (terms : Terms) (program : ProgramValue) (line : WantedLine) (world : World) (a b : Ran)
-    → TakesLine Rest terms program line world a → TakesLine Rest terms program line world b → a ≡ b
-one_line Rest one terms program (lines.Line line) world a b on_a on_b =
-    one_answered Rest one terms program (inputs.Line line) (record world { given = world.given + 1 }) a b on_a on_b
-one_line Rest one terms program lines.EndOfInput world a b on_a on_b = one_answered Rest one terms program inputs.EndOfInput world a b on_a on_b
-one_line Rest one terms program lines.PastLimit world a b on_a on_b = on_a ∙ sym on_b
+    → HasFiles world → TakesLine Rest terms program line world a → TakesLine Rest terms program line world b → a ≡ b
+one_line Rest one terms program (lines.Line line) world a b told on_a on_b =
+    one_answered Rest one terms program (inputs.Line line) (record world { given = world.given + 1 }) a b told on_a on_b
+one_line Rest one terms program lines.EndOfInput world a b told on_a on_b = one_answered Rest one terms program inputs.EndOfInput world a b told on_a on_b
+one_line Rest one terms program lines.PastLimit world a b told on_a on_b = on_a ∙ sym on_b
+
+-- the file that is wanted is one
+one_get : (Rest : World → Ran → Type 0) → IsOne Rest → (terms : Terms) (program : ProgramValue) (name : List ℕ) (world : World) (a b : Ran)
+    → HasFiles world → RunsOn Rest terms program (WantGet name) world a → RunsOn Rest terms program (WantGet name) world b → a ≡ b
+one_get Rest one terms program name world a b told on_a on_b =
+    let Gives : Input → Option Files → Type 0 = λ input files. GivesFile files name input in
+    let same : on_a.0 ≡ on_b.0 = subst (Gives on_a.0) told.1 on_a.1 ∙ sym (subst (Gives on_b.0) told.1 on_b.1) in
+    one_answered Rest one terms program on_b.0 world a b told
+    (subst (λ (input : Input). IsAnswered Rest terms program input world a) same on_a.2) on_b.2
 
 one_on : (Rest : World → Ran → Type 0) → IsOne Rest → (terms : Terms) (program : ProgramValue) (event : Event) (world : World) (a b : Ran)
-    → RunsOn Rest terms program event world a → RunsOn Rest terms program event world b → a ≡ b
-one_on Rest one terms program Went world a b on_a on_b = one world a b on_a on_b
-one_on Rest one terms program (Said text) world a b on_a on_b =
-    on_a.2 ∙ ap (preceded_by (Shows (said_out terms.width world.text text) ∷ [])) (one (record world { text = world.text ++ text }) on_a.0 on_b.0 on_a.1 on_b.1) ∙ sym on_b.2
-one_on Rest one terms program WantLine world a b on_a on_b =
+    → HasFiles world → RunsOn Rest terms program event world a → RunsOn Rest terms program event world b → a ≡ b
+one_on Rest one terms program Went world a b told on_a on_b = one world a b told on_a on_b
+one_on Rest one terms program (Said text) world a b told on_a on_b =
+    on_a.2 ∙ ap (preceded_by (Shows (said_out terms.width world.text text) ∷ [])) (one (record world { text = world.text ++ text }) on_a.0 on_b.0 told on_a.1 on_b.1) ∙ sym on_b.2
+one_on Rest one terms program WantLine world a b told on_a on_b =
     let line = wanted_line terms.input world.given in
-    on_a.2 ∙ ap (preceded_by (Shows (rest_out terms.width world.text) ∷ Asks ∷ [])) (one_line Rest one terms program line (record world { text = [] }) on_a.0 on_b.0 on_a.1 on_b.1) ∙ sym on_b.2
-one_on Rest one terms program (Ended end) world a b on_a on_b = on_a ∙ sym on_b
+    on_a.2 ∙ ap (preceded_by (Shows (rest_out terms.width world.text) ∷ Asks ∷ [])) (one_line Rest one terms program line (record world { text = [] }) on_a.0 on_b.0 told on_a.1 on_b.1) ∙ sym on_b.2
+one_on Rest one terms program (WantPut name bytes) world a b told on_a on_b =
+    let set : HasFiles (record world { files = with_file name bytes world.files }) = (insert told.0 name bytes, ap (with_file name bytes) told.1) in
+    on_a.2 ∙ ap (preceded_by (Puts name bytes ∷ [])) (one_answered Rest one terms program inputs.Stored (record world { files = with_file name bytes world.files }) on_a.0 on_b.0 set on_a.1 on_b.1) ∙ sym on_b.2
+one_on Rest one terms program (WantGet name) world a b told on_a on_b = one_get Rest one terms program name world a b told on_a on_b
+one_on Rest one terms program (Ended end) world a b told on_a on_b = on_a ∙ sym on_b
 
 pub one_run : (terms : Terms) (program : ProgramValue) (left : ℕ) → IsOne (Runs terms program left)
 unfolding Runs
-one_run terms program zero world a b runs_a runs_b = runs_a ∙ sym runs_b
-one_run terms program (suc left) world a b runs_a runs_b =
-    one_on (Runs terms program left) (one_run terms program left) terms program runs_b.0.event (record world { state = runs_b.0.state }) a b
+one_run terms program zero world a b told runs_a runs_b = runs_a ∙ sym runs_b
+one_run terms program (suc left) world a b told runs_a runs_b =
+    one_on (Runs terms program left) (one_run terms program left) terms program runs_b.0.event (record world { state = runs_b.0.state }) a b told
     (by_step terms program left world runs_b.0 a runs_b.1 runs_a) runs_b.2
 
 -- ---- some run
@@ -109,6 +131,8 @@ some_going : (Rest : World → Ran → Type 0) → IsSome Rest → (terms : Term
 some_going Rest some terms Went world = some world
 some_going Rest some terms (Said text) world = some world
 some_going Rest some terms WantLine world = some world
+some_going Rest some terms (WantPut name bytes) world = some world
+some_going Rest some terms (WantGet name) world = some world
 some_going Rest some terms (Ended end) world = (stopped terms (Ends end) world, refl)
 
 some_answered : (Rest : World → Ran → Type 0) → IsSome Rest → (terms : Terms) (program : ProgramValue) (input : Input) (world : World)
@@ -125,6 +149,11 @@ some_line Rest some terms program (lines.Line line) world =
 some_line Rest some terms program lines.EndOfInput world = some_answered Rest some terms program inputs.EndOfInput world
 some_line Rest some terms program lines.PastLimit world = (stopped terms NoLine world, refl)
 
+-- some file, or none, is given
+some_given : (files : Option Files) (name : List ℕ) → (input : Input) × GivesFile files name input
+some_given None name = (inputs.NoFile, tt)
+some_given (Some files) name = (file_input (option_map read_bytes (get files name)), refl)
+
 some_on : (Rest : World → Ran → Type 0) → IsSome Rest → (terms : Terms) (program : ProgramValue) (event : Event) (world : World)
     → (ran : Ran) × RunsOn Rest terms program event world ran
 some_on Rest some terms program Went world = some world
@@ -134,6 +163,13 @@ some_on Rest some terms program (Said text) world =
 some_on Rest some terms program WantLine world =
     let rest = some_line Rest some terms program (wanted_line terms.input world.given) (record world { text = [] }) in
     (preceded_by (Shows (rest_out terms.width world.text) ∷ Asks ∷ []) rest.0, (rest.0, rest.1, refl))
+some_on Rest some terms program (WantPut name bytes) world =
+    let rest = some_answered Rest some terms program inputs.Stored (record world { files = with_file name bytes world.files }) in
+    (preceded_by (Puts name bytes ∷ []) rest.0, (rest.0, rest.1, refl))
+some_on Rest some terms program (WantGet name) world =
+    let given = some_given world.files name in
+    let rest = some_answered Rest some terms program given.0 world in
+    (rest.0, (given.0, given.1, rest.1))
 some_on Rest some terms program (Ended end) world = (stopped terms (Ends end) world, refl)
 
 pub some_run : (terms : Terms) (program : ProgramValue) (left : ℕ) → IsSome (Runs terms program left)
@@ -153,42 +189,6 @@ pub some_taken : (terms : Terms) (program : ProgramValue) (left : ℕ) (line : W
     → (ran : Ran) × TakesLine (Runs terms program left) terms program line world ran
 some_taken terms program left line world = some_line (Runs terms program left) (some_run terms program left) terms program line world
 
--- ---- a run puts no file yet
-
-abbrev NoPutsIn : (World → Ran → Type 0) → Type 0
-NoPutsIn Rest = (world : World) (ran : Ran) → Rest world ran → NoPuts ran.acts
-
-as_ran : (a b : Ran) → a ≡ b → NoPuts b.acts → NoPuts a.acts
-as_ran a b same none = subst (λ (r : Ran). NoPuts r.acts) (sym same) none
-
-no_puts_going : (Rest : World → Ran → Type 0) → NoPutsIn Rest → (terms : Terms) (event : Event) (world : World) (ran : Ran)
-    → GoesOn Rest terms event world ran → NoPuts ran.acts
-no_puts_going Rest none terms Went world ran on = none world ran on
-no_puts_going Rest none terms (Said text) world ran on = none world ran on
-no_puts_going Rest none terms WantLine world ran on = none world ran on
-no_puts_going Rest none terms (Ended end) world ran on = as_ran ran (stopped terms (Ends end) world) on tt
-
-no_puts_line : (Rest : World → Ran → Type 0) → NoPutsIn Rest → (terms : Terms) (program : ProgramValue) (line : WantedLine) (world : World)
-    (ran : Ran) → TakesLine Rest terms program line world ran → NoPuts ran.acts
-no_puts_line Rest none terms program (lines.Line line) world ran on =
-    no_puts_going Rest none terms on.0.event (record world { given = world.given + 1; state = on.0.state }) ran on.2
-no_puts_line Rest none terms program lines.EndOfInput world ran on =
-    no_puts_going Rest none terms on.0.event (record world { state = on.0.state }) ran on.2
-no_puts_line Rest none terms program lines.PastLimit world ran on = as_ran ran (stopped terms NoLine world) on tt
-
-no_puts_on : (Rest : World → Ran → Type 0) → NoPutsIn Rest → (terms : Terms) (program : ProgramValue) (event : Event) (world : World) (ran : Ran)
-    → RunsOn Rest terms program event world ran → NoPuts ran.acts
-no_puts_on Rest none terms program Went world ran on = none world ran on
-no_puts_on Rest none terms program (Said text) world ran on =
-    as_ran ran (preceded_by (Shows (said_out terms.width world.text text) ∷ []) on.0) on.2
-    (none (record world { text = world.text ++ text }) on.0 on.1)
-no_puts_on Rest none terms program WantLine world ran on =
-    as_ran ran (preceded_by (Shows (rest_out terms.width world.text) ∷ Asks ∷ []) on.0) on.2
-    (no_puts_line Rest none terms program (wanted_line terms.input world.given) (record world { text = [] }) on.0 on.1)
-no_puts_on Rest none terms program (Ended end) world ran on = as_ran ran (stopped terms (Ends end) world) on tt
-
-pub no_puts : (terms : Terms) (program : ProgramValue) (left : ℕ) → NoPutsIn (Runs terms program left)
-unfolding Runs
-no_puts terms program zero world ran runs = as_ran ran (stopped terms NoStep world) runs tt
-no_puts terms program (suc left) world ran (after, steps, on) =
-    no_puts_on (Runs terms program left) (no_puts terms program left) terms program after.event (record world { state = after.state }) ran on
+pub some_answer : (terms : Terms) (program : ProgramValue) (left : ℕ) (input : Input) (world : World)
+    → (ran : Ran) × IsAnswered (Runs terms program left) terms program input world ran
+some_answer terms program left input world = some_answered (Runs terms program left) (some_run terms program left) terms program input world

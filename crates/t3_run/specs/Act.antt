@@ -34,6 +34,18 @@ files_by files (Shows text ∷ acts) = files_by files acts
 files_by files (Puts name bytes ∷ acts) = files_by (insert files name bytes) acts
 files_by files (Asks ∷ acts) = files_by files acts
 
+-- the file of a name is set, where the files are told
+abbrev pub with_file : List ℕ → List ℕ → Option Files → Option Files
+with_file name bytes None = None
+with_file name bytes (Some files) = Some (insert files name bytes)
+
+-- the same, where the files are told
+abbrev pub files_after : Option Files → List Act → Option Files
+files_after files [] = files
+files_after files (Shows text ∷ acts) = files_after files acts
+files_after files (Puts name bytes ∷ acts) = files_after (with_file name bytes files) acts
+files_after files (Asks ∷ acts) = files_after files acts
+
 -- cut short within the first of these acts, where the files and what was shown stood so before it: the files that are left, and all that was shown.
 -- A put leaves what any answer of it leaves, of a text a prefix was shown, and no later act has begun
 abbrev pub StopsIn : Files → List ℕ → List Act → Option Files → List ℕ → Type 0
@@ -42,3 +54,13 @@ StopsIn files shown (Shows text ∷ _) left said = (left ≡ Some files) × Show
 StopsIn files shown (Puts name bytes ∷ _) left said =
     (answer : Result (Unit {0}) DeviceRefusal) × PutsFile (Some files) left name bytes answer × (said ≡ shown)
 StopsIn files shown (Asks ∷ _) left said = (left ≡ Some files) × (said ≡ shown)
+
+-- all of these acts were done; nothing is claimed of the files of a depot that doesn't tell them
+abbrev pub LeavesActs : Option Files → Option Files → List Act → Type 0
+LeavesActs None left acts = Unit {0}
+LeavesActs (Some files) left acts = left ≡ Some (files_by files acts)
+
+-- acts were cut short within one behind these
+abbrev pub StopsBehind : Option Files → List Act → List Act → Option Files → List ℕ → Type 0
+StopsBehind None done rest left said = Unit {0}
+StopsBehind (Some files) done rest left said = StopsIn (files_by files done) (shown_by done) rest left said

@@ -23,7 +23,6 @@ cause_name why.Table = codes "Table"
 cause_name why.Underflow = codes "Underflow"
 cause_name why.Local = codes "Local"
 cause_name why.Argument = codes "Argument"
-cause_name why.Unbuilt = codes "Unbuilt"
 
 -- the number of the fault by which an object was thrown, and 0 for one that an instruction threw
 abbrev pub thrown_number : Option Fault → ℕ

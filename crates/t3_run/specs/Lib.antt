@@ -4,4 +4,5 @@ pub mod Asking
 pub mod EndLines
 pub mod Run
 pub mod Running
+pub mod Cause
 pub mod Inner

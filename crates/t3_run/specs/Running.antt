@@ -1,33 +1,59 @@
 -- What a run that was carried out has done.
-use Rattle.std.specs.Prelude.{◌≡◌, ℕ, List, ◌++◌, Option, Result, Ok, Err}
+use Rattle.std.specs.Prelude.{◌≡◌, ℕ, List, ◌++◌, length, Option, Result, Ok, Err}
+use Rattle.t3_io.specs.Files.{Files}
 use Rattle.t3_io.specs.Session.{Session}
-use Rattle.t3_io.specs.declared.refusal.DeviceRefusal.{DeviceRefusal}
+use Rattle.t3_store.specs.Store.{changed_cells}
 use Rattle.t3_load.specs.Loading.{ProgramValue}
+use Rattle.t3_interp.specs.Machine.{State}
 use Rattle.t3_run.specs.declared.stop.Stop.{Stop}
-use Rattle.t3_run.specs.Act.{shown_by}
+use Rattle.t3_run.specs.declared.stop.RunEnd.{RunEnd}
+use Rattle.t3_run.specs.declared.refusal.RunRefusal.{RunRefusal}
+use Rattle.t3_run.specs.Act.{Act, shown_by, LeavesActs, StopsBehind}
 use Rattle.t3_run.specs.Asking.{IsInput, AsksBy}
 use Rattle.t3_run.specs.Run.{Ran, Runs, begun}
 
--- all of a run was carried out, with the input that the console had left
-pub record HasRun (program : ProgramValue) (steps width : ℕ) (before after : Option Session) (stop : Stop) : Type 0 where
-  pub input : List ℕ
-  pub is_input : IsInput before input
-  pub ran : Ran
-  pub runs : Runs (record { width = width; input = input }) program steps (begun program) ran
-  pub stop_is : stop ≡ ran.stop
-  pub asks : AsksBy ran.acts before after (shown_by ran.acts)
+-- what the devices tell: a depot of its files, a console of its session
+pub record Outside : Type 0 where
+  pub files : Option Files
+  pub session : Option Session
 
--- a prefix of what it shows was shown
-pub record HasRunInto (program : ProgramValue) (steps width : ℕ) (before after : Option Session) : Type 0 where
+abbrev pub outside : Option Files → Option Session → Outside
+outside files session = record { files = files; session = session }
+
+-- why a run stops, and how many steps were made, savepoints are held and cells were changed since one of them in the state in which it does
+abbrev pub end_at : Stop → State → RunEnd
+end_at stop state = record {
+  stop = stop;
+  steps = state.steps;
+  held = length state.store.marks;
+  records = changed_cells state.store.marks;
+}
+
+-- a run with the files that the depot had and the input that the console had left
+pub record IsRunOf (program : ProgramValue) (steps width : ℕ) (before : Outside) (ran : Ran) : Type 0 where
   pub input : List ℕ
-  pub is_input : IsInput before input
+  pub is_input : IsInput before.session input
+  pub runs : Runs (record { width = width; input = input }) program steps (begun program before.files) ran
+
+-- all of a run was carried out
+pub record HasRun (program : ProgramValue) (steps width : ℕ) (before after : Outside) (ended : RunEnd) : Type 0 where
   pub ran : Ran
-  pub runs : Runs (record { width = width; input = input }) program steps (begun program) ran
+  pub run : IsRunOf program steps width before ran
+  pub end_is : ended ≡ end_at ran.stop ran.last
+  pub leaves : LeavesActs before.files after.files ran.acts
+  pub asks : AsksBy ran.acts before.session after.session (shown_by ran.acts)
+
+-- it was cut short within one of its acts, or after the last
+pub record HasRunInto (program : ProgramValue) (steps width : ℕ) (before after : Outside) : Type 0 where
+  pub ran : Ran
+  pub run : IsRunOf program steps width before ran
+  pub done : List Act
+  pub rest : List Act
+  pub acts_are : ran.acts ≡ done ++ rest
   pub said : List ℕ
-  pub unsaid : List ℕ
-  pub is : shown_by ran.acts ≡ said ++ unsaid
-  pub asks : AsksBy ran.acts before after said
+  pub stops : StopsBehind before.files done rest after.files said
+  pub asks : AsksBy ran.acts before.session after.session said
 
-abbrev pub IsRun : ProgramValue → (steps width : ℕ) → Option Session → Option Session → Result Stop DeviceRefusal → Type 0
-IsRun program steps width before after (Ok stop) = HasRun program steps width before after stop
+abbrev pub IsRun : ProgramValue → (steps width : ℕ) → Outside → Outside → Result RunEnd RunRefusal → Type 0
+IsRun program steps width before after (Ok ended) = HasRun program steps width before after ended
 IsRun program steps width before after (Err _) = HasRunInto program steps width before after

@@ -65,6 +65,5 @@ fn cause_name(why: CodeWhy) -> &'static str
         CodeWhy::Underflow => "Underflow",
         CodeWhy::Local => "Local",
         CodeWhy::Argument => "Argument",
-        CodeWhy::Unbuilt => "Unbuilt",
     }
 }

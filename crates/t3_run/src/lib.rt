@@ -1,8 +1,9 @@
-//! Carries out a program over a console: shows what it says on lines of a width, gives it lines of input when
-//! it wants them, and shows how the run stopped.
+//! Carries out a program over files and a console: shows what it says on lines of a width, gives it lines of input
+//! and files when it wants them, puts its saved states, and shows how the run stopped.
 //!
 //! ```text
-//! let stop = run(alloc, program, 100_000_000, 79, &mut console)?;   // Stop::Ends(End::Returned)
+//! let end = run(alloc, program, 100_000_000, 79, &mut depot, &mut console)?;
+//! end.stop;                                                         // Stop::Ends(End::Returned)
 //! console.shown();                                                  // b"Cave\n>"
 //! ```
 //!
@@ -12,10 +13,13 @@
 
 mod end_lines;
 mod play;
+mod refusal;
 mod screen;
 mod showing;
 mod stop;
+mod turn;
 
 pub use play::run;
+pub use refusal::RunRefusal;
 pub use showing::show;
-pub use stop::Stop;
+pub use stop::{RunEnd, Stop};

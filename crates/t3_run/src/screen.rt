@@ -91,7 +91,7 @@ impl Screen {
     }
 
     /// Shows what was put out.
-    fn flush<C: Console>(&mut self, console: &mut C) -> Result<(), DeviceRefusal>
+    pub(crate) fn flush<C: Console>(&mut self, console: &mut C) -> Result<(), DeviceRefusal>
         requires { C.faults console.old < 2 ^ 64 - 1 }
         ensures shown { ShowsAll (C.session console.old) (C.session console.new)
             self.old.out.items result }

@@ -301,13 +301,13 @@ fn makes_copies(rt: HostRuntime) -> Result<(), Fail> {
     Ok(())
 }
 
-/// Functions that are not listed, or not built yet.
+/// Functions that are not listed, and arguments that a function doesn't take.
 const OTHERS: [CallRow; 8] = [
     ("push_1", "1 1", "[unhandled object=6 fault=8]\n"),
     ("push_1", "1 21", "[unhandled object=6 fault=8]\n"),
     ("push_1", "0 12", "[unhandled object=6 fault=8]\n"),
-    ("push_1", "0 15", "[bad code at=11 why=Unbuilt]\n"),
-    ("push_1", "1 17", "[bad code at=11 why=Unbuilt]\n"),
+    ("push_1", "0 15", "[unhandled object=6 fault=2]\n"),
+    ("push_1", "1 17", "[unhandled object=6 fault=2]\n"),
     ("push_1", "1 7 / disc", "[bad code at=14 why=Underflow]\n"),
     ("push_1", "2 0", "[bad code at=11 why=Underflow]\n"),
     // The argument goes.

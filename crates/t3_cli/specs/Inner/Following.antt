@@ -9,27 +9,19 @@ use Rattle.t3_cli.specs.declared.images.read.ReadImage.{ReadImage}
 use Rattle.t3_cli.specs.declared.images.read.ReadImage.TheVariants as read
 use Rattle.t3_cli.specs.declared.status.Status.{Status}
 use Rattle.t3_cli.specs.declared.status.Status.TheVariants.{Done, Absent, ImageRefused, SourceRefused}
-use Rattle.t3_run.specs.Act.{Act, shown_by, files_by, StopsIn}
+use Rattle.t3_run.specs.Act.{Act, shown_by, LeavesActs, StopsBehind}
 use Rattle.t3_run.specs.Asking.{IsInput, AsksBy}
 use Rattle.t3_cli.specs.BlockLines.{totals_text}
 use Rattle.t3_load.specs.Loading.{ProgramValue}
 use Rattle.t3_run.specs.Run.{Ran}
-use Rattle.t3_cli.specs.Command.{CommandValue, Check, Rewrite, RunOptions}
-use Rattle.t3_cli.specs.Lines.{absent_line, refused_line, bad_line}
-use Rattle.t3_cli.specs.Outcome.{Outcome, showing, putting, ran_outcome, input_of, RunsProgram, IsImageOutcome}
+use Rattle.t3_words.specs.Command.{CommandValue, Check, Rewrite, RunOptions}
+use Rattle.t3_run.specs.declared.stop.RunEnd.{RunEnd}
+use Rattle.t3_cli.specs.Lines.{absent_line, refused_line, bad_line, drill_line}
+use Rattle.t3_cli.specs.Outcome.{Outcome, showing, putting, ran_outcome, status_of, RunsProgram, IsImageOutcome}
+use Rattle.t3_cli.specs.Inner.Showing.{ShowsOrWants}
+use Rattle.t3_words.specs.Input.{input_of, file_of}
 use Rattle.t3_cli.specs.Top.{CutsShort, IsWhole, IsCut}
-use Rattle.t3_cli.specs.Inner.Parsing.{file_of}
 use Rattle.t3_cli.specs.Inner.Wanted.{wanted_of, WantsText}
-
--- the files after acts, where they are told
-abbrev pub LeavesActs : Option Files → Option Files → List Act → Type 0
-LeavesActs None left acts = Unit {0}
-LeavesActs (Some files) left acts = left ≡ Some (files_by files acts)
-
--- cut short within an act after these, where the files are told
-abbrev pub StopsBehind : Option Files → List Act → List Act → Option Files → List ℕ → Type 0
-StopsBehind None done rest left said = Unit {0}
-StopsBehind (Some files) done rest left said = StopsIn (files_by files done) (shown_by done) rest left said
 
 -- all acts were done, and the status is that of the outcome
 pub record Completes (outcome : Outcome) (files left : Option Files) (before after : Option Session) (answer : Status) : Type 0 where
@@ -51,14 +43,21 @@ abbrev pub Follows : Outcome → Option Files → Option Files → Option Sessio
 Follows outcome files left before after answer =
     Completes outcome files left before after answer ⊎ Breaks outcome.acts files left before after answer
 
--- it follows one of these outcomes, with the input that the console had left
-abbrev pub FollowsSome : (List ℕ → Outcome → Type 0) → Option Files → Option Files → Option Session → Option Session → Status → Type 0
+-- it follows one of these outcomes, with the files and the input that the devices had
+abbrev pub FollowsSome : (Option Files → List ℕ → Outcome → Type 0)
+    → Option Files → Option Files → Option Session → Option Session → Status → Type 0
 FollowsSome IsOutcome files left before after answer =
-    (input : List ℕ) × IsInput before input × (outcome : Outcome) × IsOutcome input outcome × Follows outcome files left before after answer
+    (input : List ℕ) × IsInput before input × (outcome : Outcome) × IsOutcome files input outcome × Follows outcome files left before after answer
 
 -- the outcome of a program's run
-abbrev pub IsProgramOutcome : ProgramValue → RunOptions → List ℕ → Outcome → Type 0
-IsProgramOutcome program options input outcome = (ran : Ran) × RunsProgram program options input ran × (outcome ≡ ran_outcome ran)
+abbrev pub IsProgramOutcome : ProgramValue → RunOptions → Option ℕ → Option Files → List ℕ → Outcome → Type 0
+IsProgramOutcome program options actions files input outcome =
+    (ran : Ran) × RunsProgram program options files input ran × (outcome ≡ ran_outcome actions ran)
+
+-- a run ended so, and then a drill's line was shown
+abbrev pub IsClosed : Option Session → Option Session → Option ℕ → RunEnd → Status → Type 0
+IsClosed before after None ended answer = (answer ≡ status_of ended.stop) × (after ≡ before)
+IsClosed before after (Some actions) ended answer = ShowsOrWants before after (drill_line actions ended) (status_of ended.stop) answer
 
 -- what a command gives of an image that was only counted, which is done to check it
 abbrev pub IsCountedOutcome : CommandValue → Totals → Outcome → Type 0
@@ -70,15 +69,15 @@ abbrev pub IsWrittenOutcome : CommandValue → Option ℕ → List ℕ → Outco
 IsWrittenOutcome (Rewrite name out mask) under written outcome = outcome ≡ putting out written
 IsWrittenOutcome _ under written outcome = ⊥
 
--- what a command gives of what was read, and of the input
-abbrev pub IsReadOutcome : CommandValue → ReadImage → List ℕ → Outcome → Type 0
-IsReadOutcome command read.Absent input outcome = outcome ≡ showing Absent (absent_line (file_of (input_of command)))
-IsReadOutcome command (read.Refused place why) input outcome = outcome ≡ showing ImageRefused (refused_line why place)
-IsReadOutcome command (read.BadLine line why) input outcome = outcome ≡ showing SourceRefused (bad_line line why)
-IsReadOutcome command (read.Counted totals) input outcome = IsCountedOutcome command totals outcome
-IsReadOutcome command (read.Rewritten mask written) input outcome =
+-- what a command gives of what was read, of the files and of the input
+abbrev pub IsReadOutcome : CommandValue → ReadImage → Option Files → List ℕ → Outcome → Type 0
+IsReadOutcome command read.Absent files input outcome = outcome ≡ showing Absent (absent_line (file_of (input_of command)))
+IsReadOutcome command (read.Refused place why) files input outcome = outcome ≡ showing ImageRefused (refused_line why place)
+IsReadOutcome command (read.BadLine line why) files input outcome = outcome ≡ showing SourceRefused (bad_line line why)
+IsReadOutcome command (read.Counted totals) files input outcome = IsCountedOutcome command totals outcome
+IsReadOutcome command (read.Rewritten mask written) files input outcome =
     WantsText mask (wanted_of command) × IsWrittenOutcome command mask written.items outcome
-IsReadOutcome command (read.Image image) input outcome = IsImageOutcome command image input outcome
+IsReadOutcome command (read.Image image) files input outcome = IsImageOutcome command image files input outcome
 
 -- how many bytes were put, or why they weren't
 abbrev pub PutsSized : Option Files → Option Files → List ℕ → List ℕ → Result ℕ DeviceRefusal → Type 0

@@ -1,13 +1,9 @@
 -- What is read of an image's file, as the commands hand it on.
-use Rattle.std.specs.Prelude.{◌≡◌, ◌≢◌, ◌⊎◌, ℕ, ◌≤◌, Bool, true, false, List, [], length, take, drop, Option, Some, None, Result, Ok, Err}
+use Rattle.std.specs.Prelude.{◌≡◌, ◌⊎◌, ℕ, Bool, true, false, List, [], length, take, Option, Some, None, Result, Ok, Err}
 use Rattle.std.specs.FinMap.{get}
-use Rattle.std.specs.Option.{option_map}
 use Rattle.std.specs.Global.{Vec}
-use Rattle.std.specs.Vec.{vec_items}
 use Rattle.t3_asm.specs.Refusals.{refusal}
 use Rattle.t3_io.specs.Files.{Files}
-use Rattle.t3_io.specs.declared.depot.Got.{Got}
-use Rattle.t3_io.specs.declared.depot.Got.TheVariants as got
 use Rattle.t3_io.specs.declared.refusal.DeviceRefusal.{DeviceRefusal}
 use Rattle.t3_io.specs.declared.refusal.DeviceRefusal.TheVariants as device
 use Rattle.t3_image_read.specs.declared.reader.Fed.{Fed}
@@ -15,7 +11,7 @@ use Rattle.sha2.specs.Hashers.{Holds256}
 use Rattle.sha2.specs.declared.Sha256.{Sha256}
 use Rattle.t3_image_read.specs.declared.reader.Fed.TheVariants as fed
 use Rattle.t3_image_read.specs.ImageText.{ImageValue, text}
-use Rattle.t3_cli.specs.Command.{CommandValue, Run}
+use Rattle.t3_words.specs.Command.{CommandValue, Run, Drill}
 use Rattle.t3_image_read.specs.declared.refusal.ReadRefusal.{ReadRefusal}
 use Rattle.t3_image_read.specs.declared.refusal.ReadRefusal.TheVariants as refusal
 use Rattle.t3_image_read.specs.declared.refusal.ReadWhy.TheVariants.{Truncated}
@@ -23,7 +19,11 @@ use Rattle.t3_image_read.specs.Refusal.{Refused}
 use Rattle.t3_image_read.specs.Reader.{Reading, Taking, Ended, Failed, Feeds, totals_of}
 use Rattle.t3_cli.specs.declared.images.read.ReadImage.{ReadImage}
 use Rattle.t3_cli.specs.declared.images.read.ReadImage.TheVariants as read
-use Rattle.t3_cli.specs.Outcome.{InputFile, ImageFile, SourceFile, read_bytes, assembled, written_text, BeginsWith}
+use Rattle.t3_words.specs.Input.{InputFile, ImageFile, SourceFile, MadeImage}
+use Rattle.t3_files.specs.Reading.{read_bytes, TakesSoFar, IsEnd}
+use Rattle.t3_drill.specs.Drill.{drill_image}
+use Rattle.t3_cli.specs.Plan.{written_text}
+use Rattle.t3_cli.specs.Outcome.{assembled, BeginsWith}
 
 abbrev pub ReadsBytes : Option (List ℕ) → ReadImage → Type 0
 ReadsBytes None read.Absent = Unit {0}
@@ -65,34 +65,17 @@ ReadsSource None name answer = Unit {0}
 ReadsSource (Some files) name (Err _) = Unit {0}
 ReadsSource (Some files) name (Ok found) = ReadsText (get files name) found
 
--- what is read of a command's file
+-- what is made for a number, unless memory was wanting
+abbrev pub MakesImage : ℕ → Result ReadImage DeviceRefusal → Type 0
+MakesImage number (Ok found) = found ≡ read.Image (drill_image number)
+MakesImage number (Err device.NoMemory) = Unit {0}
+MakesImage number (Err device.Fault) = ⊥
+
+-- what is read of a command's file, or is made for it
 abbrev pub ReadsInput : Option Files → InputFile → Result ReadImage DeviceRefusal → Type 0
 ReadsInput files (ImageFile name) answer = ReadsImage files name answer
 ReadsInput files (SourceFile name) answer = ReadsSource files name answer
-
--- all bytes that are read of a file, if it is there
-abbrev pub ReadsFile : Option Files → List ℕ → Result (Option (Vec ℕ)) DeviceRefusal → Type 0
-ReadsFile None name answer = Unit {0}
-ReadsFile (Some files) name (Err _) = Unit {0}
-ReadsFile (Some files) name (Ok found) = option_map vec_items found ≡ option_map read_bytes (get files name)
-
--- a read gave bytes of the file from the place on, at most so many, and none only at its end
-pub record IsPiece (file : List ℕ) (at want : ℕ) (buffer : List ℕ) (count : ℕ) : Type 0 where
-  pub fits : count ≤ want
-  pub there : count ≤ length (drop at file)
-  pub is : take count buffer ≡ take count (drop at file)
-  pub ended : count ≡ 0 → length file ≤ at
-
-abbrev pub PieceOf : Option (List ℕ) → ℕ → ℕ → List ℕ → Got → Type 0
-PieceOf None at want buffer got.Absent = Unit {0}
-PieceOf None at want buffer (got.Count count) = ⊥
-PieceOf (Some file) at want buffer got.Absent = ⊥
-PieceOf (Some file) at want buffer (got.Count count) = IsPiece file at want buffer count
-
-abbrev pub GivesPiece : Option Files → List ℕ → ℕ → ℕ → List ℕ → Result Got DeviceRefusal → Type 0
-GivesPiece None name at want buffer answer = Unit {0}
-GivesPiece (Some files) name at want buffer (Err _) = Unit {0}
-GivesPiece (Some files) name at want buffer (Ok found) = PieceOf (get files name) at want buffer found
+ReadsInput files (MadeImage number) answer = MakesImage number answer
 
 -- what the refusal of a reader is handed on as
 abbrev pub read_refusal : ReadRefusal → Result ReadImage DeviceRefusal
@@ -121,30 +104,12 @@ TellsText mask image answer = (answer ≡ Err device.NoMemory)
     ⊎ ((written : Vec ℕ) × (answer ≡ Ok (read.Rewritten mask written))
     × (written.items ≡ written_text mask image))
 
--- the reader has taken the prefix of the file up to the place
-abbrev pub TakesPrefix : Option (List ℕ) → List ℕ → ℕ → Type 0
-TakesPrefix None taken at = at ≡ 0
-TakesPrefix (Some file) taken at = taken ≡ take at file
-
-abbrev pub TakesSoFar : Option Files → List ℕ → List ℕ → ℕ → Type 0
-TakesSoFar None name taken at = Unit {0}
-TakesSoFar (Some files) name taken at = TakesPrefix (get files name) taken at
-
 -- what is known of the file when it was read up to the place
 abbrev pub HasRead : Option Files → List ℕ → Reading → ℕ → Type 0
 HasRead files name (Taking taken) at = (length taken ≡ at) × TakesSoFar files name taken at
 HasRead files name (Ended image) at = ReadsImage files name (Ok (read.Image image))
 HasRead files name (Failed (refusal.At place why)) at = ReadsImage files name (Ok (read.Refused place why))
 HasRead files name (Failed refusal.NoMemory) at = Unit {0}
-
--- the file ended at the place, or the limit stands there
-abbrev pub IsEndOf : Option (List ℕ) → ℕ → Type 0
-IsEndOf None at = at ≢ 0
-IsEndOf (Some file) at = take at file ≡ read_bytes file
-
-abbrev pub IsEnd : Option Files → List ℕ → ℕ → Type 0
-IsEnd None name at = Unit {0}
-IsEnd (Some files) name at = IsEndOf (get files name) at
 
 -- a file that isn't there, or that was read up to where it ends
 abbrev pub HasReadAll : Option Files → List ℕ → Reading → Bool → Type 0
@@ -180,4 +145,5 @@ DigestsRead true (Err _) hasher = Unit {0}
 -- it holds the image that is run
 abbrev pub IsDigested : CommandValue → ReadImage → Sha256 → Type 0
 IsDigested (Run name options) (read.Image image) hasher = Holds256 hasher (text image)
+IsDigested (Drill number) (read.Image image) hasher = Holds256 hasher (text image)
 IsDigested _ _ hasher = Unit {0}

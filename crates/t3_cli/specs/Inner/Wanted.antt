@@ -1,6 +1,6 @@
 -- What is wanted of the image that a command reads.
 use Rattle.std.specs.Prelude.{◌≡◌, ℕ, Option}
-use Rattle.t3_cli.specs.Command.{CommandValue, Check, Rewrite}
+use Rattle.t3_words.specs.Command.{CommandValue, Check, Rewrite}
 use Rattle.t3_cli.specs.declared.images.read.ReadImage.{ReadImage}
 use Rattle.t3_cli.specs.declared.images.read.ReadImage.TheVariants as read
 

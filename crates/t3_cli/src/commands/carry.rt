@@ -1,19 +1,20 @@
-//! Carries commands out: reads their image or source, and shows what it is or what it says, or writes it
-//! anew, listed or assembled.
+//! Carries commands out: reads their image or source, or makes their image, and shows what it is or what it
+//! says, or writes it anew, listed or assembled.
 ghost use Rattle.std.specs.Prelude.{◌≡◌, ◌≢◌, ◌<◌, ◌-◌, ◌^◌, ◌⊎◌, ℕ, List, [], Some, IfSome, IfOk};
 ghost use Rattle.t3_holder.specs.FileName.{IsFileName};
 ghost use Rattle.t3_io.specs.Cause.{MovesFaults};
-ghost use Rattle.t3_cli.specs.Outcome.{putting, input_of};
+ghost use Rattle.t3_cli.specs.Outcome.{putting};
+ghost use Rattle.t3_words.specs.Input.{input_of};
 ghost use Rattle.t3_cli.specs.Inner.Reading.{ReadsInput, IsDigested};
 ghost use Rattle.t3_cli.specs.Inner.Wanted.{wanted_of, IsAsWanted};
 ghost use Rattle.sha2.specs.Hashers.{Holds256};
 ghost use Rattle.t3_cli.specs.Top.{CutsShort, MovesSome};
-ghost use Rattle.t3_cli.specs.Command.{command_value, IsWellFormed};
+ghost use Rattle.t3_words.specs.Command.{command_value, IsWellFormed};
 ghost use Rattle.t3_cli.specs.Inner.Following.{Answers, FollowsSome, Follows, IsReadOutcome};
 
-use crate::commands::command::Command;
 use crate::console::answer;
 use crate::images::image_lines::{check_line, image_lines, totals};
+use crate::images::made::made_image;
 use crate::images::put::put_text;
 use crate::images::read::{ReadImage, count_image, read_image};
 use crate::images::rewrite::{masked, rewrite_image};
@@ -24,11 +25,13 @@ use crate::story::launch;
 use sha2::{Digest, Sha256};
 use std::alloc::Global;
 use t3_asm::list;
+use t3_drill::drill_actions;
 use t3_holder::NoMemory;
 use t3_image_write::write_image;
 use t3_io::{Console, Depot, DeviceRefusal};
+use t3_words::{Command, RunOptions};
 
-/// Reads the command's image or source, and does with it what the command does.
+/// Reads the command's image or source, or makes its image, and does with it what the command does.
 pub(crate) fn carry_out<D: Depot, C: Console>(
     alloc: Global,
     command: Command,
@@ -56,7 +59,8 @@ pub(crate) fn carry_out<D: Depot, C: Console>(
     }
 }
 
-/// Reads the command's file: an image, or a source that says one. The hasher gets the bytes of an image that is run.
+/// Reads the command's file: an image, or a source that says one; or makes its image. The hasher gets the bytes
+/// of an image that is run.
 fn read_input<D: Depot>(
     alloc: Global,
     command: Command,
@@ -75,6 +79,7 @@ fn read_input<D: Depot>(
     match command {
         Command::Asm { source, .. } => read_source(alloc, source.as_bytes(), depot),
         Command::Run { image, .. } => read_image(alloc, image.as_bytes(), depot, hasher, true),
+        Command::Drill { number } => Ok(ReadImage::Image(made_image(alloc, number, hasher)?)),
         Command::Check { image } => count_image(alloc, image.as_bytes(), depot),
         Command::Rewrite { image, mask, .. } => {
             rewrite_image(alloc, image.as_bytes(), depot, mask)
@@ -146,7 +151,28 @@ fn act<D: Depot, C: Console>(
             }
             Command::Show { .. } => answer(console, image_lines(alloc, &image), Status::Done),
             Command::Run { options, .. } => {
-                launch(alloc, image, hasher.finalize(), options, console)
+                launch(
+                    alloc,
+                    image,
+                    hasher.finalize(),
+                    options,
+                    None,
+                    depot,
+                    console,
+                )
+            }
+            Command::Drill { number } => {
+                let actions = Some(drill_actions(number));
+                let options = RunOptions::defaults();
+                launch(
+                    alloc,
+                    image,
+                    hasher.finalize(),
+                    options,
+                    actions,
+                    depot,
+                    console,
+                )
             }
             Command::Rewrite { out, mask, .. } => {
                 let text = write_image(alloc, &masked(image, mask));

@@ -1,29 +1,23 @@
 //! Reads an image's file, piece by piece.
-ghost use Rattle.std.specs.Prelude.{◌≡◌, ◌≤◌, ◌<◌, ◌-◌, ◌^◌, [], length, IfOk};
+ghost use Rattle.std.specs.Prelude.{◌≡◌, ◌<◌, ◌-◌, ◌^◌, [], length, IfOk};
 ghost use Rattle.t3_holder.specs.FileName.{IsFileName};
 ghost use Rattle.t3_io.specs.Cause.{MovesFaults};
-ghost use Rattle.t3_io.specs.Reading.{IsAtMost};
 ghost use Rattle.t3_image_read.specs.Reader.{Taking};
-ghost use Rattle.t3_cli.specs.Inner.Reading.{ReadsImage, HasReadAll, GivesPiece, IsFed, Concludes, TellsImage, TellsTotals, TellsText, read_refusal, taken_of, Digests, DigestsRead};
+ghost use Rattle.t3_cli.specs.Inner.Reading.{ReadsImage, HasReadAll, IsFed, Concludes, TellsImage, TellsTotals, TellsText, read_refusal, taken_of, Digests, DigestsRead};
 ghost use Rattle.t3_cli.specs.Inner.Wanted.{IsAsWanted, Count, Text, Whole};
 ghost use Rattle.sha2.specs.Hashers.{Holds256};
 
 use sha2::{Digest, Sha256};
-use std::alloc::{AllocError, Global};
+use std::alloc::Global;
 use t3_asm::AsmWhy;
+use t3_files::{PIECE, READ_LIMIT, read_piece, zeroed};
 use t3_image_read::{
     BlockSink, Fed, Image, ImageChecker, ImageReader, ReadRefusal, ReadWhy, Reader, Totals,
 };
 use t3_io::{Depot, DeviceRefusal, Got};
 
-/// A file is read up to so many bytes: one more than an image has.
-pub(super) const READ_LIMIT: u64 = 268_435_457;
-
-/// How many bytes are asked for at once.
-pub(super) const PIECE: usize = 1 << 18;
-
-/// What the file of a command has: an image, as it stands or as a source says it, or of it what the command
-/// wants; or why none.
+/// What a command begins with: an image, as its file has it, as a source says it or as it is made, or of it
+/// what the command wants; or why none.
 #[derive(Debug, Drop)]
 pub(crate) enum ReadImage {
     /// There is no such file.
@@ -96,12 +90,6 @@ pub(crate) fn count_image<D: Depot>(
     }
 }
 
-pub(super) fn zeroed(alloc: Global, size: usize) -> Result<Vec<u8>, AllocError>
-    ensures { IfOk result (λ buf. length buf.items ≡ size) }
-{
-    vec![in alloc; 0; size]
-}
-
 /// Feeds the pieces of a file, each at most as long as the buffer, and answers whether the file is there. A
 /// reader that has its image, or has refused, takes nothing of those that follow.
 pub(super) fn read_pieces<D: Depot, S: BlockSink>(
@@ -157,26 +145,6 @@ fn taken(piece: &[u8], answer: Result<Fed, ReadRefusal>) -> &[u8]
         Ok(Fed::Done { used }) => piece.get(..used).unwrap_or(piece),
         Err(_) => &[],
     }
-}
-
-/// Reads at most so many bytes into the first bytes of the buffer.
-pub(super) fn read_piece<D: Depot>(
-    depot: &mut D,
-    name: &[u8],
-    at: u64,
-    buf: &mut [u8],
-    want: usize,
-) -> Result<Got, DeviceRefusal>
-    requires name { IsFileName name.now }
-    requires faults { D.faults depot.old < 2 ^ 64 - 1 }
-    requires some { 0 < want }
-    requires room { want ≤ length buf.old }
-    ensures piece { GivesPiece (D.files depot.old) name.now at want buf.new result }
-    ensures count { IfOk result (IsAtMost want) }
-    ensures files { D.files depot.new ≡ D.files depot.old }
-    ensures cause { MovesFaults (D.faults depot.old) (D.faults depot.new) result }
-{
-    depot.read_at(name, at, &mut buf[..want])
 }
 
 /// What a reader gives that takes no more.

@@ -6,10 +6,11 @@ ghost use Rattle.t3_image_write.specs.Masks.{masked_image};
 ghost use Rattle.t3_cli.specs.Inner.Reading.{ReadsImage, Concludes, TellsText};
 ghost use Rattle.t3_cli.specs.Inner.Wanted.{IsAsWanted, Text};
 
-use crate::images::read::{PIECE, ReadImage, read_pieces, refused, zeroed};
+use crate::images::read::{ReadImage, read_pieces, refused};
 use sha2::{Digest, Sha256};
 use std::alloc::Global;
 use std::marker::Brand;
+use t3_files::{PIECE, zeroed};
 use t3_image_read::{Image, Reader};
 use t3_image_write::{Masking, Rewriter, remask, rewritten_text};
 use t3_io::{Depot, DeviceRefusal};

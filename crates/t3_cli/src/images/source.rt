@@ -1,15 +1,16 @@
 //! Reads a source's file, and assembles what it says.
-ghost use Rattle.std.specs.Prelude.{◌≡◌, ◌<◌, ◌-◌, ◌^◌, [], length, IfOk};
+ghost use Rattle.std.specs.Prelude.{◌≡◌, ◌<◌, ◌-◌, ◌^◌, IfOk};
 ghost use Rattle.t3_holder.specs.FileName.{IsFileName};
 ghost use Rattle.t3_io.specs.Cause.{MovesFaults};
-ghost use Rattle.t3_cli.specs.Inner.Reading.{ReadsSource, ReadsFile, IsAssembled};
+ghost use Rattle.t3_cli.specs.Inner.Reading.{ReadsSource, IsAssembled};
 ghost use Rattle.t3_cli.specs.Inner.Wanted.{IsAsWanted, Whole};
 
-use crate::images::read::{PIECE, READ_LIMIT, ReadImage, read_piece, zeroed};
+use crate::images::read::ReadImage;
 use std::alloc::Global;
 use t3_asm::{AsmRefusal, AsmWhy, assemble};
 use t3_asm_line::lines_few;
-use t3_io::{Depot, DeviceRefusal, Got};
+use t3_files::read_file;
+use t3_io::{Depot, DeviceRefusal};
 
 /// How many bytes a source has at most.
 const SOURCE_LIMIT: usize = 268_435_456;
@@ -27,41 +28,10 @@ pub(crate) fn read_source<D: Depot>(
     ensures files { D.files depot.new ≡ D.files depot.old }
     ensures cause { MovesFaults (D.faults depot.old) (D.faults depot.new) result }
 {
-    let mut buf = zeroed(alloc, PIECE)?;
-    match read_file(name, depot, Vec::new(alloc), &mut buf)? {
+    match read_file(alloc, name, depot)? {
         Some(text) => assembled(alloc, &text),
         None => Ok(ReadImage::Absent),
     }
-}
-
-/// Reads a file piece by piece, each at most as long as the buffer, and gives its bytes.
-fn read_file<D: Depot>(
-    name: &[u8],
-    depot: &mut D,
-    mut text: Vec<u8>,
-    buf: &mut [u8],
-) -> Result<Option<Vec<u8>>, DeviceRefusal>
-    requires name { IsFileName name.now }
-    requires faults { D.faults depot.old < 2 ^ 64 - 1 }
-    requires fresh { text.items ≡ [] }
-    requires room { 0 < length buf.old }
-    ensures read { ReadsFile (D.files depot.old) name.now result }
-    ensures files { D.files depot.new ≡ D.files depot.old }
-    ensures cause { MovesFaults (D.faults depot.old) (D.faults depot.new) result }
-{
-    let mut at = 0;
-    while at < READ_LIMIT {
-        let want = buf.len().min((READ_LIMIT - at) as usize);
-        match read_piece(depot, name, at, buf, want)? {
-            Got::Absent => return Ok(None),
-            Got::Count(0) => return Ok(Some(text)),
-            Got::Count(count) => {
-                text.extend_from_slice(&buf[..count])?;
-                at += count as u64;
-            }
-        }
-    }
-    Ok(Some(text))
 }
 
 /// The image that bytes say as a source, or their bad line.

@@ -1,15 +1,20 @@
-use Rattle.t3_cli.specs.Command.{options_value}
+use Rattle.t3_words.specs.Command.{options_value}
 use Rattle.t3_cli.proofs.Followed.{run_follows, run_cut}
 use Rattle.t3_cli.proofs.story.play.Goals as goal
 
 pub returns-in-Ok-clause-follows : goal.returns-in-Ok-clause-follows
-returns-in-Ok-clause-follows g c files =
-    run_follows c.args.program (options_value c.args.options) files _ _ c.in-Ok.stop c.status_of.result c.status_of.ensures c.in-Ok.ensures.run
+returns-in-Ok-clause-follows g c =
+    run_follows c.args.program (options_value c.args.options) c.args.actions _ _ _ _ _ c.in-Ok.end c.closed.result c.in-Ok.ensures.run
+    c.closed.ensures.closed
 
-pub returns-in-Err-Fault-clause-follows : goal.returns-in-Err-Fault-clause-follows
-returns-in-Err-Fault-clause-follows g c files =
-    run_cut c.args.program (options_value c.args.options) files _ _ _ c.in-Err-Fault.ensures.run tt
+pub returns-in-Err-DepotFault-clause-follows : goal.returns-in-Err-DepotFault-clause-follows
+returns-in-Err-DepotFault-clause-follows g c =
+    run_cut c.args.program (options_value c.args.options) c.args.actions _ _ _ _ _ c.in-Err-DepotFault.ensures.run tt
+
+pub returns-in-Err-ConsoleFault-clause-follows : goal.returns-in-Err-ConsoleFault-clause-follows
+returns-in-Err-ConsoleFault-clause-follows g c =
+    run_cut c.args.program (options_value c.args.options) c.args.actions _ _ _ _ _ c.in-Err-ConsoleFault.ensures.run tt
 
 pub returns-in-Err-NoMemory-clause-follows : goal.returns-in-Err-NoMemory-clause-follows
-returns-in-Err-NoMemory-clause-follows g c files =
-    run_cut c.args.program (options_value c.args.options) files _ _ _ c.in-Err-NoMemory.ensures.run tt
+returns-in-Err-NoMemory-clause-follows g c =
+    run_cut c.args.program (options_value c.args.options) c.args.actions _ _ _ _ _ c.in-Err-NoMemory.ensures.run tt

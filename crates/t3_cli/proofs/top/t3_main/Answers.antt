@@ -1,9 +1,7 @@
-use Rattle.std.proofs.Common.{subst, sym}
+use Rattle.std.proofs.Common.{subst}
 use Rattle.std.specs.Prelude.{IfSome, map, string_bytes}
-use Rattle.t3_cli.specs.Command.{command_of}
-use Rattle.t3_cli.specs.Command.{command_value}
+use Rattle.t3_words.specs.Verbs.{command_of}
 use Rattle.t3_cli.specs.Inner.Following.{Answers}
-use Rattle.t3_cli.proofs.CommandNames.{names_fit}
 use Rattle.t3_cli.proofs.Answered.{whole_of, cut_of, causes_of, usage_answers, shown_some}
 use Rattle.t3_cli.proofs.top.t3_main.Goals as goal
 
@@ -14,7 +12,7 @@ no_command g c =
     let all = g.D.Depot.files c.args.depot.now in
     let before = g.C.Console.session c.args.console.now in
     let after = g.C.Console.session c.end_with.new.console in
-    subst (λ command. IfSome all (λ files. Answers command files before c.end_with.result all after)) c.in-None.ensures
+    subst (λ command. IfSome all (λ files. Answers command files before c.end_with.result all after)) c.in-None.ensures.command
     (usage_answers all before after c.end_with.result c.end_with.ensures.shown)
 
 -- and where they are one
@@ -23,12 +21,8 @@ some_command : (g : _) (c : goal.After-carry_out g) → IfSome (g.D.Depot.files 
 some_command g c =
     let all = g.D.Depot.files c.args.depot.now in
     let before = g.C.Console.session c.args.console.now in
-    subst (λ command. IfSome all (λ files. Answers command files before c.carry_out.result (g.D.Depot.files c.carry_out.new.depot) (g.C.Console.session c.carry_out.new.console))) c.in-Some.ensures
+    subst (λ command. IfSome all (λ files. Answers command files before c.carry_out.result (g.D.Depot.files c.carry_out.new.depot) (g.C.Console.session c.carry_out.new.console))) c.in-Some.ensures.command
     c.carry_out.ensures.answers
-
-pub carry_out-requires-clause-names : goal.carry_out-requires-clause-names
-carry_out-requires-clause-names g c =
-    names_fit (map string_bytes c.args.words.now) (command_value c.in-Some.command) (sym c.in-Some.ensures)
 
 pub returns-in-None-clause-whole : goal.returns-in-None-clause-whole
 returns-in-None-clause-whole g c = whole_of _ (g.D.Depot.files c.args.depot.now) _ _ _ _ (no_command g c)

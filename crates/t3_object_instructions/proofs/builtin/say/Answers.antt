@@ -8,8 +8,8 @@ use Rattle.t3_object_instructions.proofs.Turning.{drop-turned, shown-turned}
 use Rattle.t3_object_instructions.proofs.Arguments.{texts_said}
 use Rattle.t3_object_instructions.proofs.builtin.say.Goals as goal
 
-pub returns-in-Ok : goal.returns-in-Ok
-returns-in-Ok c =
+pub returns-in-Ok-clause-done : goal.returns-in-Ok-clause-done
+returns-in-Ok-clause-done c =
     let old : Core = c.args.core.now in
     let count = c.args.count in
     let operands = old.frames.newest.operands in
@@ -39,8 +39,8 @@ returns-in-Ok c =
       savepoints = omega arith;
     }
 
-pub returns-in-Err : goal.returns-in-Err
-returns-in-Err c =
+pub returns-in-Err-clause-done : goal.returns-in-Err-clause-done
+returns-in-Err-clause-done c =
     let old : Core = c.args.core.now in
     let count = c.args.count in
     let operands = old.frames.newest.operands in

@@ -2,6 +2,7 @@ use Rattle.std.proofs.Common.{◌-◌, ◌∙◌, [], refl, arith}
 use Rattle.std.proofs.lemmas.Result.{err_from_is_err_and}
 use Rattle.t3_console.proofs.Shown.{taken_nothing}
 use Rattle.t3_interp.proofs.Runs.{gone_some}
+use Rattle.t3_run.specs.Running.{outside}
 use Rattle.t3_run.specs.Inner.Playing.{Play}
 use Rattle.t3_run.proofs.PlayedRests.{steps-into}
 use Rattle.t3_run.proofs.PlayedRuns.{begun-at, at-gone, as-goes, as-stops, at-last, ended-err}
@@ -9,7 +10,7 @@ use Rattle.t3_run.proofs.play.play.Goals as goal
 
 pub loop-left-init : goal.loop-left-init
 loop-left-init g c =
-    let before = g.C.Console.session c.args.console.now in
+    let before = outside (g.D.Depot.files c.args.depot.now) (g.C.Console.session c.args.console.now) in
     let screen = c.args.screen.now in
     let play : Play = record { program = c.args.machine.program; steps = c.args.steps; width = screen.page.width; before = before } in
     record {
@@ -18,7 +19,8 @@ loop-left-init g c =
         record { taken = taken_nothing screen.page screen.page.width c.requires.page; width = refl },
         begun-at play c.args.machine screen c.new-lines.result refl c.requires.begun c.requires.out c.new-lines.ensures,
       );
-      faults = refl;
+      depot = refl;
+      console = refl;
     }
 
 pub go-requires-clause-wants : goal.go-requires-clause-wants
@@ -32,24 +34,18 @@ go-requires-clause-few g c =
 
 pub returns-in_err-next-clause-ended : goal.returns-in_err-next-clause-ended
 returns-in_err-next-clause-ended g c =
-    let before = g.C.Console.session c.args.console.now in
-    let now = g.C.Console.session c.loop-left.console in
+    let before = outside (g.D.Depot.files c.args.depot.now) (g.C.Console.session c.args.console.now) in
+    let now = outside (g.D.Depot.files c.loop-left.depot) (g.C.Console.session c.loop-left.console) in
     let play : Play = record { program = c.args.machine.program; steps = c.args.steps; width = c.args.screen.now.page.width; before = before } in
     let at = c.loop-left.invariant.turned in
     let p = err_from_is_err_and c.from_residual.result c.from_residual.ensures.1 in
     ended-err play c.loop-left.screen now c.from_residual.result _ p.1
     (steps-into play c.loop-left.left _ _ c.loop-left.screen.out.items c.loop-left.lines now at.2.played)
 
-pub make_turn-requires-clause-faults : goal.make_turn-requires-clause-faults
-make_turn-requires-clause-faults g c =
-    let same = c.loop-left.invariant.faults in
-    let few = c.requires.faults in
-    omega (arith, same, few)
-
 pub make_turn-requires-clause-wants : goal.make_turn-requires-clause-wants
 make_turn-requires-clause-wants g c =
-    let before = g.C.Console.session c.args.console.now in
-    let now = g.C.Console.session c.loop-left.console in
+    let before = outside (g.D.Depot.files c.args.depot.now) (g.C.Console.session c.args.console.now) in
+    let now = outside (g.D.Depot.files c.loop-left.depot) (g.C.Console.session c.loop-left.console) in
     let play : Play = record { program = c.args.machine.program; steps = c.args.steps; width = c.args.screen.now.page.width; before = before } in
     let at = c.loop-left.invariant.turned in
     let bound = c.in_ok-next.ensures.bound in
@@ -60,8 +56,8 @@ make_turn-requires-clause-wants g c =
 
 pub make_turn-requires-clause-few : goal.make_turn-requires-clause-few
 make_turn-requires-clause-few g c =
-    let before = g.C.Console.session c.args.console.now in
-    let now = g.C.Console.session c.loop-left.console in
+    let before = outside (g.D.Depot.files c.args.depot.now) (g.C.Console.session c.args.console.now) in
+    let now = outside (g.D.Depot.files c.loop-left.depot) (g.C.Console.session c.loop-left.console) in
     let play : Play = record { program = c.args.machine.program; steps = c.args.steps; width = c.args.screen.now.page.width; before = before } in
     let at = c.loop-left.invariant.turned in
     let bound = c.in_ok-next.ensures.bound in
@@ -74,8 +70,8 @@ make_turn-requires-clause-few g c =
 
 pub returns-in_err-next-2-clause-ended : goal.returns-in_err-next-2-clause-ended
 returns-in_err-next-2-clause-ended g c =
-    let before = g.C.Console.session c.args.console.now in
-    let now = g.C.Console.session c.loop-left.console in
+    let before = outside (g.D.Depot.files c.args.depot.now) (g.C.Console.session c.args.console.now) in
+    let now = outside (g.D.Depot.files c.loop-left.depot) (g.C.Console.session c.loop-left.console) in
     let play : Play = record { program = c.args.machine.program; steps = c.args.steps; width = c.args.screen.now.page.width; before = before } in
     let at = c.loop-left.invariant.turned in
     let bound = c.in_ok-next.ensures.bound in
@@ -83,7 +79,7 @@ returns-in_err-next-2-clause-ended g c =
     at-gone play c.loop-left.left c.in_ok-next.made (c.loop-left.left - c.in_ok-next.made) c.loop-left.machine c.in_ok-next.next c.in_ok-next.event
     at.0 c.loop-left.screen.out.items c.loop-left.lines now (omega (arith, bound)) c.in_ok-next.ensures.program c.in_ok-next.ensures.goes at.2 in
     let p = err_from_is_err_and c.from_residual-in_err-next-2.result c.from_residual-in_err-next-2.ensures.1 in
-    ended-err play c.make_turn.new.screen (g.C.Console.session c.make_turn.new.console) c.from_residual-in_err-next-2.result _ p.1
+    ended-err play c.make_turn.new.screen (outside (g.D.Depot.files c.make_turn.new.depot) (g.C.Console.session c.make_turn.new.console)) c.from_residual-in_err-next-2.result _ p.1
     (c.in_err-next-2.ensures.turned play (c.loop-left.left - c.in_ok-next.made) at.0 at.1 gone.own gone.made gone.played)
 
 pub loop-left-smaller : goal.loop-left-smaller
@@ -100,8 +96,8 @@ loop-left-smaller g c =
 
 pub loop-left-preserved : goal.loop-left-preserved
 loop-left-preserved g c =
-    let before = g.C.Console.session c.args.console.now in
-    let now = g.C.Console.session c.loop-left.console in
+    let before = outside (g.D.Depot.files c.args.depot.now) (g.C.Console.session c.args.console.now) in
+    let now = outside (g.D.Depot.files c.loop-left.depot) (g.C.Console.session c.loop-left.console) in
     let play : Play = record { program = c.args.machine.program; steps = c.args.steps; width = c.args.screen.now.page.width; before = before } in
     let at = c.loop-left.invariant.turned in
     let bound = c.in_ok-next.ensures.bound in
@@ -111,15 +107,16 @@ loop-left-preserved g c =
     record {
       turned =
           as-goes play (c.loop-left.left - c.in_ok-next.made) c.make_turn.new.screen c.make_turn.new.lines
-          (g.C.Console.session c.make_turn.new.console) c.in_ok-next-2.field-0 c.in-Goes.next c.in-Goes.is
+          (outside (g.D.Depot.files c.make_turn.new.depot) (g.C.Console.session c.make_turn.new.console)) c.in_ok-next-2.field-0 c.in-Goes.next c.in-Goes.is
           (c.in_ok-next-2.ensures.turned play (c.loop-left.left - c.in_ok-next.made) at.0 at.1 gone.own gone.made gone.played);
-      faults = c.in_ok-next-2.ensures.cause ∙ c.loop-left.invariant.faults;
+      depot = c.in_ok-next-2.ensures.depot ∙ c.loop-left.invariant.depot;
+      console = c.in_ok-next-2.ensures.console ∙ c.loop-left.invariant.console;
     }
 
 pub returns-in-Stops-clause-ended : goal.returns-in-Stops-clause-ended
 returns-in-Stops-clause-ended g c =
-    let before = g.C.Console.session c.args.console.now in
-    let now = g.C.Console.session c.loop-left.console in
+    let before = outside (g.D.Depot.files c.args.depot.now) (g.C.Console.session c.args.console.now) in
+    let now = outside (g.D.Depot.files c.loop-left.depot) (g.C.Console.session c.loop-left.console) in
     let play : Play = record { program = c.args.machine.program; steps = c.args.steps; width = c.args.screen.now.page.width; before = before } in
     let at = c.loop-left.invariant.turned in
     let bound = c.in_ok-next.ensures.bound in
@@ -127,20 +124,14 @@ returns-in-Stops-clause-ended g c =
     at-gone play c.loop-left.left c.in_ok-next.made (c.loop-left.left - c.in_ok-next.made) c.loop-left.machine c.in_ok-next.next c.in_ok-next.event
     at.0 c.loop-left.screen.out.items c.loop-left.lines now (omega (arith, bound)) c.in_ok-next.ensures.program c.in_ok-next.ensures.goes at.2 in
     as-stops play (c.loop-left.left - c.in_ok-next.made) c.make_turn.new.screen c.make_turn.new.lines
-    (g.C.Console.session c.make_turn.new.console) c.in_ok-next-2.field-0 c.in-Stops.stop c.in-Stops.is
+    (outside (g.D.Depot.files c.make_turn.new.depot) (g.C.Console.session c.make_turn.new.console)) c.in_ok-next-2.field-0 c.in-Stops.last c.in-Stops.stop c.in-Stops.is
     (c.in_ok-next-2.ensures.turned play (c.loop-left.left - c.in_ok-next.made) at.0 at.1 gone.own gone.made gone.played)
-
-pub returns-in-Stops-clause-cause : goal.returns-in-Stops-clause-cause
-returns-in-Stops-clause-cause g c = c.in_ok-next-2.ensures.cause ∙ c.loop-left.invariant.faults
 
 pub returns-clause-ended : goal.returns-clause-ended
 returns-clause-ended g c =
-    let before = g.C.Console.session c.args.console.now in
+    let before = outside (g.D.Depot.files c.args.depot.now) (g.C.Console.session c.args.console.now) in
     let play : Play = record { program = c.args.machine.program; steps = c.args.steps; width = c.args.screen.now.page.width; before = before } in
     let at = c.loop-left.invariant.turned in
     let test = c.loop-left-test.false in
-    at-last play c.loop-left.left c.loop-left.machine c.loop-left.screen at.0 c.loop-left.lines (g.C.Console.session c.loop-left.console)
+    at-last play c.loop-left.left c.loop-left.machine c.loop-left.screen at.0 c.loop-left.lines (outside (g.D.Depot.files c.loop-left.depot) (g.C.Console.session c.loop-left.console))
     (omega (arith, test)) at.1 at.2
-
-pub returns-clause-cause : goal.returns-clause-cause
-returns-clause-cause g c = c.loop-left.invariant.faults

@@ -1,17 +1,18 @@
-use Rattle.std.proofs.Common.{◌≡◌, ℕ, List, IfOk, ap, subst, refl}
+use Rattle.std.proofs.Common.{◌≡◌, ℕ, List, IfOk, Some, ap, subst, refl}
 use Rattle.std.specs.Global.{Vec}
 use Rattle.std.specs.Prelude.{string_bytes}
 use Rattle.t3_cli.specs.declared.images.read.ReadImage.TheVariants as read
 use Rattle.t3_cli.specs.declared.status.Status.TheVariants.{Done, Absent, ImageRefused, SourceRefused}
 use Rattle.t3_cli.specs.Lines.{absent_line, refused_line, bad_line}
 use Rattle.t3_cli.specs.BlockLines.{totals_text, check_text, show_text}
-use Rattle.t3_cli.specs.Command.{Check, Show, Run, Rewrite, Listing, Asm}
+use Rattle.t3_words.specs.Command.{Check, Show, Run, Rewrite, Listing, Asm, Drill, RunOptions, command_value, options_value, default_options}
+use Rattle.t3_drill.specs.Drill.{drill_actions}
 use Rattle.t3_asm.specs.Listing.{listing}
 use Rattle.t3_image_read.specs.ImageText.{text}
-use Rattle.t3_cli.specs.Outcome.{putting, written_text, input_of}
-use Rattle.t3_cli.specs.Command.{command_value, options_value}
-use Rattle.t3_cli.specs.Inner.Parsing.{file_of, out_of}
-use Rattle.t3_cli.specs.Inner.Following.{Follows}
+use Rattle.t3_cli.specs.Plan.{written_text}
+use Rattle.t3_cli.specs.Outcome.{putting, IsRunOutcome}
+use Rattle.t3_words.specs.Input.{input_of, file_of, out_of}
+use Rattle.t3_cli.specs.Inner.Following.{Follows, FollowsSome}
 use Rattle.t3_cli.specs.Inner.Wanted.{wanted_of, IsAsWanted}
 use Rattle.t3_cli.proofs.Followed.{line_matched, put_matched, matched_follows, counts, writes}
 use Rattle.t3_cli.proofs.commands.carry.act.Goals as goal
@@ -70,7 +71,7 @@ returns-in-Asm-clause-follows g c =
 pub returns-in-Run-clause-follows : goal.returns-in-Run-clause-follows
 returns-in-Run-clause-follows g c =
     matched_follows (command_value c.args.command) (Run c.in-Run.image.now (options_value c.in-Run.options)) c.args.read (read.Image c.in-Image.image)
-    (g.D.Depot.files c.args.depot.now) _ _ _ c.launch.result (ap command_value c.in-Run.is) c.in-Image.is (c.launch.ensures.follows (g.D.Depot.files c.args.depot.now))
+    (g.D.Depot.files c.args.depot.now) _ _ _ c.launch.result (ap command_value c.in-Run.is) c.in-Image.is c.launch.ensures.follows
 
 pub returns-in-Rewrite-clause-follows : goal.returns-in-Rewrite-clause-follows
 returns-in-Rewrite-clause-follows g c =
@@ -92,3 +93,17 @@ returns-in-Rewritten-clause-follows g c =
     put_matched command command c.args.read (read.Rewritten c.in-Rewritten.mask c.in-Rewritten.text) (putting (out_of command) written) (g.D.Depot.files c.args.depot.now) _ _ _
     c.put_and_show.result refl c.in-Rewritten.is
     (λ input. (wants, writes command c.in-Rewritten.mask written wants)) follows
+
+pub returns-in-Drill-clause-follows : goal.returns-in-Drill-clause-follows
+returns-in-Drill-clause-follows g c =
+    let files = g.D.Depot.files c.args.depot.now in
+    let left = g.D.Depot.files c.launch-in-Drill.new.depot in
+    let before = g.C.Console.session c.args.console.now in
+    let after = g.C.Console.session c.launch-in-Drill.new.console in
+    let Launched : RunOptions → ℕ → Type 0 =
+    λ options actions. FollowsSome (IsRunOutcome options (Some actions) c.in-Image.image) files left before after c.launch-in-Drill.result in
+    let follows : Launched default_options (drill_actions c.in-Drill.number) =
+    subst (λ (options : RunOptions). Launched options (drill_actions c.in-Drill.number)) c.defaults-options.ensures.options
+    (subst (Launched (options_value c.defaults-options.result)) c.drill_actions.ensures c.launch-in-Drill.ensures.follows) in
+    matched_follows (command_value c.args.command) (Drill c.in-Drill.number) c.args.read (read.Image c.in-Image.image) files left before after
+    c.launch-in-Drill.result (ap command_value c.in-Drill.is) c.in-Image.is follows

@@ -1,6 +1,6 @@
 use Rattle.std.proofs.Common.{Some, Option, subst}
 use Rattle.t3_io.specs.Files.{Files}
-use Rattle.t3_cli.specs.Command.{command_value}
+use Rattle.t3_words.specs.Command.{command_value}
 use Rattle.t3_cli.specs.Inner.Following.{FollowsSome, IsReadOutcome}
 use Rattle.t3_cli.proofs.Answered.{read_answers, untouched_answers, follows_some, some_nothing, follows_not_usage}
 use Rattle.t3_cli.proofs.commands.carry.carry_out.Goals as goal

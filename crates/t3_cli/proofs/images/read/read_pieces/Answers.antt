@@ -1,6 +1,7 @@
 use Rattle.std.proofs.Common.{◌≤◌, length, ap, ◌∙◌, arith, rules}
 use Rattle.t3_io.specs.declared.depot.Got.TheVariants as got
-use Rattle.t3_cli.proofs.FileRead.{begins_reading, reads_more, reads_ended, reads_limit, reads_absent, piece_is, count_within}
+use Rattle.t3_files.proofs.Pieces.{piece_is, count_within}
+use Rattle.t3_cli.proofs.FileRead.{begins_reading, reads_more, reads_ended, reads_limit, reads_absent}
 use Rattle.t3_cli.proofs.Digested.{digests_none}
 use Rattle.t3_cli.proofs.images.read.read_pieces.Goals as goal
 

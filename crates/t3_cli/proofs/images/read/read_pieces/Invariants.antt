@@ -1,5 +1,5 @@
 use Rattle.std.proofs.Common.{◌≡◌, ◌-◌, ◌≤◌}
-use Rattle.t3_cli.specs.Outcome.{read_limit}
+use Rattle.t3_files.specs.Reading.{read_limit}
 use Rattle.t3_cli.specs.Inner.Reading.{HasRead, Digests}
 use Rattle.t3_cli.proofs.images.read.read_pieces.Given as goal
 

@@ -1,0 +1,149 @@
+//! Files that are no states of the image.
+use crate::story::{first_unlike, run_in, story_beside};
+use sha2::{Digest, Sha256};
+use std::alloc::Global;
+use std::test::Fail;
+use t3_io::SureDepot;
+use t3_testing::Row;
+
+/// The same tests as of a save, and then whether the file is there.
+const NAMES: [Row; 6] = [
+    (
+        "pushstr @empty / builtin_a 1 16",
+        "[unhandled object=3 fault=17]\n",
+    ),
+    (
+        "pushstr @long / builtin_a 1 16",
+        "[unhandled object=3 fault=17]\n",
+    ),
+    (
+        "pushstr 99999 / builtin_a 1 16",
+        "[unhandled object=3 fault=21]\n",
+    ),
+    ("push_1 / builtin_a 1 16", "[unhandled object=3 fault=3]\n"),
+    ("builtin_a 0 16", "[unhandled object=3 fault=2]\n"),
+    (
+        "pushstr @most / builtin_a 1 16",
+        "[unhandled object=3 fault=18]\n",
+    ),
+];
+
+#[test]
+fn restores_no_other_names(rt: HostRuntime) -> Result<(), Fail> {
+    assert_eq!(rt; first_unlike(rt.alloc(), &NAMES)?, None);
+    Ok(())
+}
+
+/// A story that saves where it is given a line, and else restores, and says what object 1 has then.
+const SAVES_OR_RESTORES: &str =
+    "builtin_b 0 4 / getr0 / jf @next / pushstr @name / builtin_a 1 15 / retnil / next: / pushint8 6 / \
+     objsetprop 1 3 / pushstr @name / builtin_a 1 16 / objgetprop 1 3 / getr0 / call 1 @show / retnil";
+
+/// A transient object of number 3.
+const TRANSIENT_3: &str = "block \"OBJS\" 1 / objects 0 2 / object 3 / u2 0 / u2 0 / u2 0";
+
+/// A block without meaning.
+const KEPT: &str = "block \"BODY\" 0";
+
+/// The state that this story saves, beside a block.
+fn saved(alloc: Global, block: &str) -> Result<Vec<u8>, Fail> {
+    let mut depot = SureDepot::new(alloc);
+    depot.keep(b"a.t3", &story_beside(alloc, block, SAVES_OR_RESTORES)?)?;
+    let (_, _) = run_in(alloc, &mut depot, b"x\n")?;
+    Ok(Vec::from_slice(alloc, depot.file(b"s.sav").unwrap_or(b""))?)
+}
+
+/// What it shows where it restores these bytes.
+fn restored(alloc: Global, block: &str, state: &[u8]) -> Result<Vec<u8>, Fail> {
+    let mut depot = SureDepot::new(alloc);
+    depot.keep(b"a.t3", &story_beside(alloc, block, SAVES_OR_RESTORES)?)?;
+    depot.keep(b"s.sav", state)?;
+    let (_, shown) = run_in(alloc, &mut depot, b"")?;
+    Ok(shown)
+}
+
+/// The state with other bits in a byte at a place.
+fn changed(alloc: Global, state: &[u8], at: usize, bits: u8) -> Result<Vec<u8>, Fail> {
+    let mut bytes = Vec::from_slice(alloc, state)?;
+    if let Some(byte) = bytes.get_mut(at) {
+        *byte ^= bits;
+    }
+    Ok(bytes)
+}
+
+/// The same, with the digest of that.
+fn forged(alloc: Global, state: &[u8], at: usize, bits: u8) -> Result<Vec<u8>, Fail> {
+    let before = state.get(..state.len().saturating_sub(32)).unwrap_or(b"");
+    let mut bytes = changed(alloc, before, at, bits)?;
+    let mut hasher = Sha256::new();
+    hasher.update(&bytes);
+    bytes.extend_from_slice(&hasher.finalize())?;
+    Ok(bytes)
+}
+
+const REFUSED: &[u8] = b"[unhandled object=3 fault=19]\n";
+
+/// The signature, the version, the fingerprint, and then the digest.
+#[test]
+fn refuses_each_part(rt: HostRuntime) -> Result<(), Fail> {
+    let alloc = rt.alloc();
+    let state = saved(alloc, KEPT)?;
+    let end = state.len();
+    assert_eq!(rt;
+        restored(alloc, KEPT, &state)?.as_slice(),
+        b"nil\n".as_slice()
+    );
+    for at in [
+        0,
+        8,
+        10,
+        41,
+        42,
+        46,
+        end.saturating_sub(33),
+        end.saturating_sub(1),
+    ] {
+        let shown = restored(alloc, KEPT, &changed(alloc, &state, at, 1)?)?;
+        assert_eq!(rt; shown.as_slice(), REFUSED, "{at}");
+    }
+    for size in [0, 7, 9, 41, 73, end.saturating_sub(1)] {
+        let shown = restored(alloc, KEPT, state.get(..size).unwrap_or(b""))?;
+        assert_eq!(rt; shown.as_slice(), REFUSED, "{size}");
+    }
+    Ok(())
+}
+
+/// A digest that is right doesn't make a state of bytes that spell none: here more objects than there are.
+#[test]
+fn refuses_what_is_malformed(rt: HostRuntime) -> Result<(), Fail> {
+    let alloc = rt.alloc();
+    let state = saved(alloc, KEPT)?;
+    let malformed = forged(alloc, &state, 46, 1)?;
+    assert_eq!(rt; restored(alloc, KEPT, &malformed)?.as_slice(), REFUSED);
+    Ok(())
+}
+
+/// The line that the story got is the last object of its state, number 4 beside a transient object. As number 3 it
+/// would be that one.
+#[test]
+fn refuses_the_number_of_a_transient_object(rt: HostRuntime) -> Result<(), Fail> {
+    let alloc = rt.alloc();
+    let state = saved(alloc, TRANSIENT_3)?;
+    assert_eq!(rt;
+        restored(alloc, TRANSIENT_3, &state)?.as_slice(),
+        b"nil\n".as_slice()
+    );
+    let clash = forged(alloc, &state, state.len().saturating_sub(40), 7)?;
+    let shown = restored(alloc, TRANSIENT_3, &clash)?;
+    assert_eq!(rt;
+        shown.as_slice(),
+        b"[unhandled object=4 fault=19]\n".as_slice()
+    );
+    // Without such an object it may have the number.
+    let other = forged(alloc, &saved(alloc, KEPT)?, 42, 0)?;
+    assert_eq!(rt;
+        restored(alloc, KEPT, &other)?.as_slice(),
+        b"nil\n".as_slice()
+    );
+    Ok(())
+}
