@@ -66,6 +66,7 @@ bench: build/t3 build/t3_page build/t3_store_bench
 	bench/rewrite
 	bench/run
 	bench/say
+	bench/state
 	bench/store
 	bench/undo
 

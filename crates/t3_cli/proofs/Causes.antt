@@ -6,9 +6,9 @@ use Rattle.t3_io.specs.Session.{Session}
 use Rattle.t3_image_read.specs.ImageText.{ImageValue}
 use Rattle.t3_asm.specs.declared.refusal.AsmRefusal.{AsmRefusal}
 use Rattle.t3_cli.specs.declared.status.Status.{Status}
-use Rattle.t3_cli.specs.declared.status.Status.TheVariants.{Done, Usage, Absent, ImageRefused, LoadRefused, Unhandled, BadCode, StoreFull, StepLimit, InputLimit, SourceRefused, DepotFault, ConsoleFault, NoMemory}
+use Rattle.t3_cli.specs.declared.status.Status.TheVariants.{Done, Usage, Absent, ImageRefused, LoadRefused, SourceRefused, DepotFault, ConsoleFault, NoMemory}
 use Rattle.t3_run.specs.declared.stop.Stop.{Stop}
-use Rattle.t3_run.specs.declared.stop.Stop.TheVariants.{Ends, NoStep, NoLine}
+use Rattle.t3_run.specs.declared.stop.Stop.TheVariants.{Ends}
 use Rattle.t3_interp.specs.declared.event.End.TheVariants as ends
 use Rattle.t3_words.specs.Command.{CommandValue, RunOptions}
 use Rattle.t3_cli.specs.Lines.{absent_line, refused_line, bad_line, load_line}
@@ -31,12 +31,8 @@ HasCause status command files input = (status ≡ Done) ⊎ CommandCause status 
 -- a run stops by the status of its stop
 stop_cause : (stop : Stop) (command : CommandValue) (files : Files) (input : List ℕ) → EndsBy (status_of stop) command files input
     → HasCause (status_of stop) command files input
-stop_cause NoStep command files input by = inr by
-stop_cause NoLine command files input by = inr by
 stop_cause (Ends ends.Returned) command files input by = inl refl
-stop_cause (Ends (ends.Unhandled object fault)) command files input by = inr by
-stop_cause (Ends (ends.BadCode at cause)) command files input by = inr by
-stop_cause (Ends ends.StoreFull) command files input by = inr by
+stop_cause stop command files input by = inr by
 
 -- what a plan gives
 plan_cause : (command : CommandValue) (image : ImageValue) (files : Files) (input : List ℕ) (outcome : Outcome) (plan : Plan)
@@ -223,14 +219,10 @@ command_status ImageRefused command files input cause =
 command_status SourceRefused command files input cause =
     of_input SourceRefused command files input (bad_status command (input_of command) files input cause)
 command_status LoadRefused command files input cause = unloaded_status command files input cause
-command_status Unhandled command files input cause = ends_status Unhandled command files input cause
-command_status BadCode command files input cause = ends_status BadCode command files input cause
-command_status StoreFull command files input cause = ends_status StoreFull command files input cause
-command_status StepLimit command files input cause = ends_status StepLimit command files input cause
-command_status InputLimit command files input cause = ends_status InputLimit command files input cause
 command_status DepotFault command files input cause = absurd cause
 command_status ConsoleFault command files input cause = absurd cause
 command_status NoMemory command files input cause = absurd cause
+command_status status command files input cause = ends_status status command files input cause
 
 words_status : (status : Status) (command : Option CommandValue) (files : Files) (input : List ℕ) → WordsCause status command files input
     → HasStatus status command files input
@@ -283,19 +275,7 @@ other_cause status other command files input outcome result = (only, by_cause st
 
 cause_of : (status : Status) → IsCauseOf status
 cause_of Done = done_cause
-cause_of Usage = other_cause Usage (λ e. absurd cc)
-cause_of Absent = other_cause Absent (λ e. absurd cc)
-cause_of ImageRefused = other_cause ImageRefused (λ e. absurd cc)
-cause_of LoadRefused = other_cause LoadRefused (λ e. absurd cc)
-cause_of Unhandled = other_cause Unhandled (λ e. absurd cc)
-cause_of BadCode = other_cause BadCode (λ e. absurd cc)
-cause_of StoreFull = other_cause StoreFull (λ e. absurd cc)
-cause_of StepLimit = other_cause StepLimit (λ e. absurd cc)
-cause_of InputLimit = other_cause InputLimit (λ e. absurd cc)
-cause_of SourceRefused = other_cause SourceRefused (λ e. absurd cc)
-cause_of DepotFault = other_cause DepotFault (λ e. absurd cc)
-cause_of ConsoleFault = other_cause ConsoleFault (λ e. absurd cc)
-cause_of NoMemory = other_cause NoMemory (λ e. absurd cc)
+cause_of status = other_cause status (λ e. absurd cc)
 
 -- what was answered has its cause
 pub exact_cause : (status : Status) (command : Option CommandValue) (files : Files) (before : Option Session) (answer : Status) (left : Option Files) (after : Option Session)

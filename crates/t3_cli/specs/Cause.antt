@@ -1,4 +1,4 @@
--- The cause of each answer: a table with a line a status.
+-- The cause of each answer: a table with a line a status, and one for all by which runs stop.
 use Rattle.std.specs.Prelude.{◌≡◌, ℕ, List, Option, Some, None, Ok, Err}
 use Rattle.std.specs.FinMap.{get}
 use Rattle.t3_io.specs.Files.{Files}
@@ -6,7 +6,7 @@ use Rattle.t3_image_read.specs.ImageText.{ImageValue}
 use Rattle.t3_image_read.specs.Refusal.{IsRefused}
 use Rattle.t3_asm.specs.declared.refusal.AsmRefusal.{AsmRefusal}
 use Rattle.t3_cli.specs.declared.status.Status.{Status}
-use Rattle.t3_cli.specs.declared.status.Status.TheVariants.{Done, Usage, Absent, ImageRefused, LoadRefused, Unhandled, BadCode, StoreFull, StepLimit, InputLimit, SourceRefused, DepotFault, ConsoleFault, NoMemory}
+use Rattle.t3_cli.specs.declared.status.Status.TheVariants.{Done, Usage, Absent, ImageRefused, SourceRefused, LoadRefused, DepotFault, ConsoleFault, NoMemory}
 use Rattle.t3_words.specs.Command.{CommandValue, RunOptions}
 use Rattle.t3_load.specs.declared.refusal.LoadRefusal.{LoadRefusal as LoadWhy}
 use Rattle.t3_run.specs.Run.{Ran}
@@ -58,22 +58,19 @@ EndsBy status command files input =
     (image : ImageValue) × (options : RunOptions) × (ran : Ran) × RunsInput command files image options
     × RunsImage image options (Some files) input ran × (status_of ran.stop ≡ status)
 
--- why a command isn't done; a failing device and want of memory have no cause here
+-- why a command isn't done: each status that isn't told of here is one by which runs stop; a failing device and want of memory have no cause
+-- here
 abbrev pub CommandCause : Status → CommandValue → Files → List ℕ → Type 0
 CommandCause Done command files input = ⊥
 CommandCause Usage command files input = ⊥
 CommandCause Absent command files input = IsAbsent (input_of command) files
 CommandCause ImageRefused command files input = IsRefusedImage (input_of command) files
-CommandCause LoadRefused command files input = IsUnloadable command files
-CommandCause Unhandled command files input = EndsBy Unhandled command files input
-CommandCause BadCode command files input = EndsBy BadCode command files input
-CommandCause StoreFull command files input = EndsBy StoreFull command files input
-CommandCause StepLimit command files input = EndsBy StepLimit command files input
-CommandCause InputLimit command files input = EndsBy InputLimit command files input
 CommandCause SourceRefused command files input = IsRefusedSource (input_of command) files
+CommandCause LoadRefused command files input = IsUnloadable command files
 CommandCause DepotFault command files input = ⊥
 CommandCause ConsoleFault command files input = ⊥
 CommandCause NoMemory command files input = ⊥
+CommandCause status command files input = EndsBy status command files input
 
 -- why the words aren't carried out: they are no command, or the command isn't done
 abbrev pub WordsCause : Status → Option CommandValue → Files → List ℕ → Type 0

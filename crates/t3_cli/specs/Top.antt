@@ -1,5 +1,5 @@
 -- What the one public call promises of its answers and of the devices.
-use Rattle.std.specs.Prelude.{◌≡◌, ℕ, ◌⊎◌, List, [], ◌++◌, Option, Some}
+use Rattle.std.specs.Prelude.{◌≡◌, ℕ, ◌<◌, ◌⊎◌, List, [], ◌++◌, Option, Some}
 use Rattle.t3_io.specs.Files.{Files}
 use Rattle.t3_io.specs.Session.{Session}
 use Rattle.t3_run.specs.Act.{Act, shown_by, files_by, StopsIn}
@@ -16,6 +16,10 @@ CutsShort DepotFault = Unit {0}
 CutsShort ConsoleFault = Unit {0}
 CutsShort NoMemory = Unit {0}
 CutsShort _ = ⊥
+
+-- a fault is answered exactly where the device counted one in the call
+abbrev pub CountsFaults : Type 0 → ℕ → ℕ → Type 0
+CountsFaults IsFault before after = (IsFault → before < after) × (IsFault ⊎ (after ≡ before))
 
 -- more was shown, and a prefix of the input was taken, of so many bytes at most as a run takes
 abbrev pub MovesSome : Option Session → Option Session → Type 0

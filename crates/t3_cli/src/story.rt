@@ -1,8 +1,9 @@
 //! Carries out the story that an image is.
-ghost use Rattle.std.specs.Prelude.{◌≡◌, ◌≢◌, ◌⊎◌, ◌<◌, ◌-◌, ◌^◌};
+ghost use Rattle.std.specs.Prelude.{◌≡◌, ◌≢◌, ◌<◌, ◌-◌, ◌^◌};
 ghost use Rattle.t3_load.specs.Loading.{Loads};
 ghost use Rattle.t3_cli.specs.Outcome.{IsRunOutcome, fingerprint_of, run_limits, status_of as status_by};
 ghost use Rattle.t3_cli.specs.Lines.{load_line};
+ghost use Rattle.t3_cli.specs.Top.{CountsFaults};
 ghost use Rattle.t3_words.specs.Command.{AreWithin, options_value};
 ghost use Rattle.t3_cli.specs.Inner.Showing.{ShowsOrWants};
 ghost use Rattle.t3_cli.specs.Inner.Following.{FollowsSome, IsProgramOutcome, IsClosed};
@@ -42,12 +43,8 @@ pub(crate) fn launch<D: Depot, C: Console>(
     ensures follows { FollowsSome (IsRunOutcome (options_value options) actions image)
         (D.files depot.old) (D.files depot.new) (C.session console.old) (C.session console.new)
         result }
-    ensures depot_fault { result ≡ Status.DepotFault → D.faults depot.old < D.faults depot.new }
-    ensures depot_rise { (result ≡ Status.DepotFault) ⊎ (D.faults depot.new ≡ D.faults depot.old) }
-    ensures console_fault { result ≡ Status.ConsoleFault → C.faults console.old < C.faults
-        console.new }
-    ensures console_rise { (result ≡ Status.ConsoleFault) ⊎
-        (C.faults console.new ≡ C.faults console.old) }
+    ensures depot { CountsFaults (result ≡ Status.DepotFault) (D.faults depot.old) (D.faults depot.new) }
+    ensures console { CountsFaults (result ≡ Status.ConsoleFault) (C.faults console.old) (C.faults console.new) }
 {
     match program_of(alloc, image, fingerprint, options) {
         Ok(program) => play(alloc, program, options, actions, depot, console),
@@ -81,8 +78,7 @@ fn unloaded<C: Console>(alloc: Global, why: LoadRefusal, console: &mut C) -> Sta
         → (result ≡ Status.NoMemory) × (C.session console.new ≡ C.session console.old) }
     ensures shown { why ≢ LoadRefusal.NoMemory → ShowsOrWants (C.session console.old)
         (C.session console.new) (load_line why) Status.LoadRefused result }
-    ensures fault { result ≡ Status.ConsoleFault → C.faults console.old < C.faults console.new }
-    ensures rise { (result ≡ Status.ConsoleFault) ⊎ (C.faults console.new ≡ C.faults console.old) }
+    ensures console { CountsFaults (result ≡ Status.ConsoleFault) (C.faults console.old) (C.faults console.new) }
     ensures no_depot { result ≢ Status.DepotFault }
 {
     match why {
@@ -110,12 +106,8 @@ fn play<D: Depot, C: Console>(
     ensures follows { FollowsSome (IsProgramOutcome program (options_value options) actions)
         (D.files depot.old) (D.files depot.new) (C.session console.old) (C.session console.new)
         result }
-    ensures depot_fault { result ≡ Status.DepotFault → D.faults depot.old < D.faults depot.new }
-    ensures depot_rise { (result ≡ Status.DepotFault) ⊎ (D.faults depot.new ≡ D.faults depot.old) }
-    ensures console_fault { result ≡ Status.ConsoleFault → C.faults console.old < C.faults
-        console.new }
-    ensures console_rise { (result ≡ Status.ConsoleFault) ⊎
-        (C.faults console.new ≡ C.faults console.old) }
+    ensures depot { CountsFaults (result ≡ Status.DepotFault) (D.faults depot.old) (D.faults depot.new) }
+    ensures console { CountsFaults (result ≡ Status.ConsoleFault) (C.faults console.old) (C.faults console.new) }
 {
     match run(alloc, program, options.steps, options.width, depot, console) {
         Ok(end) => closed(alloc, end, actions, console),
@@ -129,8 +121,7 @@ fn play<D: Depot, C: Console>(
 fn closed<C: Console>(alloc: Global, end: RunEnd, actions: Option<u32>, console: &mut C) -> Status
     requires { C.faults console.old < 2 ^ 64 - 1 }
     ensures closed { IsClosed (C.session console.old) (C.session console.new) actions end result }
-    ensures fault { result ≡ Status.ConsoleFault → C.faults console.old < C.faults console.new }
-    ensures rise { (result ≡ Status.ConsoleFault) ⊎ (C.faults console.new ≡ C.faults console.old) }
+    ensures console { CountsFaults (result ≡ Status.ConsoleFault) (C.faults console.old) (C.faults console.new) }
     ensures no_depot { result ≢ Status.DepotFault }
 {
     let status = status_of(end.stop);

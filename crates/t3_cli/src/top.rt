@@ -1,5 +1,5 @@
 //! The one call that the program makes.
-ghost use Rattle.std.specs.Prelude.{◌≡◌, ◌<◌, ◌-◌, ◌^◌, ◌⊎◌, List, ℕ, Option, None, IfSome, map, string_bytes};
+ghost use Rattle.std.specs.Prelude.{◌≡◌, ◌<◌, ◌-◌, ◌^◌, List, ℕ, Option, None, IfSome, map, string_bytes};
 ghost use Rattle.t3_io.specs.Files.{Files};
 ghost use Rattle.t3_cli.specs.declared.status.Status.{Status as AnyStatus};
 ghost use Rattle.t3_words.specs.Command.{CommandValue};
@@ -7,7 +7,7 @@ ghost use Rattle.t3_words.specs.Verbs.{command_of};
 ghost use Rattle.t3_cli.specs.Lines.{usage_line};
 ghost use Rattle.t3_cli.specs.Outcome.{Outcome, IsResult, HoldBytes};
 ghost use Rattle.t3_cli.specs.Cause.{Cause};
-ghost use Rattle.t3_cli.specs.Top.{CutsShort, HasExactCause, IsWhole, IsCut, IsShown, MovesSome};
+ghost use Rattle.t3_cli.specs.Top.{CountsFaults, CutsShort, HasExactCause, IsWhole, IsCut, IsShown, MovesSome};
 
 use crate::commands::carry::carry_out;
 use crate::console::end_with;
@@ -75,12 +75,8 @@ pub fn t3_main<D: Depot, C: Console>(
     ensures moved { MovesSome (C.session console.old) (C.session console.new) }
 
     // A fault is answered exactly where one was counted.
-    ensures depot_fault { result ≡ Status.DepotFault → D.faults depot.old < D.faults depot.new }
-    ensures depot_rise { (result ≡ Status.DepotFault) ⊎ (D.faults depot.new ≡ D.faults depot.old) }
-    ensures console_fault { result ≡ Status.ConsoleFault → C.faults console.old < C.faults
-        console.new }
-    ensures console_rise { (result ≡ Status.ConsoleFault) ⊎
-        (C.faults console.new ≡ C.faults console.old) }
+    ensures depot { CountsFaults (result ≡ Status.DepotFault) (D.faults depot.old) (D.faults depot.new) }
+    ensures console { CountsFaults (result ≡ Status.ConsoleFault) (C.faults console.old) (C.faults console.new) }
 {
     match Command::parse(words) {
         None => end_with(console, lines::USAGE, Status::Usage),

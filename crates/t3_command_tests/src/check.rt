@@ -3,7 +3,9 @@ use std::alloc::Global;
 use std::process::Abort;
 use std::test::Fail;
 use t3_cli::Status;
-use t3_testing::{END, ENTRY, FUNCTIONS, METHOD, POOL, SAYS_42, code_page, image, outcome};
+use t3_testing::{
+    END, ENTRY, FUNCTIONS, METHOD, POOL, SAYS_42, code_image, code_page, image, outcome,
+};
 
 /// What `check` shows and answers of a file.
 fn check_outcome(
@@ -115,4 +117,25 @@ fn checks_the_blocks_of_a_running_image(rt: HostRuntime) -> Result<(), Fail> {
         assert_eq!(rt; shown.as_slice(), wanted.as_bytes());
     }
     Ok(())
+}
+
+/// The image of a story that says 42, cut to each length: the place is that of the header or of the block that isn't
+/// whole.
+#[test]
+fn refuses_an_image_that_is_cut(rt: HostRuntime) -> Result<(), Fail> {
+    let alloc = rt.alloc();
+    let file = code_image(alloc, &[ENTRY, POOL, FUNCTIONS], METHOD, SAYS_42)?;
+    assert_eq!(rt; file.len(), 185);
+    let places = [0, 69, 95, 115, 142, 175];
+    let ends = [69, 95, 115, 142, 175, 185];
+    let mut start = 0;
+    for (place, end) in places.iter().zip(ends.iter()) {
+        let want = format!(in alloc; "refused Truncated at {place}\n")?;
+        for length in start..*end {
+            let cut = file.get(..length).unwrap_or(b"");
+            check_outcome(&rt, alloc, cut, want.as_str(), Status::ImageRefused)?;
+        }
+        start = *end;
+    }
+    check_outcome(&rt, alloc, &file, "ok blocks=5 bytes=185\n", Status::Done)
 }

@@ -1,4 +1,5 @@
 //! Reads files piece by piece.
+ghost use Rattle.std.specs.List.{All};
 ghost use Rattle.std.specs.Prelude.{◌≡◌, ◌≤◌, ◌<◌, ◌-◌, ◌^◌, [], length, IfOk};
 ghost use Rattle.t3_holder.specs.FileName.{IsFileName};
 ghost use Rattle.t3_io.specs.Cause.{MovesFaults};
@@ -82,7 +83,8 @@ pub fn read_piece<D: Depot>(
 
 /// So many bytes of 0.
 pub fn zeroed(alloc: Global, size: usize) -> Result<Vec<u8>, AllocError>
-    ensures { IfOk result (λ buf. length buf.items ≡ size) }
+    ensures size { IfOk result (λ buf. length buf.items ≡ size) }
+    ensures zeros { IfOk result (λ buf. All (λ byte. byte ≡ 0) buf.items) }
 {
     vec![in alloc; 0; size]
 }

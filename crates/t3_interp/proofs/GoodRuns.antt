@@ -19,7 +19,8 @@ use Rattle.t3_interp.specs.declared.event.Input.TheVariants as inputs
 use Rattle.t3_interp.specs.declared.event.Want.{Want}
 use Rattle.t3_interp.specs.declared.event.Want.TheVariants as wants
 use Rattle.t3_interp.specs.declared.running.Running.{Running}
-use Rattle.t3_interp.specs.Step.{StepsBy, IsWanted, state_of, comes_to, after_admit}
+use Rattle.t3_interp.specs.Step.{StepsBy, IsWanted, after_admit}
+use Rattle.t3_interp.specs.View.{state_of, comes_to}
 use Rattle.t3_interp.specs.Good.{IsGoodInput}
 use Rattle.t3_interp.specs.Inner.Acting.{IsGoodRun, HasGone, Tells}
 use Rattle.t3_interp.proofs.GoodSteps.{good-steps, good-by}

@@ -14,3 +14,5 @@ mod GoodEffects
 mod GoodSteps
 mod GoodRuns
 mod GoodProgram
+mod GoodSaved
+mod SavedTaken

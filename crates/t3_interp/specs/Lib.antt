@@ -1,6 +1,7 @@
 pub mod Machine
 pub mod Instructions
 pub mod Step
+pub mod View
 pub mod Catching
 pub mod Wanting
 pub mod Steady

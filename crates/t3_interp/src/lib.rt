@@ -31,7 +31,7 @@ mod step;
 mod superinstruction;
 
 pub use event::{End, Event, Input, Want};
-pub use laws::{one_cover, steps_stay_good, undo_takes_back};
+pub use laws::{one_cover, saved_states_are_taken, steps_stay_good, undo_takes_back};
 pub use machine::Machine;
 pub use t3_frame_instructions::CodeWhy;
 pub use t3_kinds::search_order;

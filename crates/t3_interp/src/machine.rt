@@ -1,10 +1,12 @@
 //! The machine: a program, and the state of its run.
 ghost use Rattle.std.specs.Prelude.{◌≡◌, ◌+◌, ◌<◌, ◌≤◌, ◌^◌, IfOk, IsOk, length};
 ghost use Rattle.t3_store.specs.Store.{changed_cells};
+ghost use Rattle.t3_snapshot.specs.State.{IsSoundState, trimmed};
 ghost use Rattle.t3_interp.specs.declared.event.Event.TheVariants.{Went};
 ghost use Rattle.t3_interp.specs.declared.event.Want.TheVariants.{Go};
 ghost use Rattle.t3_interp.specs.Machine.{initial};
-ghost use Rattle.t3_interp.specs.Step.{StepsBy, IsWanted, Goes, state_of};
+ghost use Rattle.t3_interp.specs.Step.{StepsBy, IsWanted, Goes};
+ghost use Rattle.t3_interp.specs.View.{state_of};
 ghost use Rattle.t3_interp.specs.Steady.{IsSteady};
 ghost use Rattle.t3_interp.specs.Wanting.{IsNamed};
 ghost use Rattle.t3_interp.specs.Inner.Acting.{IsBetweenSteps, IsGoodRun};
@@ -49,7 +51,7 @@ impl Model for Machine {
     ghost coded = { Prim.hlevel (codes, coded_pools, coded_objects, coded_store) };
 
     ghost use Rattle.std.specs.Prelude.{◌≤◌, ◌+◌};
-    ghost use Rattle.t3_interp.specs.Step.{state_of};
+    ghost use Rattle.t3_interp.specs.View.{state_of};
 
     ghost view = { λ m. record { program = m.whole.value.program; state = state_of m.whole.value.running } };
 
@@ -98,6 +100,22 @@ impl Machine {
         }
     }
 
+    /// What is saved of the persistent objects is a sound state.
+    pub(crate) fn can_be_saved(&self)
+        ensures { IsSoundState (trimmed self.now.state.store.persistent) self.now.state.store.next }
+    {
+        // What the store tells of its objects is known once it is asked.
+        let store = &self.whole.running.core.store;
+        let _ = (store.objects(), store.units());
+    }
+
+    /// The image's SHA-256.
+    pub(crate) fn fingerprint(&self) -> &[u8; 32]
+        ensures { result.now ≡ self.now.program.fingerprint }
+    {
+        &self.whole.program.fingerprint
+    }
+
     /// How many savepoints are held.
     pub fn held(&self) -> u32
         ensures { result ≡ length self.now.state.store.marks }
@@ -143,8 +161,8 @@ impl Machine {
         Ok((self, event))
     }
 
-    /// Makes steps up to the first that says a text, be it empty, wants a line or ends the run, and `most` at most. Gives how
-    /// many were made, and what the last did. The run may not have ended, and as many steps as may be made here don't take
+    /// Makes steps up to the first that says a text, be it empty, wants a line, a file or that one be put, or ends the run,
+    /// and `most` at most. Gives how many were made, and what the last did. The run may not have ended, and as many steps as may be made here don't take
     /// it past 2^40. Want of memory takes the machine with it.
     pub fn go(mut self, most: u32) -> Result<(Machine, u32, Event), NoMemory>
         requires wants { self.state.wants ≡ Go }

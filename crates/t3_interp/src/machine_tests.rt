@@ -83,7 +83,7 @@ fn ran(alloc: Global, program: Program) -> Result<(Vec<u8>, Option<End>, u64), F
         match event {
             Some(Event::Said(text)) => said.extend_from_slice(&text.0)?,
             Some(Event::Ended(how)) => end = Some(how),
-            _ => {}
+            _other => {}
         }
     }
     Ok((said, end, machine.steps()))

@@ -9,7 +9,8 @@ ghost use Rattle.t3_frame_instructions.specs.Acting.{context_of};
 ghost use Rattle.t3_frame_instructions.specs.Effect.{Save, Restart};
 ghost use Rattle.t3_interp.specs.declared.event.Event.TheVariants.{Went};
 ghost use Rattle.t3_interp.specs.declared.running.Stage.TheVariants as stages;
-ghost use Rattle.t3_interp.specs.Step.{state_of, comes_to, after_effect, after_replacing, state_bytes as bytes_of_state, ReadsState, TakesFile};
+ghost use Rattle.t3_interp.specs.Step.{after_effect, after_replacing, state_bytes as bytes_of_state, ReadsState, TakesFile};
+ghost use Rattle.t3_interp.specs.View.{state_of, comes_to};
 ghost use Rattle.t3_interp.specs.Wanting.{IsNamed};
 ghost use Rattle.t3_interp.specs.Inner.Acting.{HasFewWrites, Tells};
 

@@ -101,13 +101,14 @@ shown_some before after pending prefix = (
 
 -- ---- the steps
 
-wants_still : (steps : ℕ) (event : Event) (state : State) → WantsOn steps event state → (state.steps ≡ steps) × WantsOn state.steps event state
-wants_still steps Went state (is, wants) = (is, (refl, wants))
-wants_still steps (Said text) state (is, wants) = (is, (refl, wants))
-wants_still steps WantLine state (is, wants, framed) = (is, (refl, wants, framed))
-wants_still steps (WantPut name bytes) state (is, wants, framed) = (is, (refl, wants, framed))
-wants_still steps (WantGet name) state (is, wants, framed) = (is, (refl, wants, framed))
-wants_still steps (Ended end) state is = (is, refl)
+wants_still : (program : ProgramValue) (steps : ℕ) (event : Event) (state : State) → WantsOn program steps event state
+    → (state.steps ≡ steps) × WantsOn program state.steps event state
+wants_still program steps Went state (is, wants) = (is, (refl, wants))
+wants_still program steps (Said text) state (is, wants) = (is, (refl, wants))
+wants_still program steps WantLine state (is, wants, framed) = (is, (refl, wants, framed))
+wants_still program steps (WantPut name bytes) state (is, wants, framed, put) = (is, (refl, wants, framed, put))
+wants_still program steps (WantGet name) state (is, wants, framed) = (is, (refl, wants, framed))
+wants_still program steps (Ended end) state is = (is, refl)
 
 -- nothing was done yet, by a reader that has taken nothing and a page that has
 pub begun-at : (play : Play) (machine : MachineValue) (screen : Screen) (reader : ReaderValue) → machine.program ≡ play.program
@@ -131,7 +132,7 @@ begun-at play machine screen reader own begun none new =
 pub record IsGone (play : Play) (left : ℕ) (machine : MachineValue) (event : Event) (text pending : List ℕ) (reader : ReaderValue) (now : Outside) : Type 0 where
   pub own : machine.program ≡ play.program
   pub made : machine.state.steps + left ≡ play.steps
-  pub wants : WantsOn machine.state.steps event machine.state
+  pub wants : WantsOn machine.program machine.state.steps event machine.state
   pub played : HasPlayed play (EventLeft play left event (world_of machine.state text reader.given)) reader.given pending reader now
 
 pub at-gone : (play : Play) (left made next : ℕ) (old new : MachineValue) (event : Event) (text pending : List ℕ) (reader : ReaderValue)
@@ -140,13 +141,13 @@ pub at-gone : (play : Play) (left made next : ℕ) (old new : MachineValue) (eve
     → IsAt play left old text pending reader now → IsGone play next new event text pending reader now
 at-gone play left made next old new event text pending reader now is same goes at =
     let after = wants_gone old.program made old.state (record { state = new.state; event = event }) at.wants goes in
-    let wants = wants_still (old.state.steps + made) event new.state after in
+    let wants = wants_still old.program (old.state.steps + made) event new.state after in
     let counted = wants.0 in
     let so_far = at.made in
     record {
       own = same ∙ at.program;
       made = omega (arith, is, counted, so_far);
-      wants = wants.1;
+      wants = subst (λ (p : ProgramValue). WantsOn p new.state.steps event new.state) (sym same) wants.1;
       played =
           played-gone play left made next old.program old.state new.state event text reader.given reader.given pending reader now is at.program goes
           at.played;

@@ -48,7 +48,7 @@ pub(crate) fn make_turn<D: Depot, C: Console>(
 ) -> Result<Turn, RunRefusal>
     requires depot { D.faults depot.old < 2 ^ 64 - 1 }
     requires console { C.faults console.old < 2 ^ 64 - 1 }
-    requires wants { WantsOn machine.state.steps event machine.state }
+    requires wants { WantsOn machine.program machine.state.steps event machine.state }
     requires named { IsNamed event }
     requires few { machine.state.steps < 2 ^ 40 }
     ensures turned { (play : Play) (left : ℕ) (text : List ℕ) → IsPageOf play screen.old text
@@ -102,7 +102,7 @@ fn say<C: Console>(
     console: &mut C,
 ) -> Result<Turn, DeviceRefusal>
     requires faults { C.faults console.old < 2 ^ 64 - 1 }
-    requires wants { WantsOn machine.state.steps (events.Said text.now) machine.state }
+    requires wants { WantsOn machine.program machine.state.steps (events.Said text.now) machine.state }
     ensures turned { (play : Play) (left : ℕ) (said : List ℕ) (reader : ReaderValue) (files : Option Files)
         → IsPageOf play screen.old said
         → machine.program ≡ play.program → machine.state.steps + left ≡ play.steps
@@ -123,7 +123,7 @@ fn ask<C: Console>(
     console: &mut C,
 ) -> Result<Turn, DeviceRefusal>
     requires faults { C.faults console.old < 2 ^ 64 - 1 }
-    requires wants { WantsOn machine.state.steps events.WantLine machine.state }
+    requires wants { WantsOn machine.program machine.state.steps events.WantLine machine.state }
     requires few { machine.state.steps < 2 ^ 40 }
     ensures turned { (play : Play) (left : ℕ) (text : List ℕ) (files : Option Files) → IsPageOf play screen.old text
         → machine.program ≡ play.program → machine.state.steps + left ≡ play.steps

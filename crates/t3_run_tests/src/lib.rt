@@ -7,4 +7,6 @@ mod asking;
 #[cfg(test)]
 mod devices;
 #[cfg(test)]
+mod hostile;
+#[cfg(test)]
 mod run;

@@ -240,10 +240,12 @@ impl Store {
         Ok(Persistent::of(alloc, objects))
     }
 
-    /// How many objects there are. No walk over superclasses from any number comes back.
+    /// How many objects there are. The limits are such as there may be, and no walk over superclasses from any
+    /// number comes back.
     pub fn objects(&self) -> u32
         ensures objects { result ≡ objects_in self.now.store }
         ensures bound { result ≤ self.now.store.limits.objects }
+        ensures limits { AreLimits self.now.store.limits }
         ensures acyclic { (number : ℕ) → IsAcyclicFrom (supers_of_live self.now.store) number }
     {
         (self.persistent.len() + self.transient.len()) as u32

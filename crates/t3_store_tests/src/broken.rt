@@ -1,7 +1,7 @@
 //! What is broken of small maps that were drawn by hand, and of long chains.
 ghost use Rattle.t3_store.specs.Value.{new_value, HasFittingLength};
 
-use crate::stores::no_props;
+use crate::fixture::no_props;
 use std::alloc::Global;
 use std::test::Fail;
 use t3_holder::Bytes;

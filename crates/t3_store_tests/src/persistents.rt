@@ -3,8 +3,8 @@ ghost use Rattle.std.specs.Prelude.{◌≡◌, length, IfOk};
 ghost use Rattle.t3_store.specs.Value.{new_value, HasFittingLength};
 
 use crate::broken::add;
+use crate::fixture::{empty_store, numbers, plain};
 use crate::restoring::restore;
-use crate::stores::{empty_store, numbers, plain};
 use std::alloc::Global;
 use std::process::Abort;
 use std::test::Fail;

@@ -4,8 +4,8 @@ ghost use Rattle.std.specs.Prelude.{◌≡◌, Some, IsTrue, IfOk, IsSome, lengt
 ghost use Rattle.t3_store.specs.Value.{new_value, supers_of};
 ghost use Rattle.t3_store.specs.Whole.{supers_for};
 
+use crate::fixture::{answer, empty_store, savepoint, set, set_element, set_key, take_last};
 use crate::saved_states::{Saved, save, step_or_state};
-use crate::stores::{answer, empty_store, savepoint, set, set_element, set_key, take_last};
 use crate::whole_copies::{
     DEFAULT, NIL, OBJECTS, RECORDS, Row, SAVEPOINTS, TEXTS, UNITS, Whole, has_row,
 };

@@ -1,5 +1,5 @@
 //! A property set to another value where it is present, in both halves and over a savepoint.
-use crate::stores::{create, empty_store, few_writes, savepoint, set};
+use crate::fixture::{create, empty_store, few_writes, savepoint, set};
 use std::alloc::Global;
 use std::process::Abort;
 use std::test::Fail;

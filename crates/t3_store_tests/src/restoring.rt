@@ -2,7 +2,9 @@
 ghost use Rattle.t3_store.specs.Value.{new_value, HasFittingLength};
 
 use crate::broken::add;
-use crate::stores::{create, empty_store, few_writes, numbers, plain, savepoint, set, three_kinds};
+use crate::fixture::{
+    create, empty_store, few_writes, numbers, plain, savepoint, set, three_kinds,
+};
 use std::alloc::Global;
 use std::process::Abort;
 use std::test::Fail;

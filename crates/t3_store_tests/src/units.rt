@@ -1,5 +1,5 @@
 //! How much objects of each kind count, at the limit.
-use crate::stores::{answer, empty_store, set_element, set_key, take_last};
+use crate::fixture::{answer, empty_store, set_element, set_key, take_last};
 use std::alloc::Global;
 use std::process::Abort;
 use std::test::Fail;

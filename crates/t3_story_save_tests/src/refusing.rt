@@ -147,3 +147,16 @@ fn refuses_the_number_of_a_transient_object(rt: HostRuntime) -> Result<(), Fail>
     );
     Ok(())
 }
+
+/// A file with a byte more than a state may have is refused, whatever it begins with, and is read no further.
+#[test]
+fn refuses_a_file_that_is_too_long(rt: HostRuntime) -> Result<(), Fail> {
+    let alloc = rt.alloc();
+    let state = saved(alloc, KEPT)?;
+    let mut long = vec![in alloc; 0; 268_435_457]?;
+    for (byte, of_state) in long.iter_mut().zip(state.iter()) {
+        *byte = *of_state;
+    }
+    assert_eq!(rt; restored(alloc, KEPT, &long)?.as_slice(), REFUSED);
+    Ok(())
+}

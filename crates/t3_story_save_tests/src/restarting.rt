@@ -1,6 +1,10 @@
 //! What a restart puts back, and what it leaves.
-use crate::story::first_unlike;
+use crate::story::{first_unlike, run_in, story_beside};
+use sha2::{Digest, Sha256};
+use std::alloc::Global;
 use std::test::Fail;
+use t3_cli::Status;
+use t3_io::SureDepot;
 use t3_testing::Row;
 
 const RESTARTS: [Row; 9] = [
@@ -50,5 +54,53 @@ const RESTARTS: [Row; 9] = [
 #[test]
 fn restarts(rt: HostRuntime) -> Result<(), Fail> {
     assert_eq!(rt; first_unlike(rt.alloc(), &RESTARTS)?, None);
+    Ok(())
+}
+
+/// A story that saves where it is given a line, and else restores, makes 64 transient vectors and restarts.
+const FILLS_AND_RESTARTS: &str =
+    "builtin_b 0 4 / getr0 / jf @next / pushstr @name / builtin_a 1 15 / retnil / next: / pushstr @name / \
+     builtin_a 1 16 / pushint8 64 / setlcl1 0 / again: / pushint 65535 / push_0 / trnew1 2 1 / declcl 0 / \
+     getlcl1 0 / jt @again / pushstr @one / builtin_b 1 0 / builtin_a 0 17 / retnil";
+
+/// An object of 65 properties.
+fn object_of_65(alloc: Global) -> Result<String, Fail> {
+    let mut block = String::from_str(
+        alloc,
+        "block \"OBJS\" 1 / objects 0 0 / object 3 / u2 0 / u2 65 / u2 0",
+    )?;
+    for number in 1..66u32 {
+        block.push_str(format!(in alloc; " / u2 {number} / hold 7 1")?.as_str())?;
+    }
+    Ok(block)
+}
+
+/// The state of the same image without an object, with the digest of that.
+fn emptied(alloc: Global, state: &[u8]) -> Result<Vec<u8>, Fail> {
+    let mut bytes = Vec::from_slice(alloc, state.get(..46).unwrap_or(b""))?;
+    bytes.extend_from_slice(&[0; 4])?;
+    let mut hasher = Sha256::new();
+    hasher.update(&bytes);
+    bytes.extend_from_slice(&hasher.finalize())?;
+    Ok(bytes)
+}
+
+/// Vectors with 64 units less than a store has find room beside a state without objects, but not beside those of the
+/// image, one of which has 65 properties.
+#[test]
+fn fills_the_store(rt: HostRuntime) -> Result<(), Fail> {
+    let alloc = rt.alloc();
+    let block = object_of_65(alloc)?;
+    let mut depot = SureDepot::new(alloc);
+    depot.keep(
+        b"a.t3",
+        &story_beside(alloc, block.as_str(), FILLS_AND_RESTARTS)?,
+    )?;
+    let (_, _) = run_in(alloc, &mut depot, b"x\n")?;
+    let state = emptied(alloc, depot.file(b"s.sav").unwrap_or(b""))?;
+    depot.keep(b"s.sav", &state)?;
+    let (status, shown) = run_in(alloc, &mut depot, b"")?;
+    assert_eq!(rt; shown.as_slice(), b"s\n[store full]\n".as_slice());
+    assert_eq!(rt; status, Status::StoreFull);
     Ok(())
 }

@@ -6,7 +6,7 @@ use t3_io::SureDepot;
 use t3_testing::Row;
 
 /// Within one run.
-const RESTORES: [Row; 10] = [
+const RESTORES: [Row; 11] = [
     // The state's properties come back; what refers to a transient object is saved as nil, and no savepoint is held.
     (
         "pushint8 5 / objsetprop 1 3 / trnew1 0 0 / getr0 / objsetprop 1 4 / pushstr @name / builtin_a 1 15 / pushint8 6 / objsetprop 1 3 / builtin_a 0 13 / pushstr @name / builtin_a 1 16 / objgetprop 1 3 / getr0 / builtin_b 1 0 / objgetprop 1 4 / getr0 / builtin_a 1 6 / getr0 / builtin_b 1 0 / builtin_a 0 14 / getr0 / builtin_a 1 6 / getr0 / builtin_b 1 0 / retnil",
@@ -51,6 +51,11 @@ const RESTORES: [Row; 10] = [
     (
         "pushint8 6 / objsetprop 1 3 / builtin_a 0 13 / pushint8 7 / objsetprop 1 3 / call 0 @f / objgetprop 1 3 / getr0 / call 1 @show / builtin_a 0 14 / getr0 / call 1 @show / objgetprop 1 3 / getr0 / call 1 @show / retnil / f: / method 0 0 4 ~t / pushstr @image / a: / builtin_a 1 16 / retnil / h: / disc / retnil / t: / table 1 / handler ~a ~a 0 ~h",
         "7true6\n",
+    ),
+    // A table's entry under a transient object isn't saved, and a value that is one is saved as nil.
+    (
+        "new1 0 2 / getr0 / objsetprop 1 3 / trnew1 0 0 / getr0 / setlcl1 0 / pushint8 5 / objgetprop 1 3 / getr0 / getlcl1 0 / setind / disc / getlcl1 0 / objgetprop 1 3 / getr0 / push_1 / setind / disc / pushstr @name / builtin_a 1 15 / pushstr @name / builtin_a 1 16 / objgetprop 1 3 / getr0 / getprop 105 / getr0 / call 1 @show / objgetprop 1 3 / getr0 / push_1 / index / call 1 @show / retnil",
+        "1nil\n",
     ),
     // In a constructor, whose self is gone then.
     (

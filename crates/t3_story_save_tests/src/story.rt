@@ -5,13 +5,15 @@ use t3_cli::{Status, t3_main};
 use t3_io::{SureConsole, SureDepot};
 use t3_testing::{Row, lines, owned, written};
 
-/// What stands before a method's body: a page of code and one of constants; the metaclasses of tads-objects and
-/// of vectors; the general functions as set 0 and those for input and output as set 1; names, of which some are no
-/// names of files, and a line; and objects 1 and 2, without properties but for the constructor of object 2, a class.
+/// What stands before a method's body: a page of code and one of constants; the metaclasses of tads-objects, of vectors
+/// and of tables, which have methods by the properties from 100 on; the general functions as set 0 and those for input
+/// and output as set 1; names, of which some are no names of files, and a line; and objects 1 and 2, without properties
+/// but for the constructor of object 2, a class.
 const BEFORE: &str =
     "image / block \"ENTP\" 1 / entry @main 10 10 0 0 0 0 - / block \"CPDF\" 1 / pool 1 1 512 / \
                       block \"CPDF\" 1 / pool 2 1 512 / block \"MCLD\" 1 / metaclass \"tads-object/030005\" 2 - / \
-                      metaclass \"vector/030005\" 2 - / \
+                      metaclass \"vector/030005\" 2 - / metaclass \"lookuptable/030003\" 2 - / prop 100 / prop 101 / \
+                      prop 102 / prop 103 / prop 104 / prop 105 / \
                       block \"FNSD\" 1 / function-set \"tads-gen/030008\" / function-set \"tads-io/030007\" / \
                       block \"CPPG\" 1 / page 2 0 0 / name: / text \"s.sav\" / other: / text \"o.sav\" / \
                       image: / text \"a.t3\" / empty: / text \"\" / one: / text \"s\" / \

@@ -1,7 +1,9 @@
 //! A story that a player goes through, and takes moves back in.
+use std::alloc::Global;
 use std::test::Fail;
-use t3_cli::Status;
-use t3_testing::{lines, played, written};
+use t3_cli::{Status, t3_main};
+use t3_io::{MemoryConsole, MemoryDepot};
+use t3_testing::{lines, owned, played, written};
 
 /// The source of `examples/cave.t3s`, without its comments.
 const CAVE: &str = "image / block \"ENTP\" 1 / entry @main 10 10 0 0 0 0 - / block \"CPDF\" 1 / \
@@ -62,5 +64,74 @@ fn a_player_takes_moves_back(rt: HostRuntime) -> Result<(), Fail> {
         assert_eq!(rt; shown.as_slice(), want.as_bytes());
         assert_eq!(rt; status, Status::Done);
     }
+    Ok(())
+}
+
+const LINES: &[u8] = b"e\ne\ne\nundo\nundo\nundo\nundo\nw\nlook\n";
+
+/// What is shown before each of these lines, and before the one that isn't there.
+const SHOWN: [&str; 10] = [
+    "Cave\n>",
+    "Hall\n>",
+    "Tower\n>",
+    "A wall.\n>",
+    "Tower\n>",
+    "Hall\n>",
+    "Cave\n>",
+    "No more undo.\n>",
+    "A wall.\n>",
+    "What?\n>",
+];
+
+/// The status and what is shown of these lines, where the calls of these numbers fail.
+fn played_with(
+    alloc: Global,
+    depot_calls: &[u32],
+    console_calls: &[u32],
+) -> Result<(Status, Vec<u8>), Fail> {
+    let (_, image) = written(alloc, "asm", &lines(alloc, CAVE)?)?;
+    let mut depot = MemoryDepot::new(alloc, depot_calls)?;
+    depot.keep(b"a.t3", &image)?;
+    let mut console = MemoryConsole::new(alloc, LINES, console_calls)?;
+    let words = owned(alloc, &["run", "a.t3"])?;
+    let status = t3_main(alloc, &words, &mut depot, &mut console);
+    Ok((status, Vec::from_slice(alloc, console.shown())?))
+}
+
+/// So many of the texts, one behind the other.
+fn shown_first(alloc: Global, count: usize) -> Result<Vec<u8>, Fail> {
+    let mut text = Vec::new(alloc);
+    for part in SHOWN.iter().take(count) {
+        text.extend_from_slice(part.as_bytes())?;
+    }
+    Ok(text)
+}
+
+/// The image is read in two calls, and nothing is shown before.
+#[test]
+fn stops_where_the_depot_fails(rt: HostRuntime) -> Result<(), Fail> {
+    for call in 0..2 {
+        let (status, shown) = played_with(rt.alloc(), &[call], &[])?;
+        assert_eq!(rt; shown.as_slice(), b"".as_slice());
+        assert_eq!(rt; status, Status::DepotFault);
+    }
+    let (status, shown) = played_with(rt.alloc(), &[2], &[])?;
+    assert_eq!(rt; shown, shown_first(rt.alloc(), 10)?);
+    assert_eq!(rt; status, Status::Done);
+    Ok(())
+}
+
+/// A text is shown in one call. All lines are read in one, behind the first text, and another behind the last finds none.
+#[test]
+fn stops_where_the_console_fails(rt: HostRuntime) -> Result<(), Fail> {
+    let texts = [0, 1, 1, 2, 3, 4, 5, 6, 7, 8, 9, 10];
+    for (call, count) in texts.iter().enumerate() {
+        let (status, shown) = played_with(rt.alloc(), &[], &[call as u32])?;
+        assert_eq!(rt; shown, shown_first(rt.alloc(), *count)?, "{call}");
+        assert_eq!(rt; status, Status::ConsoleFault, "{call}");
+    }
+    let (status, shown) = played_with(rt.alloc(), &[], &[12])?;
+    assert_eq!(rt; shown, shown_first(rt.alloc(), 10)?);
+    assert_eq!(rt; status, Status::Done);
     Ok(())
 }

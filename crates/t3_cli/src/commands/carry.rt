@@ -8,7 +8,7 @@ ghost use Rattle.t3_words.specs.Input.{input_of};
 ghost use Rattle.t3_cli.specs.Inner.Reading.{ReadsInput, IsDigested};
 ghost use Rattle.t3_cli.specs.Inner.Wanted.{wanted_of, IsAsWanted};
 ghost use Rattle.sha2.specs.Hashers.{Holds256};
-ghost use Rattle.t3_cli.specs.Top.{CutsShort, MovesSome};
+ghost use Rattle.t3_cli.specs.Top.{CountsFaults, CutsShort, MovesSome};
 ghost use Rattle.t3_words.specs.Command.{command_value, IsWellFormed};
 ghost use Rattle.t3_cli.specs.Inner.Following.{Answers, FollowsSome, Follows, IsReadOutcome};
 
@@ -45,12 +45,8 @@ pub(crate) fn carry_out<D: Depot, C: Console>(
         Answers (Some (command_value command.entry)) files (C.session console.old) result (D.files depot.new) (C.session console.new)) }
     ensures moved { MovesSome (C.session console.old) (C.session console.new) }
     ensures no_usage { result ≢ Status.Usage }
-    ensures depot_fault { result ≡ Status.DepotFault → D.faults depot.old < D.faults depot.new }
-    ensures depot_rise { (result ≡ Status.DepotFault) ⊎ (D.faults depot.new ≡ D.faults depot.old) }
-    ensures console_fault { result ≡ Status.ConsoleFault → C.faults console.old < C.faults
-        console.new }
-    ensures console_rise { (result ≡ Status.ConsoleFault) ⊎
-        (C.faults console.new ≡ C.faults console.old) }
+    ensures depot { CountsFaults (result ≡ Status.DepotFault) (D.faults depot.old) (D.faults depot.new) }
+    ensures console { CountsFaults (result ≡ Status.ConsoleFault) (C.faults console.old) (C.faults console.new) }
 {
     let mut hasher = Sha256::new();
     match read_input(alloc, command, depot, &mut hasher) {
@@ -120,12 +116,8 @@ fn act<D: Depot, C: Console>(
     ensures follows { FollowsSome (IsReadOutcome (command_value command.entry) read)
         (D.files depot.old) (D.files depot.new) (C.session console.old) (C.session console.new)
         result }
-    ensures depot_fault { result ≡ Status.DepotFault → D.faults depot.old < D.faults depot.new }
-    ensures depot_rise { (result ≡ Status.DepotFault) ⊎ (D.faults depot.new ≡ D.faults depot.old) }
-    ensures console_fault { result ≡ Status.ConsoleFault → C.faults console.old < C.faults
-        console.new }
-    ensures console_rise { (result ≡ Status.ConsoleFault) ⊎
-        (C.faults console.new ≡ C.faults console.old) }
+    ensures depot { CountsFaults (result ≡ Status.DepotFault) (D.faults depot.old) (D.faults depot.new) }
+    ensures console { CountsFaults (result ≡ Status.ConsoleFault) (C.faults console.old) (C.faults console.new) }
 {
     match read {
         ReadImage::Absent => {
@@ -204,12 +196,8 @@ fn put_and_show<D: Depot, C: Console>(
     ensures follows { (bytes : List ℕ) → IfOk text (λ t. t.items ≡ bytes)
         → Follows (putting out.now bytes) (D.files depot.old) (D.files depot.new)
         (C.session console.old) (C.session console.new) result }
-    ensures depot_fault { result ≡ Status.DepotFault → D.faults depot.old < D.faults depot.new }
-    ensures depot_rise { (result ≡ Status.DepotFault) ⊎ (D.faults depot.new ≡ D.faults depot.old) }
-    ensures console_fault { result ≡ Status.ConsoleFault → C.faults console.old < C.faults
-        console.new }
-    ensures console_rise { (result ≡ Status.ConsoleFault) ⊎
-        (C.faults console.new ≡ C.faults console.old) }
+    ensures depot { CountsFaults (result ≡ Status.DepotFault) (D.faults depot.old) (D.faults depot.new) }
+    ensures console { CountsFaults (result ≡ Status.ConsoleFault) (C.faults console.old) (C.faults console.new) }
 {
     match put_text(out, text, depot) {
         Ok(size) => answer(console, lines::put(alloc, size), Status::Done),

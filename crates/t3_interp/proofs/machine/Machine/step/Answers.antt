@@ -3,7 +3,8 @@ use Rattle.t3_interp.specs.declared.event.Event.TheVariants.{Went}
 use Rattle.t3_interp.specs.declared.machine.Whole.{Whole}
 use Rattle.t3_interp.specs.declared.running.Running.{Running}
 use Rattle.t3_interp.specs.Machine.{MachineValue}
-use Rattle.t3_interp.specs.Step.{IsWanted, state_of}
+use Rattle.t3_interp.specs.Step.{IsWanted}
+use Rattle.t3_interp.specs.View.{state_of}
 use Rattle.t3_interp.specs.Inner.Acting.{IsBetweenSteps, IsGoodRun}
 use Rattle.t3_interp.specs.Inner.DecodeCache.{IsCacheOf}
 use Rattle.t3_interp.proofs.GoodRuns.{good-moved, good-untold}

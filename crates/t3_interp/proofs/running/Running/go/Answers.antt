@@ -1,4 +1,4 @@
-use Rattle.t3_interp.specs.Step.{state_of}
+use Rattle.t3_interp.specs.View.{state_of}
 use Rattle.t3_interp.proofs.Runs.{gone_none}
 use Rattle.t3_interp.proofs.GoodRuns.{good-gone}
 use Rattle.t3_interp.proofs.running.Running.go.Goals as goal

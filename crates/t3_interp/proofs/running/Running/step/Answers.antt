@@ -2,7 +2,8 @@ use Rattle.std.proofs.Common.{Bool, ◌≡◌, ◌<◌, ◌≤◌, ◌-◌, ◌+
 use Rattle.t3_holder.specs.declared.no_memory.NoMemory.{NoMemory}
 use Rattle.t3_load.specs.Loading.{ProgramValue}
 use Rattle.t3_interp.specs.declared.running.Running.{Running}
-use Rattle.t3_interp.specs.Step.{state_of, comes_to, Steps, Goes}
+use Rattle.t3_interp.specs.Step.{Steps, Goes}
+use Rattle.t3_interp.specs.View.{state_of, comes_to}
 use Rattle.t3_interp.specs.Inner.Acting.{HasGone}
 use Rattle.t3_interp.proofs.Runs.{one_gone}
 use Rattle.t3_interp.proofs.running.Running.step.Goals as goal

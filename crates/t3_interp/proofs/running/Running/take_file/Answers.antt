@@ -4,7 +4,8 @@ use Rattle.t3_store.specs.Store.{admit_of}
 use Rattle.t3_load.specs.Loading.{ProgramValue}
 use Rattle.t3_interp.specs.declared.running.Stage.{Stage}
 use Rattle.t3_interp.specs.declared.event.Want.TheVariants.{Go}
-use Rattle.t3_interp.specs.Step.{state_of, comes_to, frames_at, ReadsState, TakesFile}
+use Rattle.t3_interp.specs.Step.{ReadsState, TakesFile}
+use Rattle.t3_interp.specs.View.{state_of, comes_to, frames_at}
 use Rattle.t3_interp.proofs.GoodRuns.{below_next, admit_elsewhere}
 use Rattle.t3_interp.proofs.running.Running.take_file.Goals as goal
 
