@@ -161,7 +161,7 @@ whole_of command (Some files) left before after answer (inr (cut, part)) = λ no
 
 pub cut_of : (command : Option CommandValue) (all left : Option Files) (before after : Option Session) (answer : Status)
     → IfSome all (λ files. Answers command files before answer left after)
-    → IfSome all (λ files. CutsShort answer → IsCut command files before left after)
+    → IfSome all (λ files. CutsShort answer → IsCut command files before answer left after)
 cut_of command None left before after answer answers = tt
 cut_of command (Some files) left before after answer (inl whole) =
     λ cut. absurd (result_not_cut command files whole.input whole.outcome whole.result (let P : Status → Type 0 =

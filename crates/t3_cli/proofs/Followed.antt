@@ -5,16 +5,17 @@ use Rattle.t3_io.specs.Files.{Files}
 use Rattle.t3_io.specs.Session.{Session}
 use Rattle.t3_io.specs.Putting.{PutsFile}
 use Rattle.t3_io.specs.declared.refusal.DeviceRefusal.{DeviceRefusal}
+use Rattle.t3_io.specs.declared.refusal.DeviceRefusal.TheVariants.{Fault}
 use Rattle.t3_run.specs.declared.stop.RunEnd.{RunEnd}
 use Rattle.t3_cli.specs.declared.status.Status.{Status}
-use Rattle.t3_cli.specs.declared.status.Status.TheVariants.{Done, LoadRefused, NoMemory}
+use Rattle.t3_cli.specs.declared.status.Status.TheVariants.{Done, LoadRefused, DepotFault, NoMemory}
 use Rattle.t3_run.specs.Act.{Act, Shows, Puts, shown_by, files_by, LeavesActs, StopsBehind}
 use Rattle.t3_run.specs.Asking.{IsInput, AsksBy}
 use Rattle.t3_run.specs.Running.{outside, end_at, HasRun, HasRunInto}
 use Rattle.t3_run.proofs.Shown.{shows_nothing}
 use Rattle.t3_run.proofs.Asks.{asks-none, asks-more, asks-longer}
 use Rattle.t3_run.proofs.Acts.{shown_by-append, files_by-append}
-use Rattle.t3_run.proofs.Cutting.{stops_before, stops_more}
+use Rattle.t3_run.proofs.Cutting.{fails_by, behind_as, stops_before, stops_more}
 use Rattle.t3_cli.specs.declared.images.read.ReadImage.{ReadImage}
 use Rattle.t3_image_read.specs.declared.reader.Totals.{Totals}
 use Rattle.t3_cli.specs.BlockLines.{totals_text}
@@ -40,10 +41,10 @@ leaves_text None left acts text leaves = tt
 leaves_text (Some files) left acts text leaves = leaves ∙ ap Some (sym (files_by-append files acts (Shows text ∷ [])))
 
 -- so much of the text was shown
-stops_text : (files left : Option Files) (acts : List Act) (text part rest said : List ℕ) → LeavesActs files left acts → text ≡ part ++ rest
-    → said ≡ shown_by acts ++ part → StopsBehind files acts (Shows text ∷ []) left said
-stops_text None left acts text part rest said leaves is said_is = tt
-stops_text (Some files) left acts text part rest said leaves is said_is =
+stops_text : (F : Type 0) (files left : Option Files) (acts : List Act) (text part rest said : List ℕ) → LeavesActs files left acts → text ≡ part ++ rest
+    → said ≡ shown_by acts ++ part → StopsBehind F files acts (Shows text ∷ []) left said
+stops_text F None left acts text part rest said leaves is said_is = tt
+stops_text F (Some files) left acts text part rest said leaves is said_is =
     (leaves, record { part = part; rest = rest; is = is; said_is = said_is })
 
 -- the acts were done, and then the text was shown, or no memory was there for it
@@ -68,7 +69,7 @@ behind_follows acts files left before mid after text status answer leaves asks (
       rest = Shows text ∷ [];
       acts_are = refl;
       said = shown_by acts ++ cut.said;
-      stops = stops_text files left acts text prefix.part prefix.rest (shown_by acts ++ cut.said) leaves prefix.is
+      stops = stops_text (answer ≡ DepotFault) files left acts text prefix.part prefix.rest (shown_by acts ++ cut.said) leaves prefix.is
           (ap (λ t. shown_by acts ++ t) prefix.said_is);
       asks = asks-more acts (Shows text ∷ []) before mid after (shown_by acts) cut.said asks cut.shows;
     })
@@ -79,7 +80,7 @@ behind_follows acts files left before mid after text status answer leaves asks (
       rest = Shows text ∷ [];
       acts_are = refl;
       said = shown_by acts;
-      stops = stops_text files left acts text [] text (shown_by acts) leaves refl (sym (append-nil (shown_by acts)));
+      stops = stops_text (answer ≡ DepotFault) files left acts text [] text (shown_by acts) leaves refl (sym (append-nil (shown_by acts)));
       asks =
           subst (λ (s : Option Session). AsksBy (acts ++ Shows text ∷ []) before s (shown_by acts)) (sym stays)
           (asks-longer acts (Shows text ∷ []) before mid (shown_by acts) asks);
@@ -130,17 +131,16 @@ put_follows text_of files left name bytes before after line answer puts is answe
     (asks-none (Puts name bytes ∷ []) before before [] (shows_nothing before))
     (shows_line text_of before after line (put_line (length bytes)) Done answer is answers)
 
-stops_putting : (files left : Option Files) (name bytes : List ℕ) (rest : List Act) (answer : Result (Unit {0}) DeviceRefusal)
-    → PutsFile files left name bytes answer
-    → StopsBehind files [] (Puts name bytes ∷ rest) left []
-stops_putting None left name bytes rest answer puts = tt
-stops_putting (Some files) left name bytes rest answer puts = (answer, puts, refl)
+stops_putting : {F : Type 0} (files left : Option Files) (name bytes : List ℕ) (rest : List Act) (refusal : DeviceRefusal) → (refusal ≡ Fault → F)
+    → PutsFile files left name bytes (Err refusal) → StopsBehind F files [] (Puts name bytes ∷ rest) left []
+stops_putting None left name bytes rest refusal faulted puts = tt
+stops_putting (Some files) left name bytes rest refusal faulted puts = (fails_by files left name bytes refusal faulted puts, refl)
 
 -- the file couldn't be put
 pub put_cut : (files left : Option Files) (name bytes : List ℕ) (before : Option Session) (refusal : DeviceRefusal) (answer : Status)
-    → PutsFile files left name bytes (Err refusal)
-    → CutsShort answer → Follows (putting name bytes) files left before before answer
-put_cut files left name bytes before refusal answer puts cut =
+    → (refusal ≡ Fault → answer ≡ DepotFault)
+    → PutsFile files left name bytes (Err refusal) → CutsShort answer → Follows (putting name bytes) files left before before answer
+put_cut files left name bytes before refusal answer faulted puts cut =
     let rest = Shows (put_line (length bytes)) ∷ [] in
     inr (record {
       cut =
@@ -149,7 +149,7 @@ put_cut files left name bytes before refusal answer puts cut =
       rest = Puts name bytes ∷ rest;
       acts_are = refl;
       said = [];
-      stops = stops_putting files left name bytes rest (Err refusal) puts;
+      stops = stops_putting files left name bytes rest refusal faulted puts;
       asks = asks-none (Puts name bytes ∷ rest) before before [] (shows_nothing before);
     })
 
@@ -160,9 +160,9 @@ pub input_in : (session : Option Session) → (input : List ℕ) × IsInput sess
 input_in None = ([], tt)
 input_in (Some session) = (session.left, refl)
 
-stops_at_once : (files : Option Files) (acts : List Act) → StopsBehind files [] acts files []
-stops_at_once None acts = tt
-stops_at_once (Some files) acts = stops_before files [] acts
+stops_at_once : (F : Type 0) (files : Option Files) (acts : List Act) → StopsBehind F files [] acts files []
+stops_at_once F None acts = tt
+stops_at_once F (Some files) acts = stops_before F files [] acts
 
 cut_at_once : (acts : List Act) (files : Option Files) (before : Option Session) (answer : Status) → CutsShort answer
     → Breaks acts files files before before answer
@@ -172,7 +172,7 @@ cut_at_once acts files before answer cut = record {
   rest = acts;
   acts_are = refl;
   said = [];
-  stops = stops_at_once files acts;
+  stops = stops_at_once (answer ≡ DepotFault) files acts;
   asks = asks-none acts before before [] (shows_nothing before);
 }
 
@@ -199,18 +199,22 @@ run_follows program options actions files left before mid after ended answer run
         behind_follows run.ran.acts files left before mid after (drill_line actions ran_end) (status_of ran_end.stop) answer run.leaves run.asks
         (subst (λ (e : RunEnd). ShowsOrWants mid after (drill_line actions e) (status_of e.stop) answer) run.end_is shown)
 
-stops_longer : (files left : Option Files) (done rest more : List Act) (said : List ℕ) → StopsBehind files done rest left said
-    → StopsBehind files done (rest ++ more) left said
-stops_longer None left done rest more said stops = tt
-stops_longer (Some files) left done rest more said stops = stops_more (files_by files done) (shown_by done) rest more left said stops
+stops_longer : (F : Type 0) (files left : Option Files) (done rest more : List Act) (said : List ℕ) → StopsBehind F files done rest left said
+    → StopsBehind F files done (rest ++ more) left said
+stops_longer F None left done rest more said stops = tt
+stops_longer F (Some files) left done rest more said stops = stops_more F (files_by files done) (shown_by done) rest more left said stops
 
 -- one that was cut short
-pub run_cut : (program : ProgramValue) (options : RunOptions) (actions : Option ℕ) (files left : Option Files) (before after : Option Session)
-    (answer : Status) → HasRunInto program options.steps options.width (outside files before) (outside left after) → CutsShort answer
+pub run_cut : {F : Type 0} (program : ProgramValue) (options : RunOptions) (actions : Option ℕ) (files left : Option Files) (before after : Option Session)
+    (answer : Status) → (F → answer ≡ DepotFault) → HasRunInto F program options.steps options.width (outside files before) (outside left after)
+    → CutsShort answer
     → FollowsSome (IsProgramOutcome program options actions) files left before after answer
-run_cut program options actions files left before after answer run cut =
+run_cut program options actions files left before after answer faulted run cut =
     (run.run.input, run.run.is_input, ran_outcome actions run.ran, (run.ran, run.run.runs, refl), inr (by actions))
   where
+    stops : StopsBehind (answer ≡ DepotFault) files run.done run.rest left run.said
+    stops = behind_as faulted files run.done run.rest left run.said run.stops
+
     by : (actions : Option ℕ) → Breaks (acts_of actions run.ran) files left before after answer
     by None = record {
       cut = cut;
@@ -218,7 +222,7 @@ run_cut program options actions files left before after answer run cut =
       rest = run.rest;
       acts_are = run.acts_are;
       said = run.said;
-      stops = run.stops;
+      stops = stops;
       asks = run.asks;
     }
     by (Some actions) =
@@ -229,7 +233,7 @@ run_cut program options actions files left before after answer run cut =
           rest = run.rest ++ line;
           acts_are = ap (λ a. a ++ line) run.acts_are ∙ append_assoc run.done run.rest line;
           said = run.said;
-          stops = stops_longer files left run.done run.rest line run.said run.stops;
+          stops = stops_longer (answer ≡ DepotFault) files left run.done run.rest line run.said stops;
           asks = asks-longer run.ran.acts line before after run.said run.asks;
         }
 

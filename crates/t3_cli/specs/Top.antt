@@ -54,8 +54,8 @@ pub record IsWhole (command : Option CommandValue) (files : Files) (before : Opt
   pub files_are : left ≡ Some (files_by files outcome.acts)
   pub asks : AsksBy outcome.acts before after (shown_by outcome.acts)
 
--- the outcome was cut short within one of its acts, or after the last
-pub record IsCutWithin (command : Option CommandValue) (files : Files) (before : Option Session) (left : Option Files) (after : Option Session) : Type 0 where
+-- the outcome was cut short within one of its acts, or after the last; a file is spoiled only where the depot faulted
+pub record IsCutWithin (command : Option CommandValue) (files : Files) (before : Option Session) (answer : Status) (left : Option Files) (after : Option Session) : Type 0 where
   pub input : List ℕ
   pub is_input : IsInput before input
   pub outcome : Outcome
@@ -64,9 +64,10 @@ pub record IsCutWithin (command : Option CommandValue) (files : Files) (before :
   pub rest : List Act
   pub acts_are : outcome.acts ≡ done ++ rest
   pub said : List ℕ
-  pub stops : StopsIn (files_by files done) (shown_by done) rest left said
+  pub stops : StopsIn (answer ≡ DepotFault) (files_by files done) (shown_by done) rest left said
   pub asks : AsksBy outcome.acts before after said
 
 -- nothing was done yet, or the outcome was cut short
-abbrev pub IsCut : Option CommandValue → Files → Option Session → Option Files → Option Session → Type 0
-IsCut command files before left after = ((left ≡ Some files) × (after ≡ before)) ⊎ IsCutWithin command files before left after
+abbrev pub IsCut : Option CommandValue → Files → Option Session → Status → Option Files → Option Session → Type 0
+IsCut command files before answer left after =
+    ((left ≡ Some files) × (after ≡ before)) ⊎ IsCutWithin command files before answer left after

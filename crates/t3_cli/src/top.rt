@@ -37,9 +37,10 @@ use t3_words::Command;
 /// for refused allocations, though no clause ties it to them. Each other answer comes with its whole
 /// outcome, and exactly for its cause where the call wasn't cut short by one of these three. So where
 /// neither device counted a fault and the answer isn't `NoMemory`, the outcome is that of the words. After
-/// one of the three a prefix of the right text was shown, and at most the file that was being put differs,
-/// as a put may leave it. Input is taken only where a run wants a line that the bytes taken so far don't end,
-/// and when what comes before that line was shown; at most 16,777,216 bytes of it.
+/// one of the three a prefix of the right text was shown, and the files are as the puts left them that were
+/// done; only after `DepotFault` may the file that was being put be spoiled. Input is taken only where a run
+/// wants a line that the bytes taken so far don't end, and when what comes before that line was shown; at most
+/// 16,777,216 bytes of it.
 pub fn t3_main<D: Depot, C: Console>(
     alloc: Global,
     words: &[String],
@@ -59,7 +60,7 @@ pub fn t3_main<D: Depot, C: Console>(
 
     // Where it was, what had been done of it.
     ensures cut { IfSome (D.files depot.old) (λ files. CutsShort result
-        → IsCut (command_of (map string_bytes words.now)) files (C.session console.old) (D.files depot.new) (C.session console.new)) }
+        → IsCut (command_of (map string_bytes words.now)) files (C.session console.old) result (D.files depot.new) (C.session console.new)) }
 
     // The cause of each answer but those of a failure.
     ensures causes { IfSome (D.files depot.old) (λ files. (status : AnyStatus) → ¬ CutsShort status

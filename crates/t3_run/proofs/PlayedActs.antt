@@ -6,6 +6,7 @@ use Rattle.t3_io.specs.Files.{Files}
 use Rattle.t3_io.specs.Session.{Session}
 use Rattle.t3_io.specs.Putting.{PutsFile}
 use Rattle.t3_io.specs.declared.refusal.DeviceRefusal.{DeviceRefusal}
+use Rattle.t3_io.specs.declared.refusal.DeviceRefusal.TheVariants.{Fault}
 use Rattle.t3_lines.specs.Lines.{limit}
 use Rattle.t3_lines.specs.Reader.{ReaderValue, IsInputOf, Takes}
 use Rattle.t3_lines.proofs.Inputs.{earlier_input}
@@ -16,7 +17,7 @@ use Rattle.t3_run.specs.Running.{Outside, outside, IsRunOf, HasRunInto}
 use Rattle.t3_run.specs.Inner.Playing.{Shifts, Play, HasPlayed, Rests, NoPuts, asks_in}
 use Rattle.t3_run.proofs.Acts.{shown_by-append, asks_in-append, files_by-append, files_by-unput, files_after-append, files_after-unput, files_after-told, files_after-untold, unput-append}
 use Rattle.t3_run.proofs.Asks.{asks-more, asks-longer, asks-line, some_input, reading-shown, reading-taken}
-use Rattle.t3_run.proofs.Cutting.{cut_behind}
+use Rattle.t3_run.proofs.Cutting.{cut_behind, fails_by}
 use Rattle.t3_run.proofs.Runs.{preceded_by-preceded_by}
 
 -- what stands in front of a rest, whatever the files are and whatever input the reader's bytes begin
@@ -246,13 +247,13 @@ played-run play Rest count pending reader now played input is rest on =
     played.onward (record { width = play.width; input = input }) refl is rest on
 
 -- cut short
-pub played-into : (play : Play) (Rest : Rests) (count : ℕ) (pending : List ℕ) (reader : ReaderValue) (now : Outside)
+pub played-into : {F : Type 0} (play : Play) (Rest : Rests) (count : ℕ) (pending : List ℕ) (reader : ReaderValue) (now : Outside)
     → ((files : Option Files) (terms : Terms) → (rest : Ran) × Rest files terms rest) → HasPlayed play Rest count pending reader now
-    → HasRunInto play.program play.steps play.width play.before now
-played-into play Rest count pending reader now some played =
+    → HasRunInto F play.program play.steps play.width play.before now
+played-into {F} play Rest count pending reader now some played =
     let input = some_input play.before.session now.session reader played.reads in
     let rest = some (files_after play.before.files played.done) (record { width = play.width; input = input.0 }) in
-    let cut = cut_behind play.before.files now.files played.done played.recent rest.0.acts played.said pending played.unput played.leaves played.is in
+    let cut = cut_behind F play.before.files now.files played.done played.recent rest.0.acts played.said pending played.unput played.leaves played.is in
     record {
       ran = preceded_by played.acts rest.0;
       run = record {
@@ -264,35 +265,35 @@ played-into play Rest count pending reader now some played =
       rest = cut.rest;
       acts_are = ap (λ a. a ++ rest.0.acts) played.acts_are ∙ cut.is;
       said = played.shown;
-      stops = subst (λ (s : List ℕ). StopsBehind play.before.files cut.done cut.rest now.files s) (sym played.shown_is) cut.stops;
+      stops = subst (λ (s : List ℕ). StopsBehind F play.before.files cut.done cut.rest now.files s) (sym played.shown_is) cut.stops;
       asks = asks-longer played.acts rest.0.acts play.before.session now.session played.shown played.asks;
     }
 
 -- cut short while a text was put out
-pub shifted-into : (play : Play) (Rest Next : Rests) (count : ℕ) (acts : List Act) (old text left : List ℕ) (reader : ReaderValue)
+pub shifted-into : {F : Type 0} (play : Play) (Rest Next : Rests) (count : ℕ) (acts : List Act) (old text left : List ℕ) (reader : ReaderValue)
     (files : Option Files) (mid after : Option Session)
     → asks_in acts ≡ 0 → NoPuts acts → shown_by acts ≡ text → Behind play acts reader Rest Next
     → ((files : Option Files) (terms : Terms) → (rest : Ran) × Next files terms rest)
     → HasPlayed play Rest count old reader (outside files mid) → Shifts mid after old text left
-    → HasRunInto play.program play.steps play.width play.before (outside files after)
+    → HasRunInto F play.program play.steps play.width play.before (outside files after)
 shifted-into play Rest Next count acts old text left reader files mid after none unput shown behind some played shifts =
     played-into play Next count left reader (outside files after) some
     (played-more play Rest Next count acts old text left reader files mid after none unput shown behind played shifts)
 
 -- cut short in a put
-put_stops : (before mid after : Option Files) (acts done recent rest : List Act) (name bytes shown : List ℕ) (e : DeviceRefusal)
+put_stops : {F : Type 0} (before mid after : Option Files) (acts done recent rest : List Act) (name bytes shown : List ℕ) (e : DeviceRefusal) → (e ≡ Fault → F)
     → acts ≡ done ++ recent → NoPuts recent → LeavesActs before mid done → PutsFile mid after name bytes (Err e) → shown ≡ shown_by acts
-    → StopsBehind before acts (Puts name bytes ∷ rest) after shown
-put_stops None mid after acts done recent rest name bytes shown e is unput leaves puts all = tt
-put_stops (Some files) mid after acts done recent rest name bytes shown e is unput leaves puts all =
+    → StopsBehind F before acts (Puts name bytes ∷ rest) after shown
+put_stops None mid after acts done recent rest name bytes shown e faulted is unput leaves puts all = tt
+put_stops (Some files) mid after acts done recent rest name bytes shown e faulted is unput leaves puts all =
     let there : mid ≡ Some (files_by files acts) = leaves ∙ ap (λ f. Some f) (sym (files_left files acts done recent is unput)) in
-    (Err e, subst (λ (m : Option Files). PutsFile m after name bytes (Err e)) there puts, all)
+    (fails_by (files_by files acts) after name bytes e faulted (subst (λ (m : Option Files). PutsFile m after name bytes (Err e)) there puts), all)
 
-pub put-into : (play : Play) (Rest Next : Rests) (count : ℕ) (name bytes : List ℕ) (reader : ReaderValue) (mid after : Option Files)
-    (session : Option Session) (e : DeviceRefusal) → PutsFile mid after name bytes (Err e) → Behind play (Puts name bytes ∷ []) reader Rest Next
+pub put-into : {F : Type 0} (play : Play) (Rest Next : Rests) (count : ℕ) (name bytes : List ℕ) (reader : ReaderValue) (mid after : Option Files)
+    (session : Option Session) (e : DeviceRefusal) → (e ≡ Fault → F) → PutsFile mid after name bytes (Err e) → Behind play (Puts name bytes ∷ []) reader Rest Next
     → ((files : Option Files) (terms : Terms) → (rest : Ran) × Next files terms rest)
-    → HasPlayed play Rest count [] reader (outside mid session) → HasRunInto play.program play.steps play.width play.before (outside after session)
-put-into play Rest Next count name bytes reader mid after session e puts behind some played =
+    → HasPlayed play Rest count [] reader (outside mid session) → HasRunInto F play.program play.steps play.width play.before (outside after session)
+put-into play Rest Next count name bytes reader mid after session e faulted puts behind some played =
     let put : List Act = Puts name bytes ∷ [] in
     let here = files_after play.before.files played.done in
     let input = some_input play.before.session session reader played.reads in
@@ -314,7 +315,7 @@ put-into play Rest Next count name bytes reader mid after session e puts behind 
       acts_are = refl;
       said = played.shown;
       stops =
-          put_stops play.before.files mid after played.acts played.done played.recent rest.0.acts name bytes played.shown e played.acts_are
+          put_stops play.before.files mid after played.acts played.done played.recent rest.0.acts name bytes played.shown e faulted played.acts_are
           played.unput played.leaves puts (sym all);
       asks = asks-longer played.acts (Puts name bytes ∷ rest.0.acts) play.before.session session played.shown played.asks;
     }

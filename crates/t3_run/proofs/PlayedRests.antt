@@ -194,9 +194,9 @@ played-gone play left made next own old new event text given count pending reade
     (go_and terms play.program made next (world_of old text given files) new event rest gone on)) played
 
 -- a step could not be made
-pub steps-into : (play : Play) (left : ℕ) (world : Option Files → World) (count : ℕ) (pending : List ℕ) (reader : ReaderValue) (now : Outside)
+pub steps-into : {F : Type 0} (play : Play) (left : ℕ) (world : Option Files → World) (count : ℕ) (pending : List ℕ) (reader : ReaderValue) (now : Outside)
     → HasPlayed play (StepsLeft play left world) count pending reader now
-    → HasRunInto play.program play.steps play.width play.before now
+    → HasRunInto F play.program play.steps play.width play.before now
 steps-into play left world count pending reader now played =
     played-into play (StepsLeft play left world) count pending reader now (some_steps play left world) played
 

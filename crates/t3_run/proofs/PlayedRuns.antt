@@ -24,6 +24,8 @@ use Rattle.t3_run.specs.Showing.{ShowsMore, ShowsPrefixOf}
 use Rattle.t3_run.specs.EndLines.{end_line}
 use Rattle.t3_run.specs.Run.{Ran, stopped}
 use Rattle.t3_run.specs.Running.{Outside, outside, end_at, HasRun, HasRunInto, IsRun}
+use Rattle.t3_run.specs.Cause.{depot_refusal, console_refusal, IsDepotFault, IsFault, IsNoDepotFault}
+use Rattle.t3_run.proofs.Cutting.{behind_as}
 use Rattle.t3_run.specs.Inner.Playing.{Shifts, Play, HasPlayed, world_of, StepsLeft, EventLeft, StopLeft, IsPageOf, Turns, HasTurned, HasFinished, HasEnded, IsAt, told_as}
 use Rattle.t3_run.specs.declared.turn.Turn.{Turn}
 use Rattle.t3_run.specs.declared.turn.Turn.TheVariants as turns
@@ -40,37 +42,63 @@ pub as-event : (play : Play) (left : ℕ) (event is : Event) (state : State) (te
 as-event play left event is state text count pending reader now same played =
     subst (λ (e : Event). HasPlayed play (EventLeft play left e (world_of state text reader.given)) count pending reader now) same played
 
-pub turned-err : {E : Type 0} (play : Play) (left : ℕ) (screen : Screen) (reader : ReaderValue) (now : Outside) (answer : Result Turn E)
-    (e : E) → answer ≡ Err e → HasRunInto play.program play.steps play.width play.before now
-    → HasTurned play left screen reader now answer
-turned-err {E} play left screen reader now answer e is into =
-    subst (λ (r : Result Turn E). HasTurned play left screen reader now r) (sym is) into
+pub turned-err : {E : Type 0} (Faulted : E → Type 0) (play : Play) (left : ℕ) (screen : Screen) (reader : ReaderValue) (now : Outside)
+    (answer : Result Turn E) (e : E) → answer ≡ Err e → HasRunInto (Faulted e) play.program play.steps play.width play.before now
+    → HasTurned Faulted play left screen reader now answer
+turned-err {E} Faulted play left screen reader now answer e is into =
+    subst (λ (r : Result Turn E). HasTurned Faulted play left screen reader now r) (sym is) into
 
-pub finished-err : {E : Type 0} (play : Play) (left : ℕ) (text : List ℕ) (reader : ReaderValue) (now : Outside) (answer : Result Turn E)
-    (e : E) → answer ≡ Err e → HasRunInto play.program play.steps play.width play.before now
-    → HasFinished play left text reader now answer
-finished-err {E} play left text reader now answer e is into =
-    subst (λ (r : Result Turn E). HasFinished play left text reader now r) (sym is) into
+pub finished-err : {E : Type 0} (Faulted : E → Type 0) (play : Play) (left : ℕ) (text : List ℕ) (reader : ReaderValue) (now : Outside)
+    (answer : Result Turn E) (e : E) → answer ≡ Err e → HasRunInto (Faulted e) play.program play.steps play.width play.before now
+    → HasFinished Faulted play left text reader now answer
+finished-err {E} Faulted play left text reader now answer e is into =
+    subst (λ (r : Result Turn E). HasFinished Faulted play left text reader now r) (sym is) into
 
 pub ended-err : (play : Play) (screen : Screen) (now : Outside) (answer : Result (MachineValue × Stop) RunRefusal) (e : RunRefusal)
-    → answer ≡ Err e → HasRunInto play.program play.steps play.width play.before now → HasEnded play screen now answer
+    → answer ≡ Err e → HasRunInto (IsDepotFault e) play.program play.steps play.width play.before now → HasEnded play screen now answer
 ended-err play screen now answer e is into = subst (λ (r : Result (MachineValue × Stop) RunRefusal). HasEnded play screen now r) (sym is) into
 
 -- what an instruction came to that waited is what the turn did
-pub finished-turns : {E : Type 0} (play : Play) (left : ℕ) (text : List ℕ) (screen : Screen) (reader : ReaderValue) (now : Outside) (answer : Result Turn E)
-    → IsPageOf play screen text → screen.out.items ≡ [] → HasFinished play left text reader now answer → HasTurned play left screen reader now answer
-finished-turns play left text screen reader now (Ok turn) page none finished =
+pub finished-turns : {E : Type 0} (Faulted : E → Type 0) (play : Play) (left : ℕ) (text : List ℕ) (screen : Screen) (reader : ReaderValue) (now : Outside)
+    (answer : Result Turn E) → IsPageOf play screen text → screen.out.items ≡ [] → HasFinished Faulted play left text reader now answer
+    → HasTurned Faulted play left screen reader now answer
+finished-turns Faulted play left text screen reader now (Ok turn) page none finished =
     (text, page, subst (λ (pending : List ℕ). Turns play left text pending reader now turn) (sym none) finished)
-finished-turns play left text screen reader now (Err e) page none into = into
+finished-turns Faulted play left text screen reader now (Err e) page none into = into
+
+pub into-told : {F G : Type 0} (play : Play) (now : Outside) → (F → G) → HasRunInto F play.program play.steps play.width play.before now
+    → HasRunInto G play.program play.steps play.width play.before now
+into-told play now told into = record {
+  ran = into.ran;
+  run = into.run;
+  done = into.done;
+  rest = into.rest;
+  acts_are = into.acts_are;
+  said = into.said;
+  stops = behind_as told play.before.files into.done into.rest now.files into.said into.stops;
+  asks = into.asks;
+}
 
 -- told as of a run
-pub turned-told : (told : DeviceRefusal → RunRefusal) (play : Play) (left : ℕ) (screen : Screen) (reader : ReaderValue) (now : Outside)
-    (answer : Result Turn DeviceRefusal) (result : Result Turn RunRefusal) → result ≡ told_as told answer → HasTurned play left screen reader now answer
-    → HasTurned play left screen reader now result
-turned-told told play left screen reader now (Ok turn) result is turned =
-    subst (λ (r : Result Turn RunRefusal). HasTurned play left screen reader now r) (sym is) turned
-turned-told told play left screen reader now (Err e) result is into =
-    subst (λ (r : Result Turn RunRefusal). HasTurned play left screen reader now r) (sym is) into
+turned-told : (told : DeviceRefusal → RunRefusal) (Faulted : DeviceRefusal → Type 0) → ((e : DeviceRefusal) → Faulted e → IsDepotFault (told e))
+    → (play : Play) (left : ℕ) (screen : Screen) (reader : ReaderValue) (now : Outside)
+    (answer : Result Turn DeviceRefusal) (result : Result Turn RunRefusal) → result ≡ told_as told answer
+    → HasTurned Faulted play left screen reader now answer
+    → HasTurned IsDepotFault play left screen reader now result
+turned-told told Faulted faults play left screen reader now (Ok turn) result is turned =
+    subst (λ (r : Result Turn RunRefusal). HasTurned IsDepotFault play left screen reader now r) (sym is) turned
+turned-told told Faulted faults play left screen reader now (Err e) result is into =
+    subst (λ (r : Result Turn RunRefusal). HasTurned IsDepotFault play left screen reader now r) (sym is) (into-told play now (faults e) into)
+
+pub depot-told : (play : Play) (left : ℕ) (screen : Screen) (reader : ReaderValue) (now : Outside)
+    (answer : Result Turn DeviceRefusal) (result : Result Turn RunRefusal) → result ≡ told_as depot_refusal answer
+    → HasTurned IsFault play left screen reader now answer → HasTurned IsDepotFault play left screen reader now result
+depot-told = turned-told depot_refusal IsFault (λ e is. ap depot_refusal is)
+
+pub console-told : (play : Play) (left : ℕ) (screen : Screen) (reader : ReaderValue) (now : Outside)
+    (answer : Result Turn DeviceRefusal) (result : Result Turn RunRefusal) → result ≡ told_as console_refusal answer
+    → HasTurned IsNoDepotFault play left screen reader now answer → HasTurned IsDepotFault play left screen reader now result
+console-told = turned-told console_refusal IsNoDepotFault (λ e never. absurd never)
 
 -- a page that wasn't touched
 pub still_page : (play : Play) (old new : Screen) (text : List ℕ) → new.page ≡ old.page → IsPageOf play old text → IsPageOf play new text
@@ -156,13 +184,13 @@ at-gone play left made next old new event text pending reader now is same goes a
 -- ---- the whole run
 
 -- nothing was done yet
-pub unbegun-into : (play : Play) → HasRunInto play.program play.steps play.width play.before play.before
+pub unbegun-into : {F : Type 0} (play : Play) → HasRunInto F play.program play.steps play.width play.before play.before
 unbegun-into play =
     steps-into play play.steps (world_of (initial play.program) [] 0) 0 [] new_reader play.before (played-none play (initial play.program) refl)
 
 -- it has stopped, and how it did isn't shown
-pub stop-into : (play : Play) (screen : Screen) (now : Outside) (machine : MachineValue) (stop : Stop) → HasEnded play screen now (Ok (machine, stop))
-    → HasRunInto play.program play.steps play.width play.before now
+pub stop-into : {F : Type 0} (play : Play) (screen : Screen) (now : Outside) (machine : MachineValue) (stop : Stop) → HasEnded play screen now (Ok (machine, stop))
+    → HasRunInto F play.program play.steps play.width play.before now
 stop-into play screen now machine stop (text, reader, page, at) =
     played-into play (StopLeft stop (world_of machine.state text at.given)) at.count screen.out.items reader now
     (λ files terms. (stopped terms stop (world_of machine.state text at.given files), refl)) at.played
@@ -175,12 +203,12 @@ close_shifts : (play : Play) (screen : Screen) (stop : Stop) (text line left : L
 close_shifts play screen stop text line left mid after page line_is shifts =
     subst (λ t. Shifts mid after screen.out.items t left) (λ i. close_out (page.width i) text ++ line_is i) shifts
 
-pub closed-into : (play : Play) (screen : Screen) (files : Option Files) (mid after : Option Session) (machine : MachineValue) (stop : Stop)
+pub closed-into : {F : Type 0} (play : Play) (screen : Screen) (files : Option Files) (mid after : Option Session) (machine : MachineValue) (stop : Stop)
     (line : List ℕ) → line ≡ end_line stop
     → ((taken : List ℕ) → HasTaken screen.page taken
     → (left : List ℕ) × Shifts mid after screen.out.items (close_out screen.page.width taken ++ line) left)
     → HasEnded play screen (outside files mid) (Ok (machine, stop))
-    → HasRunInto play.program play.steps play.width play.before (outside files after)
+    → HasRunInto F play.program play.steps play.width play.before (outside files after)
 closed-into play screen files mid after machine stop line line_is puts (text, reader, page, at) =
     let put = puts text page.taken in
     let shown = close_out play.width text ++ end_line stop in
@@ -252,6 +280,6 @@ ended-of play program width screen now machine stop same wide ended =
     subst (λ (p : Play). HasEnded p screen now (Ok (machine, stop))) (λ i. record play { program = same i; width = wide i }) ended
 
 pub run-err : (play : Play) (now : Outside) (answer : Result RunEnd RunRefusal) (e : RunRefusal) → answer ≡ Err e
-    → HasRunInto play.program play.steps play.width play.before now → IsRun play.program play.steps play.width play.before now answer
+    → HasRunInto (IsDepotFault e) play.program play.steps play.width play.before now → IsRun play.program play.steps play.width play.before now answer
 run-err play now answer e is into =
     subst (λ (r : Result RunEnd RunRefusal). IsRun play.program play.steps play.width play.before now r) (sym is) into

@@ -8,6 +8,7 @@ use Rattle.t3_io.specs.Files.{Files}
 use Rattle.t3_io.specs.Session.{Session}
 use Rattle.t3_io.specs.Putting.{PutsFile}
 use Rattle.t3_io.specs.declared.refusal.DeviceRefusal.{DeviceRefusal}
+use Rattle.t3_io.specs.declared.refusal.DeviceRefusal.TheVariants.{Fault}
 use Rattle.t3_console.specs.Output.{said_out, rest_out}
 use Rattle.t3_files.specs.Reading.{ReadsFile}
 use Rattle.t3_lines.specs.Lines.{limit, wanted_line}
@@ -40,11 +41,11 @@ use Rattle.t3_run.proofs.Runs.{some_taken}
 pub text_alone : (text : List ℕ) → shown_by (Shows text ∷ []) ≡ text
 text_alone text = append-nil text
 
-pub said-into : (play : Play) (left : ℕ) (reader : ReaderValue) (state : State) (text piece : List ℕ) (screen : Screen) (pending : List ℕ)
+pub said-into : {F : Type 0} (play : Play) (left : ℕ) (reader : ReaderValue) (state : State) (text piece : List ℕ) (screen : Screen) (pending : List ℕ)
     (files : Option Files) (mid after : Option Session) → IsPageOf play screen text
     → HasPlayed play (EventLeft play left (Said piece) (world_of state text reader.given)) reader.given screen.out.items reader (outside files mid)
     → Shifts mid after screen.out.items (said_out screen.page.width text piece) pending
-    → HasRunInto play.program play.steps play.width play.before (outside files after)
+    → HasRunInto F play.program play.steps play.width play.before (outside files after)
 said-into play left reader state text piece screen pending files mid after page played shifts =
     let world = world_of state (text ++ piece) reader.given in
     shifted-into play (EventLeft play left (Said piece) (world_of state text reader.given)) (StepsLeft play left world) reader.given
@@ -66,11 +67,11 @@ said-goes play left reader state text piece screen pending files mid after page 
 
 -- ---- a turn that asks
 
-pub rest-into : (play : Play) (left : ℕ) (reader : ReaderValue) (state : State) (text : List ℕ) (screen : Screen) (pending : List ℕ)
+pub rest-into : {F : Type 0} (play : Play) (left : ℕ) (reader : ReaderValue) (state : State) (text : List ℕ) (screen : Screen) (pending : List ℕ)
     (files : Option Files) (mid after : Option Session) → IsPageOf play screen text
     → HasPlayed play (EventLeft play left WantLine (world_of state text reader.given)) reader.given screen.out.items reader (outside files mid)
     → Shifts mid after screen.out.items (rest_out screen.page.width text) pending
-    → HasRunInto play.program play.steps play.width play.before (outside files after)
+    → HasRunInto F play.program play.steps play.width play.before (outside files after)
 rest-into play left reader state text screen pending files mid after page played shifts =
     shifted-into play (EventLeft play left WantLine (world_of state text reader.given)) (AskLeft play left (world_of state [] reader.given))
     reader.given (Shows (rest_out play.width text) ∷ []) screen.out.items (rest_out play.width text) pending reader files mid after refl tt
@@ -110,10 +111,10 @@ answer-finished play left machine reader now input text pending (turns.Stops las
 -- ---- what a line that was wanted comes to
 
 -- no line was given, or memory was wanting for it
-pub line-into : (play : Play) (left : ℕ) (state : State) (old new : ReaderValue) (files : Option Files) (mid after : Option Session)
+pub line-into : {F : Type 0} (play : Play) (left : ℕ) (state : State) (old new : ReaderValue) (files : Option Files) (mid after : Option Session)
     → Takes old new mid after → length new.taken ≤ limit
     → HasPlayed play (AskLeft play left (world_of state [] old.given)) old.given [] old (outside files mid)
-    → HasRunInto play.program play.steps play.width play.before (outside files after)
+    → HasRunInto F play.program play.steps play.width play.before (outside files after)
 line-into play left state old new files mid after takes few played =
     let world = world_of state [] old.given in
     played-into play (AnyLineLeft play left world) (old.given + 1) [] new (outside files after)
@@ -175,14 +176,14 @@ limit-stops play left machine old new files mid after takes few is played = reco
 
 -- ---- a turn that puts a file, with nothing pending
 
-pub stored-into : (play : Play) (left : ℕ) (reader : ReaderValue) (state : State) (text name bytes : List ℕ) (mid after : Option Files)
-    (session : Option Session) (e : DeviceRefusal) → PutsFile mid after name bytes (Err e)
+pub stored-into : {F : Type 0} (play : Play) (left : ℕ) (reader : ReaderValue) (state : State) (text name bytes : List ℕ) (mid after : Option Files)
+    (session : Option Session) (e : DeviceRefusal) → (e ≡ Fault → F) → PutsFile mid after name bytes (Err e)
     → HasPlayed play (EventLeft play left (WantPut name bytes) (world_of state text reader.given)) reader.given [] reader (outside mid session)
-    → HasRunInto play.program play.steps play.width play.before (outside after session)
-stored-into play left reader state text name bytes mid after session e puts played =
+    → HasRunInto F play.program play.steps play.width play.before (outside after session)
+stored-into play left reader state text name bytes mid after session e faulted puts played =
     let world = world_of state text reader.given in
     put-into play (EventLeft play left (WantPut name bytes) world) (AnswerLeft play left inputs.Stored world) reader.given name bytes reader mid after
-    session e puts (put-behind play left reader state text reader.given name bytes) (some_finish play left inputs.Stored world) played
+    session e faulted puts (put-behind play left reader state text reader.given name bytes) (some_finish play left inputs.Stored world) played
 
 pub stored : (play : Play) (left : ℕ) (reader : ReaderValue) (state : State) (text name bytes : List ℕ) (mid after : Option Files)
     (session : Option Session) → PutsFile mid after name bytes (Ok tt)
@@ -194,9 +195,9 @@ stored play left reader state text name bytes mid after session puts played =
     session puts (put-behind play left reader state text reader.given name bytes) played
 
 -- memory was wanting to go on
-pub answer-into : (play : Play) (left : ℕ) (reader : ReaderValue) (state : State) (input : Input) (text pending : List ℕ) (now : Outside)
+pub answer-into : {F : Type 0} (play : Play) (left : ℕ) (reader : ReaderValue) (state : State) (input : Input) (text pending : List ℕ) (now : Outside)
     → HasPlayed play (AnswerLeft play left input (world_of state text reader.given)) reader.given pending reader now
-    → HasRunInto play.program play.steps play.width play.before now
+    → HasRunInto F play.program play.steps play.width play.before now
 answer-into play left reader state input text pending now played =
     let world = world_of state text reader.given in
     played-into play (AnswerLeft play left input world) reader.given pending reader now (some_finish play left input world) played
@@ -204,19 +205,19 @@ answer-into play left reader state input text pending now played =
 -- ---- a turn that is given a file
 
 -- it couldn't be read
-pub event-into : (play : Play) (left : ℕ) (reader : ReaderValue) (state : State) (event : Event) (text pending : List ℕ) (now : Outside)
+pub event-into : {F : Type 0} (play : Play) (left : ℕ) (reader : ReaderValue) (state : State) (event : Event) (text pending : List ℕ) (now : Outside)
     → HasPlayed play (EventLeft play left event (world_of state text reader.given)) reader.given pending reader now
-    → HasRunInto play.program play.steps play.width play.before now
+    → HasRunInto F play.program play.steps play.width play.before now
 event-into play left reader state event text pending now played =
     let world = world_of state text reader.given in
     played-into play (EventLeft play left event world) reader.given pending reader now (some_rest play left event world) played
 
 -- the same files were told before and after
-pub same-files : (play : Play) (old new : Option Files) (session : Option Session) → new ≡ old
-    → HasRunInto play.program play.steps play.width play.before (outside old session)
-    → HasRunInto play.program play.steps play.width play.before (outside new session)
-same-files play old new session same into =
-    subst (λ (f : Option Files). HasRunInto play.program play.steps play.width play.before (outside f session)) (sym same) into
+pub same-files : {F : Type 0} (play : Play) (old new : Option Files) (session : Option Session) → new ≡ old
+    → HasRunInto F play.program play.steps play.width play.before (outside old session)
+    → HasRunInto F play.program play.steps play.width play.before (outside new session)
+same-files {F} play old new session same into =
+    subst (λ (f : Option Files). HasRunInto F play.program play.steps play.width play.before (outside f session)) (sym same) into
 
 pub given-file : (play : Play) (left : ℕ) (reader : ReaderValue) (state : State) (text name : List ℕ) (found : Option (Vec ℕ)) (input : Input)
     (pending : List ℕ) (old new : Option Files) (session : Option Session) → new ≡ old → ReadsFile old name (Ok found)

@@ -27,3 +27,13 @@ MovesConsoleFaults before after (Ok _) = after ≡ before
 MovesConsoleFaults before after (Err refusals.DepotFault) = after ≡ before
 MovesConsoleFaults before after (Err refusals.ConsoleFault) = before < after
 MovesConsoleFaults before after (Err refusals.NoMemory) = after ≡ before
+
+-- whether the depot faulted, as a run, the depot and the console tell it
+abbrev pub IsDepotFault : RunRefusal → Type 0
+IsDepotFault refusal = refusal ≡ refusals.DepotFault
+
+abbrev pub IsFault : DeviceRefusal → Type 0
+IsFault refusal = refusal ≡ Fault
+
+abbrev pub IsNoDepotFault : DeviceRefusal → Type 0
+IsNoDepotFault refusal = ⊥

@@ -9,6 +9,7 @@ use Rattle.t3_run.specs.declared.stop.Stop.{Stop}
 use Rattle.t3_run.specs.declared.stop.RunEnd.{RunEnd}
 use Rattle.t3_run.specs.declared.refusal.RunRefusal.{RunRefusal}
 use Rattle.t3_run.specs.Act.{Act, shown_by, LeavesActs, StopsBehind}
+use Rattle.t3_run.specs.Cause.{IsDepotFault}
 use Rattle.t3_run.specs.Asking.{IsInput, AsksBy}
 use Rattle.t3_run.specs.Run.{Ran, Runs, begun}
 
@@ -43,17 +44,17 @@ pub record HasRun (program : ProgramValue) (steps width : ℕ) (before after : O
   pub leaves : LeavesActs before.files after.files ran.acts
   pub asks : AsksBy ran.acts before.session after.session (shown_by ran.acts)
 
--- it was cut short within one of its acts, or after the last
-pub record HasRunInto (program : ProgramValue) (steps width : ℕ) (before after : Outside) : Type 0 where
+-- it was cut short within one of its acts, or after the last, where the depot faulted or not
+pub record HasRunInto (Faulted : Type 0) (program : ProgramValue) (steps width : ℕ) (before after : Outside) : Type 0 where
   pub ran : Ran
   pub run : IsRunOf program steps width before ran
   pub done : List Act
   pub rest : List Act
   pub acts_are : ran.acts ≡ done ++ rest
   pub said : List ℕ
-  pub stops : StopsBehind before.files done rest after.files said
+  pub stops : StopsBehind Faulted before.files done rest after.files said
   pub asks : AsksBy ran.acts before.session after.session said
 
 abbrev pub IsRun : ProgramValue → (steps width : ℕ) → Outside → Outside → Result RunEnd RunRefusal → Type 0
 IsRun program steps width before after (Ok ended) = HasRun program steps width before after ended
-IsRun program steps width before after (Err _) = HasRunInto program steps width before after
+IsRun program steps width before after (Err refusal) = HasRunInto (IsDepotFault refusal) program steps width before after

@@ -24,7 +24,7 @@ use t3_load::Program;
 /// Input is taken only while a line is wanted that the bytes taken so far don't end, at most 16,777,216 bytes
 /// in all, and what comes before was shown then. Of a file that is wanted at most 268,435,457 bytes are read.
 /// After a refusal a prefix of what the run shows was shown, and the files are those after some of its puts, but
-/// for one that may be as a failed put leaves it.
+/// for one that may be as a failed put leaves it where the depot faulted.
 pub fn run<D: Depot, C: Console>(
     alloc: Global,
     program: Program,

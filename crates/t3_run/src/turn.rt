@@ -12,7 +12,7 @@ ghost use Rattle.t3_interp.specs.declared.event.Input.TheVariants as inputs;
 ghost use Rattle.t3_interp.specs.declared.event.Want.TheVariants.{Line, Stored, File};
 ghost use Rattle.t3_interp.specs.Step.{IsWanted};
 ghost use Rattle.t3_interp.specs.Wanting.{WantsOn, HasFrame, IsNamed};
-ghost use Rattle.t3_run.specs.Cause.{depot_refusal, console_refusal, MovesDepotFaults, MovesConsoleFaults};
+ghost use Rattle.t3_run.specs.Cause.{depot_refusal, console_refusal, IsDepotFault, IsFault, IsNoDepotFault, MovesDepotFaults, MovesConsoleFaults};
 ghost use Rattle.t3_run.specs.Run.{file_input as input_of_file};
 ghost use Rattle.t3_run.specs.Running.{outside};
 ghost use Rattle.t3_run.specs.Inner.Playing.{Play, HasPlayed, IsPageOf, EventLeft, AskLeft, world_of, HasTurned, HasFinished, IsFinished, told_as};
@@ -56,7 +56,7 @@ pub(crate) fn make_turn<D: Depot, C: Console>(
         → HasPlayed play (EventLeft play left event (world_of machine.state text lines.old.given))
         lines.old.given screen.old.out.items lines.old
         (outside (D.files depot.old) (C.session console.old))
-        → HasTurned play left screen.new lines.new
+        → HasTurned IsDepotFault play left screen.new lines.new
         (outside (D.files depot.new) (C.session console.new)) result }
     ensures depot { MovesDepotFaults (D.faults depot.old) (D.faults depot.new) result }
     ensures console { MovesConsoleFaults (C.faults console.old) (C.faults console.new) result }
@@ -108,7 +108,7 @@ fn say<C: Console>(
         → machine.program ≡ play.program → machine.state.steps + left ≡ play.steps
         → HasPlayed play (EventLeft play left (events.Said text.now) (world_of machine.state said reader.given))
         reader.given screen.old.out.items reader (outside files (C.session console.old))
-        → HasTurned play left screen.new reader (outside files (C.session console.new)) result }
+        → HasTurned IsNoDepotFault play left screen.new reader (outside files (C.session console.new)) result }
     ensures cause { MovesFaults (C.faults console.old) (C.faults console.new) result }
 {
     screen.say(text, console)?;
@@ -129,7 +129,7 @@ fn ask<C: Console>(
         → machine.program ≡ play.program → machine.state.steps + left ≡ play.steps
         → HasPlayed play (EventLeft play left events.WantLine (world_of machine.state text lines.old.given))
         lines.old.given screen.old.out.items lines.old (outside files (C.session console.old))
-        → HasTurned play left screen.new lines.new (outside files (C.session console.new)) result }
+        → HasTurned IsNoDepotFault play left screen.new lines.new (outside files (C.session console.new)) result }
     ensures cause { MovesFaults (C.faults console.old) (C.faults console.new) result }
 {
     screen.rest(console)?;
@@ -150,7 +150,7 @@ fn give_line<C: Console>(
         → machine.state.steps + left ≡ play.steps
         → HasPlayed play (AskLeft play left (world_of machine.state [] lines.old.given))
         lines.old.given [] lines.old (outside files (C.session console.old))
-        → HasFinished play left [] lines.new (outside files (C.session console.new)) result }
+        → HasFinished IsNoDepotFault play left [] lines.new (outside files (C.session console.new)) result }
     ensures cause { MovesFaults (C.faults console.old) (C.faults console.new) result }
 {
     match lines.next_line(console)? {
@@ -176,7 +176,7 @@ fn store_file<D: Depot>(
         → machine.program ≡ play.program → machine.state.steps + left ≡ play.steps
         → HasPlayed play (EventLeft play left (events.WantPut name.now bytes.now)
         (world_of machine.state text reader.given)) reader.given [] reader (outside (D.files depot.old) session)
-        → HasFinished play left text reader (outside (D.files depot.new) session) result }
+        → HasFinished IsFault play left text reader (outside (D.files depot.new) session) result }
     ensures cause { MovesFaults (D.faults depot.old) (D.faults depot.new) result }
 {
     depot.put(name, bytes)?;
@@ -199,7 +199,7 @@ fn give_file<D: Depot>(
         → IsPageOf play screen text → machine.program ≡ play.program → machine.state.steps + left ≡ play.steps
         → HasPlayed play (EventLeft play left (events.WantGet name.now) (world_of machine.state text reader.given))
         reader.given screen.out.items reader (outside (D.files depot.old) session)
-        → HasTurned play left screen reader (outside (D.files depot.new) session) result }
+        → HasTurned IsFault play left screen reader (outside (D.files depot.new) session) result }
     ensures cause { MovesFaults (D.faults depot.old) (D.faults depot.new) result }
 {
     let input = file_input(read_file(alloc, name, depot)?);

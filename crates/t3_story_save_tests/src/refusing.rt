@@ -1,7 +1,7 @@
 //! Files that are no states of the image.
 use crate::story::{first_unlike, run_in, story_beside};
 use sha2::{Digest, Sha256};
-use std::alloc::Global;
+use std::alloc::{AllocError, Global};
 use std::test::Fail;
 use t3_io::SureDepot;
 use t3_testing::Row;
@@ -148,12 +148,16 @@ fn refuses_the_number_of_a_transient_object(rt: HostRuntime) -> Result<(), Fail>
     Ok(())
 }
 
+fn zeros(alloc: Global, size: usize) -> Result<Vec<u8>, AllocError> {
+    Vec::from_elem(alloc, 0, size)
+}
+
 /// A file with a byte more than a state may have is refused, whatever it begins with, and is read no further.
 #[test]
 fn refuses_a_file_that_is_too_long(rt: HostRuntime) -> Result<(), Fail> {
     let alloc = rt.alloc();
     let state = saved(alloc, KEPT)?;
-    let mut long = vec![in alloc; 0; 268_435_457]?;
+    let mut long = zeros(alloc, 268_435_457)?;
     for (byte, of_state) in long.iter_mut().zip(state.iter()) {
         *byte = *of_state;
     }

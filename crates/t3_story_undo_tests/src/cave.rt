@@ -124,9 +124,22 @@ fn stops_where_the_depot_fails(rt: HostRuntime) -> Result<(), Fail> {
 /// A text is shown in one call. All lines are read in one, behind the first text, and another behind the last finds none.
 #[test]
 fn stops_where_the_console_fails(rt: HostRuntime) -> Result<(), Fail> {
-    let texts = [0, 1, 1, 2, 3, 4, 5, 6, 7, 8, 9, 10];
-    for (call, count) in texts.iter().enumerate() {
-        let (status, shown) = played_with(rt.alloc(), &[], &[call as u32])?;
+    let rows: [(u32, usize); 12] = [
+        (0, 0),
+        (1, 1),
+        (2, 1),
+        (3, 2),
+        (4, 3),
+        (5, 4),
+        (6, 5),
+        (7, 6),
+        (8, 7),
+        (9, 8),
+        (10, 9),
+        (11, 10),
+    ];
+    for (call, count) in &rows {
+        let (status, shown) = played_with(rt.alloc(), &[], &[*call])?;
         assert_eq!(rt; shown, shown_first(rt.alloc(), *count)?, "{call}");
         assert_eq!(rt; status, Status::ConsoleFault, "{call}");
     }

@@ -8,7 +8,7 @@ use Rattle.t3_image_read.specs.declared.reader.Totals.{Totals}
 use Rattle.t3_cli.specs.declared.images.read.ReadImage.{ReadImage}
 use Rattle.t3_cli.specs.declared.images.read.ReadImage.TheVariants as read
 use Rattle.t3_cli.specs.declared.status.Status.{Status}
-use Rattle.t3_cli.specs.declared.status.Status.TheVariants.{Done, Absent, ImageRefused, SourceRefused}
+use Rattle.t3_cli.specs.declared.status.Status.TheVariants.{Done, Absent, ImageRefused, SourceRefused, DepotFault}
 use Rattle.t3_run.specs.Act.{Act, shown_by, LeavesActs, StopsBehind}
 use Rattle.t3_run.specs.Asking.{IsInput, AsksBy}
 use Rattle.t3_cli.specs.BlockLines.{totals_text}
@@ -36,7 +36,7 @@ pub record Breaks (acts : List Act) (files left : Option Files) (before after : 
   pub rest : List Act
   pub acts_are : acts ≡ done ++ rest
   pub said : List ℕ
-  pub stops : StopsBehind files done rest left said
+  pub stops : StopsBehind (answer ≡ DepotFault) files done rest left said
   pub asks : AsksBy acts before after said
 
 abbrev pub Follows : Outcome → Option Files → Option Files → Option Session → Option Session → Status → Type 0
@@ -87,4 +87,4 @@ PutsSized files left name bytes (Err refusal) = PutsFile files left name bytes (
 -- the whole outcome stands, or the call was cut short
 abbrev pub Answers : Option CommandValue → Files → Option Session → Status → Option Files → Option Session → Type 0
 Answers command files before answer left after =
-    IsWhole command files before answer left after ⊎ (CutsShort answer × IsCut command files before left after)
+    IsWhole command files before answer left after ⊎ (CutsShort answer × IsCut command files before answer left after)

@@ -26,6 +26,7 @@ use Rattle.t3_run.specs.Showing.{ShowsMore}
 use Rattle.t3_run.specs.Asking.{AsksBy}
 use Rattle.t3_run.specs.Run.{Terms, World, Ran, Runs, RunsOn, TakesLine, IsAnswered, preceded_by, begun, stopped}
 use Rattle.t3_run.specs.Running.{Outside, HasRunInto}
+use Rattle.t3_run.specs.Cause.{IsDepotFault}
 
 -- ---- what a screen has put out
 
@@ -149,15 +150,15 @@ abbrev pub Turns : Play → ℕ → List ℕ → List ℕ → ReaderValue → Ou
 Turns play left text pending reader now (turns.Goes machine) = IsAt play left machine text pending reader now
 Turns play left text pending reader now (turns.Stops machine stop) = IsStopped play stop machine.state text pending reader now
 
--- what a turn comes to
-abbrev pub HasTurned : {E : Type 0} → Play → ℕ → Screen → ReaderValue → Outside → Result Turn E → Type 0
-HasTurned play left screen reader now (Ok turn) = (text : List ℕ) × IsPageOf play screen text × Turns play left text screen.out.items reader now turn
-HasTurned play left screen reader now (Err _) = HasRunInto play.program play.steps play.width play.before now
+-- what a turn comes to, by which refusals the depot faulted
+abbrev pub HasTurned : {E : Type 0} → (E → Type 0) → Play → ℕ → Screen → ReaderValue → Outside → Result Turn E → Type 0
+HasTurned Faulted play left screen reader now (Ok turn) = (text : List ℕ) × IsPageOf play screen text × Turns play left text screen.out.items reader now turn
+HasTurned Faulted play left screen reader now (Err refusal) = HasRunInto (Faulted refusal) play.program play.steps play.width play.before now
 
 -- what an instruction comes to that waited: nothing is pending
-abbrev pub HasFinished : {E : Type 0} → Play → ℕ → List ℕ → ReaderValue → Outside → Result Turn E → Type 0
-HasFinished play left text reader now (Ok turn) = Turns play left text [] reader now turn
-HasFinished play left text reader now (Err _) = HasRunInto play.program play.steps play.width play.before now
+abbrev pub HasFinished : {E : Type 0} → (E → Type 0) → Play → ℕ → List ℕ → ReaderValue → Outside → Result Turn E → Type 0
+HasFinished Faulted play left text reader now (Ok turn) = Turns play left text [] reader now turn
+HasFinished Faulted play left text reader now (Err refusal) = HasRunInto (Faulted refusal) play.program play.steps play.width play.before now
 
 -- an instruction that waited is finished: the machine goes on, or its run has ended
 abbrev pub IsFinished : MachineValue → Input → Turn → Type 0
@@ -176,4 +177,4 @@ told_as told (Err refusal) = Err (told refusal)
 abbrev pub HasEnded : Play → Screen → Outside → Result (MachineValue × Stop) RunRefusal → Type 0
 HasEnded play screen now (Ok (machine, stop)) =
     (text : List ℕ) × (reader : ReaderValue) × IsPageOf play screen text × IsStopped play stop machine.state text screen.out.items reader now
-HasEnded play screen now (Err _) = HasRunInto play.program play.steps play.width play.before now
+HasEnded play screen now (Err refusal) = HasRunInto (IsDepotFault refusal) play.program play.steps play.width play.before now

@@ -1,3 +1,5 @@
+use Rattle.std.proofs.Common.{◌≡◌, ◌∙◌, refl, sym}
+use Rattle.t3_run.specs.declared.refusal.RunRefusal.TheVariants.{DepotFault, ConsoleFault, NoMemory}
 use Rattle.t3_words.specs.Command.{options_value}
 use Rattle.t3_cli.proofs.Followed.{run_follows, run_cut}
 use Rattle.t3_cli.proofs.story.play.Goals as goal
@@ -9,12 +11,14 @@ returns-in-Ok-clause-follows g c =
 
 pub returns-in-Err-DepotFault-clause-follows : goal.returns-in-Err-DepotFault-clause-follows
 returns-in-Err-DepotFault-clause-follows g c =
-    run_cut c.args.program (options_value c.args.options) c.args.actions _ _ _ _ _ c.in-Err-DepotFault.ensures.run tt
+    run_cut c.args.program (options_value c.args.options) c.args.actions _ _ _ _ _ (λ is. refl) c.in-Err-DepotFault.ensures.run tt
 
 pub returns-in-Err-ConsoleFault-clause-follows : goal.returns-in-Err-ConsoleFault-clause-follows
 returns-in-Err-ConsoleFault-clause-follows g c =
-    run_cut c.args.program (options_value c.args.options) c.args.actions _ _ _ _ _ c.in-Err-ConsoleFault.ensures.run tt
+    run_cut c.args.program (options_value c.args.options) c.args.actions _ _ _ _ _
+    (λ is. let clash : ConsoleFault ≡ DepotFault = sym c.in-Err-ConsoleFault.field-0-is ∙ is in absurd cc) c.in-Err-ConsoleFault.ensures.run tt
 
 pub returns-in-Err-NoMemory-clause-follows : goal.returns-in-Err-NoMemory-clause-follows
 returns-in-Err-NoMemory-clause-follows g c =
-    run_cut c.args.program (options_value c.args.options) c.args.actions _ _ _ _ _ c.in-Err-NoMemory.ensures.run tt
+    run_cut c.args.program (options_value c.args.options) c.args.actions _ _ _ _ _
+    (λ is. let clash : NoMemory ≡ DepotFault = sym c.in-Err-NoMemory.field-0-is ∙ is in absurd cc) c.in-Err-NoMemory.ensures.run tt

@@ -5,7 +5,7 @@ use Rattle.t3_interp.proofs.Runs.{gone_some}
 use Rattle.t3_run.specs.Running.{outside}
 use Rattle.t3_run.specs.Inner.Playing.{Play}
 use Rattle.t3_run.proofs.PlayedRests.{steps-into}
-use Rattle.t3_run.proofs.PlayedRuns.{begun-at, at-gone, as-goes, as-stops, at-last, ended-err}
+use Rattle.t3_run.proofs.PlayedRuns.{begun-at, at-gone, as-goes, as-stops, at-last, into-told, ended-err}
 use Rattle.t3_run.proofs.play.play.Goals as goal
 
 pub loop-left-init : goal.loop-left-init
@@ -79,8 +79,10 @@ returns-in_err-next-2-clause-ended g c =
     at-gone play c.loop-left.left c.in_ok-next.made (c.loop-left.left - c.in_ok-next.made) c.loop-left.machine c.in_ok-next.next c.in_ok-next.event
     at.0 c.loop-left.screen.out.items c.loop-left.lines now (omega (arith, bound)) c.in_ok-next.ensures.program c.in_ok-next.ensures.goes at.2 in
     let p = err_from_is_err_and c.from_residual-in_err-next-2.result c.from_residual-in_err-next-2.ensures.1 in
-    ended-err play c.make_turn.new.screen (outside (g.D.Depot.files c.make_turn.new.depot) (g.C.Console.session c.make_turn.new.console)) c.from_residual-in_err-next-2.result _ p.1
-    (c.in_err-next-2.ensures.turned play (c.loop-left.left - c.in_ok-next.made) at.0 at.1 gone.own gone.made gone.played)
+    let after = outside (g.D.Depot.files c.make_turn.new.depot) (g.C.Console.session c.make_turn.new.console) in
+    ended-err play c.make_turn.new.screen after c.from_residual-in_err-next-2.result _ p.1
+    (into-told play after (λ is. p.2 ∙ is)
+    (c.in_err-next-2.ensures.turned play (c.loop-left.left - c.in_ok-next.made) at.0 at.1 gone.own gone.made gone.played))
 
 pub loop-left-smaller : goal.loop-left-smaller
 loop-left-smaller g c =

@@ -2,6 +2,7 @@ use Rattle.std.proofs.Common.{Ok, [], subst, sym, ◌∙◌}
 use Rattle.std.proofs.lemmas.Result.{err_from_is_err_and}
 use Rattle.t3_lines.specs.Reader.{CountsLine, IsAtEnd}
 use Rattle.t3_lines.specs.declared.line.WantedLine.{WantedLine}
+use Rattle.t3_run.specs.Cause.{IsNoDepotFault}
 use Rattle.t3_run.specs.Running.{outside}
 use Rattle.t3_run.proofs.PlayedTurns.{line-into, line-finished, end-finished, limit-stops}
 use Rattle.t3_run.proofs.PlayedRuns.{finished-err}
@@ -11,7 +12,7 @@ pub returns-in_err-line-clause-finished : goal.returns-in_err-line-clause-finish
 returns-in_err-line-clause-finished g c play left files own steps played =
     let p = err_from_is_err_and c.from_residual.result c.from_residual.ensures.1 in
     let after = g.C.Console.session c.next_line.new.console in
-    finished-err play left [] c.next_line.new.self (outside files after) c.from_residual.result _ p.1
+    finished-err IsNoDepotFault play left [] c.next_line.new.self (outside files after) c.from_residual.result _ p.1
     (line-into play left c.args.machine.state c.args.lines.now c.next_line.new.self files (g.C.Console.session c.args.console.now) after
     c.next_line.ensures.takes c.next_line.ensures.limit played)
 
@@ -19,7 +20,7 @@ pub returns-in_err-finish-in-Line-clause-finished : goal.returns-in_err-finish-i
 returns-in_err-finish-in-Line-clause-finished g c play left files own steps played =
     let p = err_from_is_err_and c.from_residual-in_err-finish-in-Line.result c.from_residual-in_err-finish-in-Line.ensures.1 in
     let after = g.C.Console.session c.next_line.new.console in
-    finished-err play left [] c.next_line.new.self (outside files after) c.from_residual-in_err-finish-in-Line.result _ p.1
+    finished-err IsNoDepotFault play left [] c.next_line.new.self (outside files after) c.from_residual-in_err-finish-in-Line.result _ p.1
     (line-into play left c.args.machine.state c.args.lines.now c.next_line.new.self files (g.C.Console.session c.args.console.now) after
     c.next_line.ensures.takes c.next_line.ensures.limit played)
 
@@ -27,7 +28,7 @@ pub returns-in_err-finish-in-EndOfInput-clause-finished : goal.returns-in_err-fi
 returns-in_err-finish-in-EndOfInput-clause-finished g c play left files own steps played =
     let p = err_from_is_err_and c.from_residual-in_err-finish-in-EndOfInput.result c.from_residual-in_err-finish-in-EndOfInput.ensures.1 in
     let after = g.C.Console.session c.next_line.new.console in
-    finished-err play left [] c.next_line.new.self (outside files after) c.from_residual-in_err-finish-in-EndOfInput.result _ p.1
+    finished-err IsNoDepotFault play left [] c.next_line.new.self (outside files after) c.from_residual-in_err-finish-in-EndOfInput.result _ p.1
     (line-into play left c.args.machine.state c.args.lines.now c.next_line.new.self files (g.C.Console.session c.args.console.now) after
     c.next_line.ensures.takes c.next_line.ensures.limit played)
 

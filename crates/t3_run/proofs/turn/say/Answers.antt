@@ -1,5 +1,6 @@
 use Rattle.std.proofs.Common.{◌++◌, ◌∙◌}
 use Rattle.std.proofs.lemmas.Result.{err_from_is_err_and}
+use Rattle.t3_run.specs.Cause.{IsNoDepotFault}
 use Rattle.t3_run.specs.Running.{outside}
 use Rattle.t3_run.proofs.PlayedTurns.{said-into, said-goes}
 use Rattle.t3_run.proofs.PlayedRuns.{turned-err}
@@ -12,7 +13,7 @@ returns-in_err-say-clause-turned g c play left text reader files page own steps 
     let after = g.C.Console.session c.say.new.console in
     let screen = c.args.screen.now in
     let put = c.in_err-say.ensures.put text page.taken in
-    turned-err play left c.say.new.self reader (outside files after) c.from_residual.result _ p.1
+    turned-err IsNoDepotFault play left c.say.new.self reader (outside files after) c.from_residual.result _ p.1
     (said-into play left reader c.args.machine.state text c.args.text.now screen put.0 files mid after page played put.1)
 
 pub returns-clause-turned : goal.returns-clause-turned
