@@ -57,6 +57,28 @@ fn restarts(rt: HostRuntime) -> Result<(), Fail> {
     Ok(())
 }
 
+/// Class 3, whose method restarts and looks at self.
+const CLASS: &str =
+    "block \"OBJS\" 1 / objects 0 0 / object 3 / u2 0 / u2 1 / u2 1 / u2 9 / hold 11 @f";
+
+/// In a method of an object that was made, self is gone then.
+#[test]
+fn takes_self_away(rt: HostRuntime) -> Result<(), Fail> {
+    let alloc = rt.alloc();
+    let body =
+        "pushobj 3 / new1 1 0 / getr0 / callprop 0 9 / retnil / f: / method 0 0 4 0 / builtin_a 0 17 / \
+                getpropself 3 / retnil";
+    let mut depot = SureDepot::new(alloc);
+    depot.keep(b"a.t3", &story_beside(alloc, CLASS, body)?)?;
+    let (status, shown) = run_in(alloc, &mut depot, b"")?;
+    assert_eq!(rt;
+        shown.as_slice(),
+        b"[unhandled object=5 fault=20]\n".as_slice()
+    );
+    assert_eq!(rt; status, Status::Unhandled);
+    Ok(())
+}
+
 /// A story that saves where it is given a line, and else restores, makes 64 transient vectors and restarts.
 const FILLS_AND_RESTARTS: &str =
     "builtin_b 0 4 / getr0 / jf @next / pushstr @name / builtin_a 1 15 / retnil / next: / pushstr @name / \
