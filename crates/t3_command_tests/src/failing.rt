@@ -24,8 +24,8 @@ fn outcome_with(
 
 const USAGE: &str = "usage: t3 check or show or list or run or rewrite or asm or drill\n";
 
-/// Words, how many calls the depot and the console get, what the last of these shows and what those before it show, and
-/// the status.
+/// Words, how many calls the depot and the console get, what the calls of the console show but the last, what the last
+/// shows, and the status.
 type Row = (
     &'static [&'static str],
     u32,
