@@ -1,22 +1,23 @@
 -- Slots as lists: what they answer, and what a change of one does. Other crates may use these.
-use Rattle.std.proofs.Common.{◌≡◌, ◌∙◌, ap, sym, subst, refl, ℕ, zero, suc, ◌+◌, Bool, true, false, cond, ◌||◌, List, [], ◌∷◌, ◌++◌, length, filter, take, slice_get, Option, None, Some, IsTrue, IsSome, is_some, true≢false, add-one, arith}
+use Rattle.std.proofs.Common.{◌≡◌, ◌∙◌, ap, sym, subst, refl, ℕ, zero, suc, ◌+◌, Bool, true, false, cond, ◌||◌, List, [], ◌∷◌, ◌++◌, length, map, filter, take, slice_get, option_map, if◌then◌else◌, Option, None, Some, IsTrue, IsSome, is_some, true≢false, add-one, arith}
 use Rattle.std.specs.Ordering.{eq_by_cmp}
 use Rattle.std.specs.Cmp.{Equal-is, eq_by_cmp_equiv}
 use Rattle.std.specs.List.{list_any, AllByRecursion, IsDistinct}
 use Rattle.std.specs.Map.{keys_of, lookup, set_value}
-use Rattle.std.specs.FinMap.{get, get-empty, same_map, keys, contains_key-keys}
+use Rattle.std.specs.FinMap.{FinMap, empty, get, get-empty, get-insert, get-entries, get-from_entries, insert, len, len-empty, len-insert, same_map, keys, entries, contains_key}
 use Rattle.std.specs.FinMap.Entries.{find, find-append}
-use Rattle.std.specs.FinSet.{contains, insert, len, from_list, contains-from_list, contains-insert, len-empty, len-insert, from_list_push, same_set}
 use Rattle.std.proofs.lemmas.List.Elements.{filter-append}
+use Rattle.std.proofs.lemmas.List.{map-append}
 use Rattle.std.proofs.lemmas.Map.{lookup-set_value, keys-set_value}
 use Rattle.std.proofs.lemmas.Map.Made.{is_some-lookup}
 use Rattle.t3_undo.specs.Cell.{cell_cmp, cell_cmp_total, cell_cmp-IsAntisymmetric}
-use Rattle.t3_undo.specs.Content.{Present, Places, shown, is_form, places_for}
+use Rattle.t3_undo.specs.Content.{Present, Parts, Places, shown, is_form, with_place, places_for}
 use Rattle.t3_undo.specs.Objects.{set_at}
-use Rattle.t3_undo.specs.Slots.{parts_of, places_of, is_present, AreFormed}
+use Rattle.t3_undo.specs.Slots.{parts_of, places_of, unstamped, is_present, AreFormed}
 use Rattle.t3_undo.specs.declared.cell.Cell.{Cell}
 use Rattle.t3_undo.specs.declared.content.Content.{Content}
 use Rattle.t3_undo.specs.declared.content.Content.TheVariants.{Absent, Held, Slot}
+use Rattle.t3_undo.specs.declared.place.Place.{Place}
 use Rattle.t3_undo.proofs.Maps.{get-set_at}
 
 abbrev pub same : Cell → Cell → Bool
@@ -28,29 +29,54 @@ same-is c d e = cell_cmp-IsAntisymmetric c d ((Equal-is (cell_cmp c d)).0 e)
 same-symm : (c d : Cell) → same c d ≡ same d c
 same-symm = (eq_by_cmp_equiv cell_cmp_total).symm
 
-abbrev Entries : Type 0
-Entries = List (Cell × Content)
+abbrev pub Entries : Type 0
+Entries = List (Cell × Place)
 
--- what a found content shows
-abbrev pub seen : Option Content → Option Present
+-- what a found place shows
+abbrev pub seen : Option Place → Option Present
 seen None = None
-seen (Some content) = shown content
+seen (Some place) = shown place.content
 
-seen-cond : (b : Bool) (content : Content) (o : Option Content) → cond b (shown content) (seen o) ≡ seen (cond b (Some content) o)
-seen-cond true content o = refl
-seen-cond false content o = refl
+seen-cond : (b : Bool) (place : Place) (o : Option Place) → cond b (shown place.content) (seen o) ≡ seen (cond b (Some place) o)
+seen-cond true place o = refl
+seen-cond false place o = refl
+
+-- the place that is found
+pub found : (o : Option Place) → is_some o ≡ true → (place : Place) × (o ≡ Some place)
+found None e = absurd (true≢false (sym e))
+found (Some place) e = (place, refl)
+
+-- its stamp
+abbrev pub stamped : Option Place → Option ℕ
+stamped place = option_map (λ p. p.stamp) place
+
+stamped-cond : (b : Bool) (place : Place) (o : Option Place) → cond b (Some place.stamp) (stamped o) ≡ stamped (cond b (Some place) o)
+stamped-cond true place o = refl
+stamped-cond false place o = refl
 
 pub get-parts_of : (slots : Entries) (cell : Cell) → get (parts_of slots) cell ≡ seen (lookup (same cell) slots)
 unfolding parts_of
 get-parts_of [] cell = get-empty cell_cmp cell
 get-parts_of (slot ∷ slots) cell =
-    get-set_at cell_cmp_total (parts_of slots) slot.0 (shown slot.1) cell
-    ∙ ap (cond (same cell slot.0) (shown slot.1)) (get-parts_of slots cell)
+    get-set_at cell_cmp_total (parts_of slots) slot.0 (shown slot.1.content) cell
+    ∙ ap (cond (same cell slot.0) (shown slot.1.content)) (get-parts_of slots cell)
     ∙ seen-cond (same cell slot.0) slot.1 (lookup (same cell) slots)
 
+pub get-places_of : (slots : Entries) (cell : Cell) → get (places_of slots) cell ≡ stamped (lookup (same cell) slots)
+unfolding places_of
+get-places_of [] cell = get-empty cell_cmp cell
+get-places_of (slot ∷ slots) cell =
+    get-insert cell_cmp_total (places_of slots) slot.0 slot.1.stamp cell
+    ∙ ap (cond (same cell slot.0) (Some slot.1.stamp)) (get-places_of slots cell)
+    ∙ stamped-cond (same cell slot.0) slot.1 (lookup (same cell) slots)
+
+is_some-stamped : (place : Option Place) → is_some (stamped place) ≡ is_some place
+is_some-stamped None = refl
+is_some-stamped (Some place) = refl
+
 -- a cell has a place where it is found
-pub contains-places_of : (slots : Entries) (cell : Cell) → contains (places_of slots) cell ≡ is_some (lookup (same cell) slots)
-contains-places_of slots cell = contains-from_list cell_cmp_total (keys_of slots) cell ∙ sym (is_some-lookup (same cell) slots)
+pub contains-places_of : (slots : Entries) (cell : Cell) → contains_key (places_of slots) cell ≡ is_some (lookup (same cell) slots)
+contains-places_of slots cell = ap is_some (get-places_of slots cell) ∙ is_some-stamped (lookup (same cell) slots)
 
 -- the parts are known by what is found
 pub same_parts : (slots others : Entries) → ((cell : Cell) → seen (lookup (same cell) slots) ≡ seen (lookup (same cell) others))
@@ -59,56 +85,110 @@ same_parts slots others alike =
     same_map cell_cmp_total cell_cmp-IsAntisymmetric _ _ (λ cell. get-parts_of slots cell ∙ alike cell ∙ sym (get-parts_of others cell))
 
 -- what is found is of the cell's form
-pub formed-lookup : (slots : Entries) (cell : Cell) → AreFormed slots → (content : Content) → lookup (same cell) slots ≡ Some content
-    → IsTrue (is_form cell (shown content))
-formed-lookup [] cell all content e = cc
-formed-lookup (slot ∷ slots) cell all content e = by (formed-lookup slots cell all.1 content) (same cell slot.0) refl e
+pub formed-lookup : (slots : Entries) (cell : Cell) → AreFormed slots → (place : Place) → lookup (same cell) slots ≡ Some place
+    → IsTrue (is_form cell (shown place.content))
+formed-lookup [] cell all place e = cc
+formed-lookup (slot ∷ slots) cell all place e = by (formed-lookup slots cell all.1 place) (same cell slot.0) refl e
   where
-    by : (lookup (same cell) slots ≡ Some content → IsTrue (is_form cell (shown content))) → (b : Bool) → same cell slot.0 ≡ b
-        → cond b (Some slot.1) (lookup (same cell) slots) ≡ Some content → IsTrue (is_form cell (shown content))
+    by : (lookup (same cell) slots ≡ Some place → IsTrue (is_form cell (shown place.content))) → (b : Bool) → same cell slot.0 ≡ b
+        → cond b (Some slot.1) (lookup (same cell) slots) ≡ Some place → IsTrue (is_form cell (shown place.content))
     by rest true t e =
-        let is : slot.1 ≡ content = cc in
-        let P : Cell → Type 0 = λ c. IsTrue (is_form c (shown content)) in
-        let Q : Content → Type 0 = λ c. IsTrue (is_form slot.0 (shown c)) in
+        let is : slot.1 ≡ place = cc in
+        let P : Cell → Type 0 = λ c. IsTrue (is_form c (shown place.content)) in
+        let Q : Place → Type 0 = λ p. IsTrue (is_form slot.0 (shown p.content)) in
         subst P (sym (same-is cell slot.0 t)) (subst Q is all.0)
     by rest false t e = rest e
 
 -- the three clauses of a look-up
-pub found-placed : (slots : Entries) (cell : Cell) (content : Content) → lookup (same cell) slots ≡ Some content
-    → contains (places_of slots) cell ≡ true
-found-placed slots cell content e = contains-places_of slots cell ∙ ap is_some e
+pub found-placed : (slots : Entries) (cell : Cell) (place : Place) → lookup (same cell) slots ≡ Some place
+    → contains_key (places_of slots) cell ≡ true
+found-placed slots cell place e = contains-places_of slots cell ∙ ap is_some e
 
-pub missed-placed : (slots : Entries) (cell : Cell) → lookup (same cell) slots ≡ None → contains (places_of slots) cell ≡ false
+pub missed-placed : (slots : Entries) (cell : Cell) → lookup (same cell) slots ≡ None → contains_key (places_of slots) cell ≡ false
 missed-placed slots cell e = contains-places_of slots cell ∙ ap is_some e
 
--- a content put under a cell that is there
-module _ (slots : Entries) (cell : Cell) (content : Content) where
+-- what a cell that has a place is found with
+pub place-there : (slots others : Entries) (cell : Cell) → slots ≡ others → contains_key (places_of others) cell ≡ true
+    → (place : Place) × (lookup (same cell) slots ≡ Some place)
+place-there slots others cell e placed =
+    found (lookup (same cell) slots) (sym (contains-places_of slots cell) ∙ (λ i. contains_key (places_of (e i)) cell) ∙ placed)
+
+-- a place changed under a cell that is there
+module _ (slots : Entries) (cell : Cell) (place : Place) where
   one : (x y : Cell) → same cell x ≡ true → same cell y ≡ same x y
   one x y e = (eq_by_cmp_equiv cell_cmp_total).congr cell x y e
 
-  pub parts_of-set_value : IsSome (lookup (same cell) slots) → parts_of (set_value (same cell) slots content)
-      ≡ set_at (parts_of slots) cell (shown content)
+  pub parts_of-set_value : IsSome (lookup (same cell) slots) → parts_of (set_value (same cell) slots place)
+      ≡ set_at (parts_of slots) cell (shown place.content)
   parts_of-set_value there =
       same_map cell_cmp_total cell_cmp-IsAntisymmetric _ _ (λ q.
-      get-parts_of (set_value (same cell) slots content) q
-      ∙ ap seen (lookup-set_value (eq_by_cmp_equiv cell_cmp_total) (same cell) one q content slots there)
-      ∙ sym (seen-cond (same cell q) content (lookup (same q) slots))
-      ∙ (let back = sym (get-parts_of slots q) in λ i. cond (same-symm cell q i) (shown content) (back i))
-      ∙ sym (get-set_at cell_cmp_total (parts_of slots) cell (shown content) q))
+      get-parts_of (set_value (same cell) slots place) q
+      ∙ ap seen (lookup-set_value (eq_by_cmp_equiv cell_cmp_total) (same cell) one q place slots there)
+      ∙ sym (seen-cond (same cell q) place (lookup (same q) slots))
+      ∙ (let back = sym (get-parts_of slots q) in λ i. cond (same-symm cell q i) (shown place.content) (back i))
+      ∙ sym (get-set_at cell_cmp_total (parts_of slots) cell (shown place.content) q))
 
-  pub places_of-set_value : places_of (set_value (same cell) slots content) ≡ places_of slots
-  places_of-set_value = ap from_list (keys-set_value (same cell) slots content)
+  pub places_of-set_value : IsSome (lookup (same cell) slots) → places_of (set_value (same cell) slots place)
+      ≡ insert (places_of slots) cell place.stamp
+  places_of-set_value there =
+      same_map cell_cmp_total cell_cmp-IsAntisymmetric _ _ (λ q.
+      get-places_of (set_value (same cell) slots place) q
+      ∙ ap stamped (lookup-set_value (eq_by_cmp_equiv cell_cmp_total) (same cell) one q place slots there)
+      ∙ sym (stamped-cond (same cell q) place (lookup (same q) slots))
+      ∙ (let back = sym (get-places_of slots q) in λ i. cond (same-symm cell q i) (Some place.stamp) (back i))
+      ∙ sym (get-insert cell_cmp_total (places_of slots) cell place.stamp q))
+
+-- what stands under a key put there again is no change
+module _ {X : Type 0} (m : FinMap cell_cmp X) where
+  pub insert-own : (cell : Cell) (x : X) → get m cell ≡ Some x → insert m cell x ≡ m
+  insert-own cell x there =
+      same_map cell_cmp_total cell_cmp-IsAntisymmetric _ _ (λ q. get-insert cell_cmp_total m cell x q ∙ by q (same q cell) refl)
+    where
+      by : (q : Cell) (b : Bool) → same q cell ≡ b → cond b (Some x) (get m q) ≡ get m q
+      by q true t = sym there ∙ ap (get m) (sym (same-is q cell t))
+      by q false t = refl
+
+-- a content put in the place of one that is there, and a stamp
+module _ (slots : Entries) (cell : Cell) (place : Place) (there : lookup (same cell) slots ≡ Some place) where
+  own-stamp : get (places_of slots) cell ≡ Some place.stamp
+  own-stamp = get-places_of slots cell ∙ ap stamped there
+
+  pub parts_of-put : (content : Content) → parts_of (set_value (same cell) slots (record place { content = content }))
+      ≡ set_at (parts_of slots) cell (shown content)
+  parts_of-put content = parts_of-set_value slots cell (record place { content = content }) (ap is_some there)
+
+  pub places_of-put : (content : Content) → places_of (set_value (same cell) slots (record place { content = content })) ≡ places_of slots
+  places_of-put content =
+      places_of-set_value slots cell (record place { content = content }) (ap is_some there)
+      ∙ insert-own (places_of slots) cell place.stamp own-stamp
+
+  pub parts_of-stamp : (stamp : ℕ) → parts_of (set_value (same cell) slots (record place { stamp = stamp })) ≡ parts_of slots
+  parts_of-stamp stamp =
+      parts_of-set_value slots cell (record place { stamp = stamp }) (ap is_some there)
+      ∙ ap (set_at (parts_of slots) cell) (sym (get-parts_of slots cell ∙ ap seen there))
+      ∙ back (parts_of slots) cell
+    where
+      back : (m : Parts) (k : Cell) → set_at m k (get m k) ≡ m
+      back m k = same_map cell_cmp_total cell_cmp-IsAntisymmetric _ _ (λ q. get-set_at cell_cmp_total m k (get m k) q ∙ own m k q (same q k) refl)
+        where
+          own : (m : Parts) (k q : Cell) (b : Bool) → same q k ≡ b → cond b (get m k) (get m q) ≡ get m q
+          own m k q true t = ap (get m) (sym (same-is q k t))
+          own m k q false t = refl
+
+  pub places_of-stamp : (stamp : ℕ) → places_of (set_value (same cell) slots (record place { stamp = stamp }))
+      ≡ insert (places_of slots) cell stamp
+  places_of-stamp stamp = places_of-set_value slots cell (record place { stamp = stamp }) (ap is_some there)
 
 -- and each content stays of its cell's form
-pub formed-set_value : (slots : Entries) (cell : Cell) (content : Content) → AreFormed slots → IsTrue (is_form cell (shown content))
-    → AreFormed (set_value (same cell) slots content)
-formed-set_value [] cell content all fits = all
-formed-set_value (slot ∷ slots) cell content all fits = by (formed-set_value slots cell content all.1 fits) (same cell slot.0) refl
+pub formed-set_value : (slots : Entries) (cell : Cell) (place : Place) → AreFormed slots → IsTrue (is_form cell (shown place.content))
+    → AreFormed (set_value (same cell) slots place)
+formed-set_value [] cell place all fits = all
+formed-set_value (slot ∷ slots) cell place all fits = by (formed-set_value slots cell place all.1 fits) (same cell slot.0) refl
   where
-    by : AreFormed (set_value (same cell) slots content) → (b : Bool) → same cell slot.0 ≡ b
-        → AreFormed (cond b ((slot.0, content) ∷ slots) (slot ∷ set_value (same cell) slots content))
+    by : AreFormed (set_value (same cell) slots place) → (b : Bool) → same cell slot.0 ≡ b
+        → AreFormed (cond b ((slot.0, place) ∷ slots) (slot ∷ set_value (same cell) slots place))
     by rest true t =
-        let P : Cell → Type 0 = λ c. IsTrue (is_form c (shown content)) in
+        let P : Cell → Type 0 = λ c. IsTrue (is_form c (shown place.content)) in
         (subst P (same-is cell slot.0 t) fits, all.1)
     by rest false t = (all.0, rest)
 
@@ -117,42 +197,46 @@ lookup-find : (slots : Entries) (cell : Cell) → lookup (same cell) slots ≡ f
 lookup-find [] cell = refl
 lookup-find (slot ∷ slots) cell = ap (cond (same cell slot.0) (Some slot.1)) (lookup-find slots cell)
 
-none-false : (o : Option Content) → is_some o ≡ false → o ≡ None
+none-false : (o : Option Place) → is_some o ≡ false → o ≡ None
 none-false None e = refl
 none-false (Some content) e = absurd (true≢false e)
 
 pub lookup-none : (slots : Entries) (cell : Cell) → list_any (same cell) (keys_of slots) ≡ false → lookup (same cell) slots ≡ None
 lookup-none slots cell e = none-false _ (is_some-lookup (same cell) slots ∙ e)
 
-module _ (slots : Entries) (cell : Cell) (content : Content) (new : list_any (same cell) (keys_of slots) ≡ false) where
-  pub lookup-add : (q : Cell) → lookup (same q) (slots ++ (cell, content) ∷ [])
-      ≡ cond (same q cell) (Some content) (lookup (same q) slots)
+module _ (slots : Entries) (cell : Cell) (place : Place) (new : list_any (same cell) (keys_of slots) ≡ false) where
+  pub lookup-add : (q : Cell) → lookup (same q) (slots ++ (cell, place) ∷ [])
+      ≡ cond (same q cell) (Some place) (lookup (same q) slots)
   lookup-add q =
       lookup-find _ q
-      ∙ find-append cell_cmp cell_cmp_total slots cell content q (sym (lookup-find slots cell) ∙ lookup-none slots cell new)
-      ∙ ap (cond (same q cell) (Some content)) (sym (lookup-find slots q))
+      ∙ find-append cell_cmp cell_cmp_total slots cell place q (sym (lookup-find slots cell) ∙ lookup-none slots cell new)
+      ∙ ap (cond (same q cell) (Some place)) (sym (lookup-find slots q))
 
-  pub parts_of-add : parts_of (slots ++ (cell, content) ∷ []) ≡ set_at (parts_of slots) cell (shown content)
+  pub parts_of-add : parts_of (slots ++ (cell, place) ∷ []) ≡ set_at (parts_of slots) cell (shown place.content)
   parts_of-add =
       same_map cell_cmp_total cell_cmp-IsAntisymmetric _ _ (λ q.
-      get-parts_of (slots ++ (cell, content) ∷ []) q ∙ ap seen (lookup-add q)
-      ∙ sym (seen-cond (same q cell) content (lookup (same q) slots))
-      ∙ ap (cond (same q cell) (shown content)) (sym (get-parts_of slots q))
-      ∙ sym (get-set_at cell_cmp_total (parts_of slots) cell (shown content) q))
+      get-parts_of (slots ++ (cell, place) ∷ []) q ∙ ap seen (lookup-add q)
+      ∙ sym (seen-cond (same q cell) place (lookup (same q) slots))
+      ∙ ap (cond (same q cell) (shown place.content)) (sym (get-parts_of slots q))
+      ∙ sym (get-set_at cell_cmp_total (parts_of slots) cell (shown place.content) q))
 
-keys_of-push : (slots : Entries) (cell : Cell) (content : Content) → keys_of (slots ++ (cell, content) ∷ []) ≡ keys_of slots ++ cell ∷ []
-keys_of-push [] cell content = refl
-keys_of-push (slot ∷ slots) cell content = ap (λ ks. slot.0 ∷ ks) (keys_of-push slots cell content)
+  pub places_of-add : places_of (slots ++ (cell, place) ∷ []) ≡ insert (places_of slots) cell place.stamp
+  places_of-add =
+      same_map cell_cmp_total cell_cmp-IsAntisymmetric _ _ (λ q.
+      get-places_of (slots ++ (cell, place) ∷ []) q ∙ ap stamped (lookup-add q)
+      ∙ sym (stamped-cond (same q cell) place (lookup (same q) slots))
+      ∙ ap (cond (same q cell) (Some place.stamp)) (sym (get-places_of slots q))
+      ∙ sym (get-insert cell_cmp_total (places_of slots) cell place.stamp q))
 
-pub places_of-add : (slots : Entries) (cell : Cell) (content : Content) → places_of (slots ++ (cell, content) ∷ [])
-    ≡ insert (places_of slots) cell
-places_of-add slots cell content =
-    ap from_list (keys_of-push slots cell content) ∙ from_list_push cell_cmp_total cell_cmp-IsAntisymmetric (keys_of slots) cell
+  pub places_of-made : place.stamp ≡ 0 → places_of (slots ++ (cell, place) ∷ []) ≡ with_place (places_of slots) cell
+  places_of-made unstamped =
+      places_of-add ∙ ap (insert (places_of slots) cell) unstamped
+      ∙ sym (λ i. if (contains-places_of slots cell ∙ is_some-lookup (same cell) slots ∙ new) i then places_of slots else insert (places_of slots) cell 0)
 
-pub formed-add : (slots : Entries) (cell : Cell) (content : Content) → AreFormed slots → IsTrue (is_form cell (shown content))
-    → AreFormed (slots ++ (cell, content) ∷ [])
-formed-add [] cell content all fits = (fits, tt)
-formed-add (slot ∷ slots) cell content all fits = (all.0, formed-add slots cell content all.1 fits)
+pub formed-add : (slots : Entries) (cell : Cell) (place : Place) → AreFormed slots → IsTrue (is_form cell (shown place.content))
+    → AreFormed (slots ++ (cell, place) ∷ [])
+formed-add [] cell place all fits = (fits, tt)
+formed-add (slot ∷ slots) cell place all fits = (all.0, formed-add slots cell place all.1 fits)
 
 -- a cell that isn't found has no place
 pub unplaced : (slots others : Entries) (cell : Cell) → slots ≡ others → (b : Bool) → b ≡ is_some (lookup (same cell) slots) → b ≡ false
@@ -161,54 +245,44 @@ unplaced slots others cell e b is missed = (λ i. list_any (same cell) (keys_of 
     ∙ sym is ∙ missed
 
 -- a slot added with nothing in it leaves the parts
-or-none : (b : Bool) (o : Option Content) → is_some o ≡ false → seen (cond b (Some Absent) o) ≡ seen o
+or-none : (b : Bool) (o : Option Place) → is_some o ≡ false → seen (cond b (Some (unstamped Absent)) o) ≡ seen o
 or-none true None e = refl
-or-none true (Some content) e = absurd (true≢false e)
+or-none true (Some place) e = absurd (true≢false e)
 or-none false o e = refl
 
 pub parts_of-add-absent : (slots : Entries) (cell : Cell) → list_any (same cell) (keys_of slots) ≡ false
-    → parts_of (slots ++ (cell, Absent) ∷ []) ≡ parts_of slots
-parts_of-add-absent slots cell new = same_parts _ slots (λ q. ap seen (lookup-add slots cell Absent new q) ∙ by q (same q cell) refl)
+    → parts_of (slots ++ (cell, unstamped Absent) ∷ []) ≡ parts_of slots
+parts_of-add-absent slots cell new =
+    same_parts _ slots (λ q. ap seen (lookup-add slots cell (unstamped Absent) new q) ∙ by q (same q cell) refl)
   where
-    by : (q : Cell) (b : Bool) → same q cell ≡ b → seen (cond b (Some Absent) (lookup (same q) slots)) ≡ seen (lookup (same q) slots)
+    by : (q : Cell) (b : Bool) → same q cell ≡ b
+        → seen (cond b (Some (unstamped Absent)) (lookup (same q) slots)) ≡ seen (lookup (same q) slots)
     by q true t =
         let P : Cell → Type 0 = λ c. lookup (same c) slots ≡ None in
         or-none true (lookup (same q) slots) (ap is_some (subst P (sym (same-is q cell t)) (lookup-none slots cell new)))
     by q false t = refl
 
 -- a place that is there is made again
-or-there : (b c : Bool) → (b ≡ true → c ≡ true) → c ≡ (b || c)
-or-there true c there = there refl
-or-there false c there = refl
-
-pub insert-places_of : (slots : Entries) (cell : Cell) → contains (places_of slots) cell ≡ true → places_of slots
-    ≡ insert (places_of slots) cell
-insert-places_of slots cell there =
-    same_set cell_cmp_total cell_cmp-IsAntisymmetric _ _ (λ q.
-    or-there (same q cell) _ (λ t. let P : Cell → Type 0 = λ c. contains (places_of slots) c
-    ≡ true in subst P (sym (same-is q cell t)) there)
-    ∙ sym (contains-insert cell_cmp_total (places_of slots) cell q))
+pub with_place-there : (places : Places) (cell : Cell) → contains_key places cell ≡ true → with_place places cell ≡ places
+with_place-there places cell there = λ i. if there i then places else insert places cell 0
 
 -- how many cells have a place
-none_after : (e : Cell → Cell → Bool) (x : Cell) (xs : List Cell) → AllByRecursion (λ y. e x y ≡ false) xs → list_any (e x) xs ≡ false
+pub none_after : (e : Cell → Cell → Bool) (x : Cell) (xs : List Cell) → AllByRecursion (λ y. e x y ≡ false) xs → list_any (e x) xs ≡ false
 none_after e x [] all = refl
 none_after e x (y ∷ ys) all = ap (λ b. b || list_any (e x) ys) all.0 ∙ none_after e x ys all.1
-
-len-from_list : (cells : List Cell) → IsDistinct same cells → len (from_list {R = cell_cmp} cells) ≡ length cells
-unfolding IsDistinct
-len-from_list [] apart = len-empty cell_cmp
-len-from_list (cell ∷ cells) apart =
-    len-insert cell_cmp_total (from_list cells) cell
-    ∙ ap (λ b. cond b (len (from_list {R = cell_cmp} cells)) (len (from_list {R = cell_cmp} cells) + 1))
-    (contains-from_list cell_cmp_total cells cell ∙ none_after same cell cells apart.0)
-    ∙ (let e = len-from_list cells apart.1 in omega (arith, e))
 
 length-keys : (slots : Entries) → length (keys_of slots) ≡ length slots
 length-keys [] = refl
 length-keys (slot ∷ slots) = let e = length-keys slots in omega (arith, e)
 
 pub len-places_of : (slots : Entries) → IsDistinct same (keys_of slots) → len (places_of slots) ≡ length slots
-len-places_of slots apart = len-from_list (keys_of slots) apart ∙ length-keys slots
+unfolding places_of IsDistinct
+len-places_of [] apart = len-empty cell_cmp ℕ
+len-places_of (slot ∷ slots) apart =
+    len-insert cell_cmp_total (places_of slots) slot.0 slot.1.stamp
+    ∙ ap (λ b. cond b (len (places_of slots)) (len (places_of slots) + 1))
+    (contains-places_of slots slot.0 ∙ is_some-lookup (same slot.0) slots ∙ none_after same slot.0 (keys_of slots) apart.0)
+    ∙ (let e = len-places_of slots apart.1 in omega (arith, e))
 
 -- the present slots alone
 none-filter : (slots : Entries) (cell : Cell) → lookup (same cell) slots ≡ None → lookup (same cell) (filter is_present slots) ≡ None
@@ -244,7 +318,7 @@ seen-filter (slot ∷ slots) apart cell = by (seen-filter slots apart.1 cell) (i
         let none : lookup (same cell) slots
         ≡ None = subst P (sym (same-is cell slot.0 t)) (lookup-none slots slot.0 (none_after same slot.0 (keys_of slots) apart.0))
         in
-        ap seen (none-filter slots cell none) ∙ sym (not_there slot.1 there)
+        ap seen (none-filter slots cell none) ∙ sym (not_there slot.1.content there)
     by rest false there false t = rest
 
 pub parts_of-filter : (slots : Entries) → IsDistinct same (keys_of slots) → parts_of (filter is_present slots) ≡ parts_of slots
@@ -269,37 +343,88 @@ present-shows (slot ∷ slots) cell = by (present-shows slots cell) (is_present 
     by rest true there = found rest (same cell slot.0) there
     by rest false there = rest
 
-pub places_of-filter : (slots : Entries) → IsDistinct same (keys_of slots) → places_of (filter is_present slots)
+-- a copy's slots, whose stamps are 0
+abbrev pub afresh : Entries → Entries
+afresh slots = map (λ slot. (slot.0, unstamped slot.1.content)) slots
+
+lookup-afresh : (slots : Entries) (cell : Cell) → lookup (same cell) (afresh slots)
+    ≡ option_map (λ place. unstamped place.content) (lookup (same cell) slots)
+lookup-afresh [] cell = refl
+lookup-afresh (slot ∷ slots) cell = by (lookup-afresh slots cell) (same cell slot.0)
+  where
+    by : lookup (same cell) (afresh slots) ≡ option_map (λ place. unstamped place.content) (lookup (same cell) slots)
+        → (b : Bool) → cond b (Some (unstamped slot.1.content)) (lookup (same cell) (afresh slots))
+        ≡ option_map (λ place. unstamped place.content) (cond b (Some slot.1) (lookup (same cell) slots))
+    by rest true = refl
+    by rest false = rest
+
+seen-afresh : (o : Option Place) → seen (option_map (λ place. unstamped place.content) o) ≡ seen o
+seen-afresh None = refl
+seen-afresh (Some place) = refl
+
+pub parts_of-afresh : (slots : Entries) → parts_of (afresh slots) ≡ parts_of slots
+parts_of-afresh slots = same_parts (afresh slots) slots (λ q. ap seen (lookup-afresh slots q) ∙ seen-afresh (lookup (same q) slots))
+
+pub keys_of-afresh : (slots : Entries) → keys_of (afresh slots) ≡ keys_of slots
+keys_of-afresh [] = refl
+keys_of-afresh (slot ∷ slots) = ap (λ ks. slot.0 ∷ ks) (keys_of-afresh slots)
+
+-- what has a place for a copy
+abbrev zero_if : Bool → Option ℕ
+zero_if b = cond b (Some 0) None
+
+find-zeros : (es : List (Cell × Present)) (q : Cell) → find cell_cmp q (map (λ cell. (cell, 0)) (map (λ e. e.0) es))
+    ≡ zero_if (is_some (find cell_cmp q es))
+find-zeros [] q = refl
+find-zeros (e ∷ es) q = by (find-zeros es q) (same q e.0)
+  where
+    by : find cell_cmp q (map (λ cell. (cell, 0)) (map (λ e. e.0) es)) ≡ zero_if (is_some (find cell_cmp q es))
+        → (b : Bool) → cond b (Some 0) (find cell_cmp q (map (λ cell. (cell, 0)) (map (λ e. e.0) es)))
+        ≡ zero_if (is_some (cond b (Some e.1) (find cell_cmp q es)))
+    by rest true = refl
+    by rest false = rest
+
+get-places_for : (parts : Parts) (q : Cell) → get (places_for parts) q ≡ zero_if (is_some (get parts q))
+get-places_for parts q =
+    get-from_entries cell_cmp_total (map (λ cell. (cell, 0)) (keys parts)) q ∙ find-zeros (entries parts) q
+    ∙ ap (λ o. zero_if (is_some o)) (sym (get-entries parts q))
+
+stamped-afresh : (o : Option Place) → stamped (option_map (λ place. unstamped place.content) o) ≡ zero_if (is_some o)
+stamped-afresh None = refl
+stamped-afresh (Some place) = refl
+
+pub places_of-filter : (slots : Entries) → IsDistinct same (keys_of slots) → places_of (afresh (filter is_present slots))
     ≡ places_for (parts_of slots)
 places_of-filter slots apart =
-    same_set cell_cmp_total cell_cmp-IsAntisymmetric _ _ (λ q.
-    contains-places_of (filter is_present slots) q
-    ∙ present-shows slots q
-    ∙ ap is_some (sym (get-parts_of (filter is_present slots) q) ∙ ap (λ m. get m q) (parts_of-filter slots apart))
-    ∙ contains_key-keys (parts_of slots) q
-    ∙ sym (contains-from_list cell_cmp_total (keys (parts_of slots)) q))
+    same_map cell_cmp_total cell_cmp-IsAntisymmetric _ _ (λ q.
+    get-places_of (afresh (filter is_present slots)) q
+    ∙ ap stamped (lookup-afresh (filter is_present slots) q)
+    ∙ stamped-afresh (lookup (same q) (filter is_present slots))
+    ∙ ap zero_if (present-shows slots q
+    ∙ ap is_some (sym (get-parts_of (filter is_present slots) q) ∙ ap (λ m. get m q) (parts_of-filter slots apart)))
+    ∙ sym (get-places_for (parts_of slots) q))
 
 -- a slot that stands at an index
-pub formed-at : (slots : Entries) (i : ℕ) (slot : Cell × Content) → AreFormed slots → slice_get slots i ≡ Some slot
-    → IsTrue (is_form slot.0 (shown slot.1))
+pub formed-at : (slots : Entries) (i : ℕ) (slot : Cell × Place) → AreFormed slots → slice_get slots i ≡ Some slot
+    → IsTrue (is_form slot.0 (shown slot.1.content))
 formed-at [] i slot all e = cc
 formed-at (first ∷ slots) zero slot all e =
     let is : first ≡ slot = cc in
-    let P : Cell × Content → Type 0 = λ s. IsTrue (is_form s.0 (shown s.1)) in
+    let P : Cell × Place → Type 0 = λ s. IsTrue (is_form s.0 (shown s.1.content)) in
     subst P is all.0
 formed-at (first ∷ slots) (suc i) slot all e = formed-at slots i slot all.1 e
 
 -- its cell is none of those before it
-apart-at : (cell : Cell) (slots : Entries) (i : ℕ) (slot : Cell × Content) → AllByRecursion (λ y. same cell y ≡ false) (keys_of slots)
+apart-at : (cell : Cell) (slots : Entries) (i : ℕ) (slot : Cell × Place) → AllByRecursion (λ y. same cell y ≡ false) (keys_of slots)
     → slice_get slots i ≡ Some slot → same slot.0 cell ≡ false
 apart-at cell [] i slot all e = cc
 apart-at cell (first ∷ slots) zero slot all e =
     let is : first ≡ slot = cc in
-    let P : Cell × Content → Type 0 = λ s. same s.0 cell ≡ false in
+    let P : Cell × Place → Type 0 = λ s. same s.0 cell ≡ false in
     subst P is (same-symm first.0 cell ∙ all.0)
 apart-at cell (first ∷ slots) (suc i) slot all e = apart-at cell slots i slot all.1 e
 
-pub new-at : (slots : Entries) (i : ℕ) (slot : Cell × Content) → IsDistinct same (keys_of slots) → slice_get slots i ≡ Some slot
+pub new-at : (slots : Entries) (i : ℕ) (slot : Cell × Place) → IsDistinct same (keys_of slots) → slice_get slots i ≡ Some slot
     → list_any (same slot.0) (keys_of (filter is_present (take i slots))) ≡ false
 unfolding IsDistinct
 new-at [] i slot apart e = cc
@@ -314,22 +439,34 @@ new-at (first ∷ slots) (suc i) slot apart e = by (new-at slots i slot apart.1 
     by rest false = rest
 
 -- the present slots up to behind it
-take-next : (slots : Entries) (i : ℕ) (slot : Cell × Content) → slice_get slots i ≡ Some slot → take (suc i) slots
+take-next : (slots : Entries) (i : ℕ) (slot : Cell × Place) → slice_get slots i ≡ Some slot → take (suc i) slots
     ≡ take i slots ++ slot ∷ []
 take-next [] i slot e = cc
 take-next (first ∷ slots) zero slot e = let is : first ≡ slot = cc in ap (λ s. s ∷ []) is
 take-next (first ∷ slots) (suc i) slot e = ap (λ xs. first ∷ xs) (take-next slots i slot e)
 
-take-at : (slots : Entries) (i : ℕ) (slot : Cell × Content) → slice_get slots i ≡ Some slot → take (i + 1) slots
+take-at : (slots : Entries) (i : ℕ) (slot : Cell × Place) → slice_get slots i ≡ Some slot → take (i + 1) slots
     ≡ take i slots ++ slot ∷ []
 take-at slots i slot e = rw add-one (take-next slots i slot e)
 
-pub filter-at : (slots : Entries) (i : ℕ) (slot : Cell × Content) → slice_get slots i ≡ Some slot
+pub filter-at : (slots : Entries) (i : ℕ) (slot : Cell × Place) → slice_get slots i ≡ Some slot
     → filter is_present (take (i + 1) slots) ≡ filter is_present (take i slots) ++ filter is_present (slot ∷ [])
 filter-at slots i slot e = ap (filter is_present) (take-at slots i slot e) ∙ filter-append is_present (take i slots) (slot ∷ [])
 
+pub afresh-at : (slots : Entries) (i : ℕ) (slot : Cell × Place) → slice_get slots i ≡ Some slot
+    → afresh (filter is_present (take (i + 1) slots))
+    ≡ afresh (filter is_present (take i slots)) ++ filter is_present ((slot.0, unstamped slot.1.content) ∷ [])
+afresh-at slots i slot e =
+    ap afresh (filter-at slots i slot e)
+    ∙ map-append (λ s. (s.0, unstamped s.1.content)) (filter is_present (take i slots)) (filter is_present (slot ∷ []))
+    ∙ ap (λ xs. afresh (filter is_present (take i slots)) ++ xs) (by (is_some (shown slot.1.content)))
+  where
+    by : (b : Bool) → afresh (cond b (slot ∷ []) []) ≡ cond b ((slot.0, unstamped slot.1.content) ∷ []) []
+    by true = refl
+    by false = refl
+
 -- the parts up to behind a slot, of which those before it don't have its cell
-new-among : (slots : Entries) (i : ℕ) (slot : Cell × Content) → IsDistinct same (keys_of slots) → slice_get slots i ≡ Some slot
+new-among : (slots : Entries) (i : ℕ) (slot : Cell × Place) → IsDistinct same (keys_of slots) → slice_get slots i ≡ Some slot
     → list_any (same slot.0) (keys_of (take i slots)) ≡ false
 unfolding IsDistinct
 new-among [] i slot apart e = cc
@@ -338,18 +475,22 @@ new-among (first ∷ slots) (suc i) slot apart e =
     ap (λ b. b || list_any (same slot.0) (keys_of (take i slots))) (apart-at first.0 slots i slot apart.0 e)
     ∙ new-among slots i slot apart.1 e
 
-pub parts_of-at : (slots : Entries) (i : ℕ) (slot : Cell × Content) → IsDistinct same (keys_of slots) → slice_get slots i ≡ Some slot
-    → parts_of (take (i + 1) slots) ≡ set_at (parts_of (take i slots)) slot.0 (shown slot.1)
+pub parts_of-at : (slots : Entries) (i : ℕ) (slot : Cell × Place) → IsDistinct same (keys_of slots) → slice_get slots i ≡ Some slot
+    → parts_of (take (i + 1) slots) ≡ set_at (parts_of (take i slots)) slot.0 (shown slot.1.content)
 parts_of-at slots i slot apart e = ap parts_of (take-at slots i slot e)
     ∙ parts_of-add (take i slots) slot.0 slot.1 (new-among slots i slot apart e)
 
-pub get-at : (slots : Entries) (i : ℕ) (slot : Cell × Content) → IsDistinct same (keys_of slots) → slice_get slots i ≡ Some slot
+pub get-at : (slots : Entries) (i : ℕ) (slot : Cell × Place) → IsDistinct same (keys_of slots) → slice_get slots i ≡ Some slot
     → get (parts_of (take i slots)) slot.0 ≡ None
 get-at slots i slot apart e = get-parts_of (take i slots) slot.0
     ∙ ap seen (lookup-none (take i slots) slot.0 (new-among slots i slot apart e))
 
 -- a cell has the place that was made for a copy of it
-pub placed-insert : (old new : Places) (copy cell : Cell) → new ≡ insert old copy → copy ≡ cell → contains new cell ≡ true
-placed-insert old new copy cell e is =
-    (λ i. contains (e i) cell) ∙ contains-insert cell_cmp_total old copy cell ∙ (λ i. same cell (is i) || contains old cell)
-    ∙ ap (λ b. b || contains old cell) ((eq_by_cmp_equiv cell_cmp_total).refl cell)
+pub placed-made : (old new : Places) (copy cell : Cell) → new ≡ with_place old copy → copy ≡ cell → contains_key new cell ≡ true
+placed-made old new copy cell e is = (λ i. contains_key (e i) (sym is i)) ∙ by (contains_key old copy) refl
+  where
+    by : (b : Bool) → contains_key old copy ≡ b → contains_key (if b then old else insert old copy 0) copy ≡ true
+    by true there = there
+    by false missing =
+        ap is_some (get-insert cell_cmp_total old copy 0 copy
+        ∙ ap (λ b. cond b (Some 0) (get old copy)) ((eq_by_cmp_equiv cell_cmp_total).refl copy))

@@ -1,7 +1,6 @@
 -- What stands in the cells of an object, and which cells have a place.
-use Rattle.std.specs.Prelude.{◌≡◌, ℕ, ◌-◌, ◌^◌, zero, suc, ℤ, pos, negsuc, Bool, true, false, not, Option, None, Some, is_some, nat_lt, refl}
-use Rattle.std.specs.FinMap.{FinMap, keys, code as coded_map}
-use Rattle.std.specs.FinSet.{FinSet, from_list, code as coded_set}
+use Rattle.std.specs.Prelude.{◌≡◌, if◌then◌else◌, map, ℕ, ◌-◌, ◌^◌, zero, suc, ℤ, pos, negsuc, Bool, true, false, not, Option, None, Some, is_some, nat_lt, refl}
+use Rattle.std.specs.FinMap.{FinMap, contains_key, insert, keys, from_entries, code as coded_map}
 use Rattle.std.specs.Coded.{Coded, code_by, coded_ℕ, coded_ℤ, coded×, coded_option}
 use Rattle.t3_holder.specs.declared.holder.Holder.{Holder}
 use Rattle.t3_holder.specs.declared.holder.Holder.TheVariants as holders
@@ -83,16 +82,20 @@ Parts = FinMap cell_cmp Present
 abbrev pub coded_parts : Coded Parts
 coded_parts = coded_map coded_cell coded_present
 
--- cells that have a place, so that they can be set without memory
+-- cells that have a place, so that they can be set without memory, each with the place's stamp
 abbrev pub Places : Type 0
-Places = FinSet cell_cmp
+Places = FinMap cell_cmp ℕ
 
 abbrev pub coded_places : Coded Places
-coded_places = coded_set coded_cell
+coded_places = coded_map coded_cell coded_ℕ
 
--- a place for each present cell, and for no other
+-- the places with one for the cell: a new one has stamp 0
+abbrev pub with_place : Places → Cell → Places
+with_place places cell = if contains_key places cell then places else insert places cell 0
+
+-- a place with stamp 0 for each present cell, and for no other
 abbrev pub places_for : Parts → Places
-places_for parts = from_list (keys parts)
+places_for parts = from_entries (map (λ cell. (cell, 0)) (keys parts))
 
 -- there is a tick, with room for one more
 abbrev pub is_tick : Option ℕ → Bool

@@ -3,6 +3,7 @@ pub mod Cell
 pub mod Content
 pub mod Objects
 pub mod Slots
+pub mod Purging
 pub mod Journal
 pub mod UndoLaw
 pub mod Stamps

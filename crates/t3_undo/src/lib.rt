@@ -29,6 +29,7 @@ mod mark;
 mod metaclass;
 mod newest;
 mod numbers;
+mod place;
 mod rings;
 mod slots;
 
@@ -40,4 +41,5 @@ pub use key::Key;
 pub use law::{stamp_law, undo_law};
 pub use metaclass::Metaclass;
 pub use numbers::Numbers;
+pub use place::Place;
 pub use slots::Slots;

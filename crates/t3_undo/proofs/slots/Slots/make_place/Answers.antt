@@ -1,17 +1,17 @@
-use Rattle.std.proofs.Common.{◌∙◌, ap, sym}
-use Rattle.std.specs.FinSet.{contains}
-use Rattle.t3_undo.specs.Slots.{parts_of, places_of}
+use Rattle.std.proofs.Common.{◌∙◌, ap, sym, refl}
+use Rattle.std.specs.FinMap.{contains_key}
+use Rattle.t3_undo.specs.Slots.{parts_of, places_of, unstamped}
 use Rattle.t3_undo.specs.declared.content.Content.TheVariants.{Absent}
-use Rattle.t3_undo.proofs.SlotLists.{unplaced, contains-places_of, insert-places_of, places_of-add, parts_of-add-absent}
+use Rattle.t3_undo.proofs.SlotLists.{unplaced, contains-places_of, with_place-there, places_of-made, parts_of-add-absent}
 use Rattle.t3_undo.proofs.slots.Slots.make_place.Goals as goal
 
 pub returns-then-contains_key-clause-ok : goal.returns-then-contains_key-clause-ok
 returns-then-contains_key-clause-ok c =
-    insert-places_of c.args.self.now c.args.cell
-    ((λ i. contains (places_of (sym c.self.view_is i)) c.args.cell)
+    sym (with_place-there (places_of c.args.self.now) c.args.cell
+    ((λ i. contains_key (places_of (sym c.self.view_is i)) c.args.cell)
     ∙ contains-places_of c.self.inside.cells.entries c.args.cell
     ∙ sym c.contains_key.ensures
-    ∙ c.if-contains_key.true)
+    ∙ c.if-contains_key.true))
 
 pub add-requires-clause-new : goal.add-requires-clause-new
 add-requires-clause-new c = unplaced _ _ c.args.cell c.self.view_is _ c.contains_key.ensures c.if-contains_key.false
@@ -23,4 +23,7 @@ returns-clause-parts c =
     (unplaced _ _ c.args.cell c.self.view_is _ c.contains_key.ensures c.if-contains_key.false)
 
 pub returns-clause-ok : goal.returns-clause-ok
-returns-clause-ok c = ap places_of c.in_ok-add.ensures.ok ∙ places_of-add c.args.self.now c.args.cell Absent
+returns-clause-ok c =
+    ap places_of c.in_ok-add.ensures.ok
+    ∙ places_of-made c.args.self.now c.args.cell (unstamped Absent)
+    (unplaced _ _ c.args.cell c.self.view_is _ c.contains_key.ensures c.if-contains_key.false) refl

@@ -1,5 +1,5 @@
 use Rattle.std.proofs.Common.{◌∙◌, sym}
-use Rattle.std.specs.FinSet.{len}
+use Rattle.std.specs.FinMap.{len}
 use Rattle.t3_undo.specs.Slots.{places_of}
 use Rattle.t3_undo.proofs.SlotLists.{len-places_of}
 use Rattle.t3_undo.proofs.slots.Slots.places.Goals as goal
