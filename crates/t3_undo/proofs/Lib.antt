@@ -1,7 +1,7 @@
 pub mod Maps
 pub mod SlotLists
+pub mod SlotCopies
 pub mod SlotPurges
-pub mod SlotCounts
 pub mod PuttingBack
 pub mod AnyOrder
 pub mod Undoing

@@ -1,11 +1,20 @@
 -- What a finite map answers after a key was set or its value changed. Other crates may use these.
-use Rattle.std.proofs.Common.{◌≡◌, ◌∙◌, ap, sym, refl, Bool, true, false, cond, List, [], ◌∷◌, length, Option, None, Some, true≢false, arith}
+use Rattle.std.proofs.Common.{◌≡◌, ◌∙◌, ap, sym, refl, ℕ, ◌+◌, ◌-◌, ◌<◌, ◌≤◌, Bool, true, false, cond, List, [], ◌∷◌, length, Option, None, Some, is_some, true≢false, arith}
 use Rattle.std.specs.declared.cmp.Ordering.{Ordering}
 use Rattle.std.specs.Ordering.{eq_by_cmp}
 use Rattle.std.specs.Option.{option_map}
 use Rattle.std.specs.Cmp.{IsTotalOrder, Equal-is, eq_by_cmp_equiv}
-use Rattle.std.specs.FinMap.{FinMap, empty, entries, len-empty, len-entries, get, get-insert, get-remove, get_tied, IsAntisymmetric, same_map}
+use Rattle.std.specs.FinMap.{FinMap, empty, entries, len, len-empty, len-entries, len-insert, len-remove, get, insert, remove, get-insert, get-remove, get-entries, get_tied, IsAntisymmetric, same_map}
+use Rattle.std.specs.FinMap.Entries.{find}
 use Rattle.t3_undo.specs.Objects.{set_at, adjust, adjusted}
+
+-- one for a value, and nothing for none
+abbrev pub one_if : {X : Type 0} → Option X → ℕ
+one_if o = cond (is_some o) 1 0
+
+pub one_if-small : {X : Type 0} (o : Option X) → one_if o ≤ 1
+one_if-small None = omega arith
+one_if-small (Some x) = omega arith
 
 module _ {K X : Type 0} {R : K → K → Ordering} (total : IsTotalOrder R) where
   pub get-set_at : (m : FinMap R X) (k : K) (o : Option X) (q : K) → get (set_at m k o) q ≡ cond (eq_by_cmp R q k) o (get m q)
@@ -29,6 +38,34 @@ module _ {K X : Type 0} {R : K → K → Ordering} (total : IsTotalOrder R) wher
       ≡ cond (eq_by_cmp R q k) (option_map f (get m q)) (get m q)
   unfolding adjust
   get-adjust m k f q = get-adjusted m k f q (get m k) refl (eq_by_cmp R q k) refl
+
+  -- a map that has a key has an entry
+  len-filled : (m : FinMap R X) (k : K) (v : X) → get m k ≡ Some v → 0 < len m
+  len-filled m k v there = by (entries m) refl
+    where
+      by : (es : List (K × X)) → entries m ≡ es → 0 < len m
+      by [] e = absurd (true≢false (sym (ap is_some (sym (get-entries m k ∙ ap (find R k) e) ∙ there))))
+      by (x ∷ xs) e = let a = len-entries m in let b = ap length e in omega (arith, a, b)
+
+  -- how many keys there are once one is set or taken away
+  pub len-set_at : (m : FinMap R X) (k : K) (o : Option X) → len (set_at m k o) + one_if (get m k) ≡ len m + one_if o
+  unfolding set_at
+  len-set_at m k None = by (get m k) refl (len-remove total m k)
+    where
+      by : (was : Option X) → get m k ≡ was → len (remove m k) ≡ cond (is_some (get m k)) (len m - 1) (len m)
+          → len (remove m k) + one_if (get m k) ≡ len m + 0
+      by None is e = let f = e ∙ ap (λ x. cond (is_some x) (len m - 1) (len m)) is in let g = ap one_if is in omega (arith, f, g)
+      by (Some v) is e =
+          let f = e ∙ ap (λ x. cond (is_some x) (len m - 1) (len m)) is in
+          let g = ap one_if is in
+          let h = len-filled m k v is in
+          omega (arith, f, g, h)
+  len-set_at m k (Some v) = by (get m k) refl (len-insert total m k v)
+    where
+      by : (was : Option X) → get m k ≡ was → len (insert m k v) ≡ cond (is_some (get m k)) (len m) (len m + 1)
+          → len (insert m k v) + one_if (get m k) ≡ len m + 1
+      by None is e = let f = e ∙ ap (λ x. cond (is_some x) (len m) (len m + 1)) is in let g = ap one_if is in omega (arith, f, g)
+      by (Some w) is e = let f = e ∙ ap (λ x. cond (is_some x) (len m) (len m + 1)) is in let g = ap one_if is in omega (arith, f, g)
 
   -- what stood at a key put back
   pub set_at-back : IsAntisymmetric R → (m : FinMap R X) (k : K) (o : Option X) → set_at (set_at m k o) k (get m k) ≡ m

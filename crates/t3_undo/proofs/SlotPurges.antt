@@ -1,11 +1,11 @@
 -- What is left of slots that are purged. Other crates may use these.
-use Rattle.std.proofs.Common.{◌≡◌, ◌∙◌, ap, sym, subst, refl, ℕ, ◌≤◌, Bool, true, false, cond, ◌||◌, ◌⊎◌, inl, inr, List, [], ◌∷◌, filter, Option, None, Some, IsSome, is_some, nat_le, true≢false, leb-true, le-leb}
+use Rattle.std.proofs.Common.{◌≡◌, ◌∙◌, ap, sym, subst, refl, ℕ, ◌≤◌, Bool, true, false, cond, ◌||◌, ◌⊎◌, inl, inr, List, [], ◌∷◌, filter, Option, None, Some, IsSome, is_some, nat_le, leb-true, le-leb}
 use Rattle.std.specs.Cmp.{eq_by_cmp_equiv}
 use Rattle.std.specs.List.{IsDistinct}
 use Rattle.std.specs.Map.{keys_of, lookup}
 use Rattle.std.specs.FinMap.{get}
 use Rattle.std.proofs.lemmas.Map.Entries.{lookup-filter-values, option_filter}
-use Rattle.t3_undo.specs.Cell.{cell_cmp, cell_cmp_total}
+use Rattle.t3_undo.specs.Cell.{cell_cmp_total}
 use Rattle.t3_undo.specs.Content.{Present, shown}
 use Rattle.t3_undo.specs.Slots.{parts_of, places_of, is_needed, AreFormed}
 use Rattle.t3_undo.specs.Purging.{IsNeeded}

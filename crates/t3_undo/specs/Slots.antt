@@ -1,6 +1,6 @@
 -- What slots say: cells in the order in which they were given a place, each with its stamp and its content.
-use Rattle.std.specs.Prelude.{◌≡◌, ℕ, ◌||◌, nat_le, Bool, List, [], ◌∷◌, count_by, is_some, IsTrue}
-use Rattle.std.specs.FinMap.{empty, insert}
+use Rattle.std.specs.Prelude.{◌≡◌, ℕ, ◌||◌, nat_le, Bool, List, [], ◌∷◌, is_some, IsTrue}
+use Rattle.std.specs.FinMap.{empty, insert, len}
 use Rattle.std.specs.List.{AllByRecursion}
 use Rattle.t3_undo.specs.Content.{Parts, Places, shown, is_form}
 use Rattle.t3_undo.specs.Objects.{set_at}
@@ -37,4 +37,4 @@ AreFormed slots = AllByRecursion (λ slot. IsTrue (is_form slot.0 (shown slot.1.
 -- each content is of its cell's form, and the present cells are counted
 pub record AreSlots (slots : List (Cell × Place)) (present : ℕ) : Type 0 where
   pub formed : AreFormed slots
-  pub counted : present ≡ count_by is_present slots
+  pub counted : present ≡ len (parts_of slots)

@@ -115,13 +115,7 @@ impl Slots {
         if self.cells.contains_key(&cell) {
             return Ok(());
         }
-        self.add(
-            cell,
-            Place {
-                stamp: 0,
-                content: Content::Absent,
-            },
-        )?;
+        self.add(cell, Place::unstamped(Content::Absent))?;
         Ok(())
     }
 
@@ -147,25 +141,21 @@ impl Slots {
         let mut copy = Slots::new(alloc);
         for index in 0..self.cells.len() {
             let (cell, place) = self.cells.get_index(index).unwrap();
-            copy.add_present(alloc, cell, &place.content)?;
+            copy.add_present(alloc, cell, place)?;
         }
         Ok(copy)
     }
 
-    /// A slot with this content and stamp 0, where it is present.
-    fn add_present(&mut self, alloc: Global, cell: &Cell, content: &Content) -> Result<(), NoMemory>
+    /// A slot with the content of this place and stamp 0, where the cell is present.
+    fn add_present(&mut self, alloc: Global, cell: &Cell, place: &Place) -> Result<(), NoMemory>
         requires new { list_any (eq_by_cmp cell_cmp cell.now) (keys_of self.old) ≡ false }
-        requires form { IsTrue (is_form cell.now (shown content.now)) }
-        ensures { OnOk result (self.new ≡ self.old ++ filter is_present ((cell.now, unstamped content.now) ∷ [])) }
+        requires form { IsTrue (is_form cell.now (shown place.now.content)) }
+        ensures { OnOk result (self.new
+            ≡ self.old ++ filter is_present ((cell.now, unstamped place.now.content) ∷ [])) }
     {
-        if content.is_present() {
-            self.add(
-                cell.copy(alloc)?,
-                Place {
-                    stamp: 0,
-                    content: like(content),
-                },
-            )?;
+        if place.content.is_present() {
+            let fresh = Place::unstamped(like(&place.content));
+            self.add(cell.copy(alloc)?, fresh)?;
         }
         Ok(())
     }
@@ -202,9 +192,10 @@ impl Slots {
 
     /// How many cells are present. No cell is looked at.
     pub fn present(&self) -> u64
-        ensures { result ≡ len (parts_of self.now) }
+        ensures present { result ≡ len (parts_of self.now) }
+        ensures bound { result < 2 ^ 63 }
     {
-        let _distinct = self.cells.len();
+        let _within = self.cells.len();
         self.present
     }
 
@@ -243,7 +234,7 @@ fn exchange(cells: &mut Cells, cell: &Cell, content: Content) -> Content
     requires { IsSome (get_by (eq_by_cmp cell_cmp cell.now) cells.old) }
     ensures { (place : Place) → get_by (eq_by_cmp cell_cmp cell.now) cells.old ≡ Some place
         → (cells.new.entries ≡ set_value (eq_by_cmp cell_cmp cell.now) cells.old.entries
-            (record place { content = content })) × (result ≡ place.content) }
+        (record place { content = content })) × (result ≡ place.content) }
 {
     match cells.get_mut(cell) {
         Some(place) => mem::replace(&mut place.content, content),
@@ -256,7 +247,7 @@ fn restamp(cells: &mut Cells, cell: &Cell, stamp: u64)
     requires { IsSome (get_by (eq_by_cmp cell_cmp cell.now) cells.old) }
     ensures { (place : Place) → get_by (eq_by_cmp cell_cmp cell.now) cells.old ≡ Some place
         → cells.new.entries ≡ set_value (eq_by_cmp cell_cmp cell.now) cells.old.entries
-            (record place { stamp = stamp }) }
+        (record place { stamp = stamp }) }
 {
     if let Some(place) = cells.get_mut(cell) {
         place.stamp = stamp;

@@ -1,4 +1,4 @@
-use Rattle.std.proofs.Common.{◌∙◌, rules, tests}
+use Rattle.std.proofs.Common.{rules, tests}
 use Rattle.indexmap.proofs.CallerLemmas.{filter-RetainsPairs}
 use Rattle.t3_undo.specs.Slots.{is_needed}
 use Rattle.t3_undo.proofs.slots.purge.Goals as goal

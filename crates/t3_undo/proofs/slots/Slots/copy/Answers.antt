@@ -6,7 +6,8 @@ use Rattle.std.specs.List.{list_any}
 use Rattle.std.specs.Option.{option_map}
 use Rattle.t3_undo.specs.Content.{places_for}
 use Rattle.t3_undo.specs.Slots.{parts_of, places_of, unstamped, is_present}
-use Rattle.t3_undo.proofs.SlotLists.{same, afresh, formed-at, new-at, afresh-at, keys_of-afresh, parts_of-afresh, parts_of-filter, places_of-filter}
+use Rattle.t3_undo.proofs.SlotLists.{same}
+use Rattle.t3_undo.proofs.SlotCopies.{afresh, formed-at, new-at, afresh-at, keys_of-afresh, parts_of-afresh, parts_of-filter, places_of-filter}
 use Rattle.t3_undo.proofs.slots.Slots.copy.Goals as goal
 use Rattle.t3_undo.proofs.slots.Slots.copy.Goals.{After-copy-1, After-loop-index}
 

@@ -1,6 +1,6 @@
 use Rattle.std.proofs.Common.{◌≡◌, take, filter}
 use Rattle.t3_undo.specs.Slots.{is_present}
-use Rattle.t3_undo.proofs.SlotLists.{afresh}
+use Rattle.t3_undo.proofs.SlotCopies.{afresh}
 use Rattle.t3_undo.proofs.slots.Slots.copy.Given as goal
 
 abbrev pub invariant-loop-index : goal.invariant-loop-index

@@ -1,4 +1,4 @@
-use Rattle.std.proofs.Common.{◌∙◌, ap, sym, refl}
+use Rattle.std.proofs.Common.{◌∙◌, ap, sym, refl, ◌++◌, ◌∷◌, []}
 use Rattle.std.specs.FinMap.{contains_key}
 use Rattle.t3_undo.specs.Slots.{parts_of, places_of, unstamped}
 use Rattle.t3_undo.specs.declared.content.Content.TheVariants.{Absent}
@@ -18,12 +18,12 @@ add-requires-clause-new c = unplaced _ _ c.args.cell c.self.view_is _ c.contains
 
 pub returns-clause-parts : goal.returns-clause-parts
 returns-clause-parts c =
-    ap parts_of c.in_ok-add.ensures.ok
+    ap parts_of (c.in_ok-add.ensures.ok ∙ λ i. c.args.self.now ++ (c.args.cell, c.unstamped.ensures i) ∷ [])
     ∙ parts_of-add-absent c.args.self.now c.args.cell
     (unplaced _ _ c.args.cell c.self.view_is _ c.contains_key.ensures c.if-contains_key.false)
 
 pub returns-clause-ok : goal.returns-clause-ok
 returns-clause-ok c =
-    ap places_of c.in_ok-add.ensures.ok
+    ap places_of (c.in_ok-add.ensures.ok ∙ λ i. c.args.self.now ++ (c.args.cell, c.unstamped.ensures i) ∷ [])
     ∙ places_of-made c.args.self.now c.args.cell (unstamped Absent)
     (unplaced _ _ c.args.cell c.self.view_is _ c.contains_key.ensures c.if-contains_key.false) refl

@@ -1,11 +1,10 @@
-use Rattle.std.proofs.Common.{◌≡◌, ◌∙◌, ap, sym, subst, List, Some, filter}
-use Rattle.std.specs.FinMap.{get}
-use Rattle.t3_undo.specs.Slots.{parts_of, places_of, is_needed, AreSlots}
+use Rattle.std.proofs.Common.{◌∙◌, ap, sym, subst, List}
+use Rattle.std.specs.FinMap.{get, len}
+use Rattle.t3_undo.specs.Slots.{parts_of, places_of, AreSlots}
 use Rattle.t3_undo.specs.Purging.{IsNeeded}
 use Rattle.t3_undo.specs.declared.cell.Cell.{Cell}
 use Rattle.t3_undo.specs.declared.place.Place.{Place}
 use Rattle.t3_undo.proofs.SlotPurges.{formed-filter, parts-purged, places-fewer, places-kept, places-needed}
-use Rattle.t3_undo.proofs.SlotCounts.{count-purged}
 use Rattle.t3_undo.proofs.slots.Slots.purge.Goals as goal
 use Rattle.t3_undo.proofs.slots.Slots.purge.Goals.{After-purge}
 
@@ -15,7 +14,7 @@ before c = c.self.inside.cells.entries
 pub invariant_of-self : goal.invariant_of-self
 invariant_of-self c = subst (λ slots. AreSlots slots c.self.inside.present) (sym c.purge.ensures.cells) (record {
   formed = formed-filter c.args.oldest (before c) c.self.invariant.formed;
-  counted = c.self.invariant.counted ∙ sym (count-purged c.args.oldest (before c));
+  counted = c.self.invariant.counted ∙ ap len (sym (parts-purged c.args.oldest (before c) c.purge.ensures.distinct));
 })
 
 pub returns-clause-parts : goal.returns-clause-parts

@@ -1,47 +1,57 @@
-use Rattle.std.proofs.Common.{◌≡◌, ◌∙◌, ap, sym, subst, ◌+◌, ◌-◌, is_some, Some, IsTrue, cond, arith}
-use Rattle.std.specs.FinMap.{get, contains_key}
+use Rattle.std.proofs.Common.{◌≡◌, ◌∙◌, ap, sym, subst, ◌+◌, ◌-◌, Some, IsTrue, arith}
+use Rattle.std.specs.FinMap.{get, len, contains_key}
 use Rattle.std.specs.Map.{lookup}
+use Rattle.t3_undo.specs.Cell.{cell_cmp_total}
 use Rattle.t3_undo.specs.Content.{shown, is_form}
 use Rattle.t3_undo.specs.Objects.{set_at}
 use Rattle.t3_undo.specs.Slots.{parts_of, places_of, AreSlots}
+use Rattle.t3_undo.specs.declared.cell.Cell.{Cell}
 use Rattle.t3_undo.specs.declared.content.Content.{Content}
 use Rattle.t3_undo.specs.declared.place.Place.{Place}
-use Rattle.t3_undo.proofs.SlotLists.{same, seen, place-there, get-parts_of, contains-places_of, parts_of-put, places_of-put, formed-set_value, formed-lookup}
-use Rattle.t3_undo.proofs.SlotCounts.{one, count-set_value}
+use Rattle.t3_undo.proofs.SlotLists.{Entries, same, seen, len-parts_of, place-there, get-parts_of, contains-places_of, parts_of-put, places_of-put, formed-set_value, formed-lookup}
+use Rattle.t3_undo.proofs.Maps.{one_if, one_if-small, len-set_at}
 use Rattle.t3_undo.proofs.slots.Slots.put.Goals as goal
-use Rattle.t3_undo.proofs.slots.Slots.put.Goals.{After-one_if_present}
 
 pub exchange-old-requires : goal.exchange-old-requires
 exchange-old-requires c =
     sym (contains-places_of c.self.inside.cells.entries c.args.cell.now)
     ∙ (λ i. contains_key (places_of (c.self.view_is i)) c.args.cell.now) ∙ c.requires.place
 
-there : (c : After-one_if_present) → (place : Place) × (lookup (same c.args.cell.now) c.self.inside.cells.entries ≡ Some place)
-there c = place-there c.self.inside.cells.entries c.args.self.now c.args.cell.now c.self.view_is c.requires.place
+-- what the count comes to
+abbrev moved : (slots : Entries) (cell : Cell) (content : Content) → len (set_at (parts_of slots) cell (shown content)) + one_if (get (parts_of slots) cell)
+    ≡ len (parts_of slots) + one_if (shown content)
+moved slots cell content = len-set_at cell_cmp_total (parts_of slots) cell (shown content)
+
+gone : (slots : Entries) (cell : Cell) (place : Place) (content : Content) → lookup (same cell) slots ≡ Some place → content ≡ place.content
+    → one_if (shown content) ≡ one_if (get (parts_of slots) cell)
+gone slots cell place content there is = ap (λ x. one_if (shown x)) is ∙ ap one_if (sym (get-parts_of slots cell ∙ ap seen there))
+
+pub overflow_add-self : goal.overflow_add-self
+overflow_add-self c =
+    let few = len-parts_of c.self.inside.cells.entries in
+    let one = one_if-small (shown c.args.content) in
+    omega (arith, few, one, c.self.invariant.counted, c.one_if_present-coming.ensures, c.len-within.ensures.len, c.len-within.ensures.small)
 
 pub overflow_sub-self : goal.overflow_sub-self
 overflow_sub-self c =
-    let p = there c in
-    let new : Place = record p.0 { content = c.args.content } in
-    let moved = count-set_value c.self.inside.cells.entries c.args.cell.now p.0 new p.1 in
-    let gone : c.one_if_present.result ≡ one p.0 =
-    c.one_if_present.ensures ∙ ap (λ content. cond (is_some (shown content)) 1 0) (c.exchange-old.ensures p.0 p.1).1 in
-    let come : c.one_if_present-coming.result ≡ one new = c.one_if_present-coming.ensures in
-    omega (arith, moved, gone, come, c.self.invariant.counted)
+    let slots = c.self.inside.cells.entries in
+    let p = place-there slots c.args.self.now c.args.cell.now c.self.view_is c.requires.place in
+    let e = moved slots c.args.cell.now c.args.content in
+    let f = gone slots c.args.cell.now p.0 c.exchange-old.result p.1 (c.exchange-old.ensures p.0 p.1).1 in
+    omega (arith, e, f, c.one_if_present.ensures, c.one_if_present-coming.ensures, c.self.invariant.counted)
 
 pub invariant_of-self : goal.invariant_of-self
 invariant_of-self c =
     let slots = c.self.inside.cells.entries in
     let p = place-there slots c.args.self.now c.args.cell.now c.self.view_is c.requires.place in
     let new : Place = record p.0 { content = c.args.content } in
-    let moved = count-set_value slots c.args.cell.now p.0 new p.1 in
-    let gone : c.one_if_present.result ≡ one p.0 =
-    c.one_if_present.ensures ∙ ap (λ content. cond (is_some (shown content)) 1 0) (c.exchange-old.ensures p.0 p.1).1 in
-    let come : c.one_if_present-coming.result ≡ one new = c.one_if_present-coming.ensures in
+    let e = moved slots c.args.cell.now c.args.content in
+    let f = gone slots c.args.cell.now p.0 c.exchange-old.result p.1 (c.exchange-old.ensures p.0 p.1).1 in
+    let g = ap len (parts_of-put slots c.args.cell.now p.0 p.1 c.args.content) in
     subst (λ slots. AreSlots slots (c.self.inside.present + c.one_if_present-coming.result - c.one_if_present.result))
     (sym (c.exchange-old.ensures p.0 p.1).0) (record {
       formed = formed-set_value slots c.args.cell.now new c.self.invariant.formed c.requires.form;
-      counted = omega (arith, moved, gone, come, c.self.invariant.counted);
+      counted = omega (arith, e, f, g, c.one_if_present.ensures, c.one_if_present-coming.ensures, c.self.invariant.counted);
     })
 
 pub returns-clause-parts : goal.returns-clause-parts

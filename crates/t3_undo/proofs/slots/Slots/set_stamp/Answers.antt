@@ -1,10 +1,9 @@
-use Rattle.std.proofs.Common.{◌≡◌, ◌∙◌, ap, sym, subst, Some, arith}
-use Rattle.std.specs.FinMap.{insert, contains_key}
+use Rattle.std.proofs.Common.{◌≡◌, ◌∙◌, ap, sym, subst, Some}
+use Rattle.std.specs.FinMap.{insert, len, contains_key}
 use Rattle.std.specs.Map.{lookup}
 use Rattle.t3_undo.specs.Slots.{parts_of, places_of, AreSlots}
 use Rattle.t3_undo.specs.declared.place.Place.{Place}
 use Rattle.t3_undo.proofs.SlotLists.{same, place-there, contains-places_of, parts_of-stamp, places_of-stamp, formed-set_value, formed-lookup}
-use Rattle.t3_undo.proofs.SlotCounts.{count-set_value}
 use Rattle.t3_undo.proofs.slots.Slots.set_stamp.Goals as goal
 use Rattle.t3_undo.proofs.slots.Slots.set_stamp.Goals.{After-restamp}
 
@@ -21,11 +20,11 @@ invariant_of-self c =
     let p = there c in
     let slots = c.self.inside.cells.entries in
     let new : Place = record p.0 { stamp = c.args.stamp } in
-    let moved = count-set_value slots c.args.cell.now p.0 new p.1 in
+    let same_parts = parts_of-stamp slots c.args.cell.now p.0 p.1 c.args.stamp in
     subst (λ slots. AreSlots slots c.self.inside.present) (sym (c.restamp.ensures p.0 p.1)) (record {
       formed = formed-set_value slots c.args.cell.now new c.self.invariant.formed
           (formed-lookup slots c.args.cell.now c.self.invariant.formed p.0 p.1);
-      counted = omega (arith, moved, c.self.invariant.counted);
+      counted = c.self.invariant.counted ∙ ap len (sym same_parts);
     })
 
 pub returns-clause-parts : goal.returns-clause-parts
