@@ -1,12 +1,12 @@
 -- What the entries of an object's properties answer, and what a change of one does.
-use Rattle.std.proofs.Common.{◌≡◌, ◌∙◌, ap, sym, refl, ℕ, suc, length, Bool, true, false, cond, ◌||◌, List, [], ◌∷◌, filter, Option, None, Some, IsTrue, IsSome, is_some, true≢false}
+use Rattle.std.proofs.Common.{◌≡◌, ◌∙◌, ap, sym, refl, ℕ, suc, ◌+◌, ◌≤◌, length, Bool, true, false, cond, List, [], ◌∷◌, filter, Option, None, Some, IsTrue, IsSome, is_some, true≢false, arith}
 use Rattle.std.specs.Ordering.{nat_cmp, eq_by_cmp}
 use Rattle.std.specs.Cmp.{nat_cmp_total, eq_by_cmp_equiv}
 use Rattle.std.specs.Option.{option_map}
 use Rattle.std.specs.Map.{keys_of, lookup}
+use Rattle.std.specs.Map.Calls.{RetainsPairs}
 use Rattle.std.specs.BTreeMap.{is_at}
-use Rattle.std.specs.FinMap.{get, same_map}
-use Rattle.std.specs.FinSet.{insert, len, contains, contains-insert, same_set}
+use Rattle.std.specs.FinMap.{get, insert, len, get-insert, same_map, contains_key}
 use Rattle.std.specs.List.{IsDistinct, AllByRecursion}
 use Rattle.t3_holder.specs.declared.holder.Holder.{Holder}
 use Rattle.t3_undo.specs.Cell.{cell_cmp_total, cell_cmp-IsAntisymmetric}
@@ -17,29 +17,33 @@ use Rattle.t3_undo.specs.declared.cell.Cell.{Cell}
 use Rattle.t3_undo.specs.declared.cell.Cell.TheVariants as cells
 use Rattle.t3_undo.specs.declared.content.Content.{Content}
 use Rattle.t3_undo.specs.declared.content.Content.TheVariants.{Absent, Held, Slot}
-use Rattle.t3_undo.proofs.Maps.{get-set_at}
-use Rattle.t3_undo.proofs.SlotLists.{same, same-is, seen, insert-places_of, get-parts_of, contains-places_of, len-places_of, parts_of-filter, places_of-filter}
+use Rattle.t3_undo.proofs.Maps.{one_if, get-set_at, len-set_at}
+use Rattle.t3_undo.proofs.SlotLists.{same, same-is, seen, stamped, get-parts_of, get-places_of, contains-places_of, insert-own, len-places_of, len-parts_of}
+use Rattle.t3_undo.proofs.SlotCopies.{parts_of-filter, places_of-filter, parts_of-afresh}
+use Rattle.t3_undo.proofs.SlotCopies as slots
 use Rattle.t3_tadsobj.specs.Object.{is_prop}
-use Rattle.t3_tadsobj.specs.Inner.Entries.{content_of, content_at, value_at, slots_of, parts_in, places_in}
+use Rattle.t3_tadsobj.specs.Inner.Entries.{content_of, content_at, value_at, new_stamp, replaced, place_of, slots_of, parts_in, places_in, afresh}
+use Rattle.t3_tadsobj.specs.declared.entries.PropPlace.{PropPlace}
+use Rattle.t3_undo.specs.declared.place.Place.{Place}
 use Rattle.t3_tadsobj.proofs.PropLists.{same-Prop}
 
 abbrev pub Entries : Type 0
-Entries = List (ℕ × Option Holder)
+Entries = List (ℕ × PropPlace)
 
 -- what stands under a number
-abbrev pub at : ℕ → Entries → Option (Option Holder)
+abbrev pub at : ℕ → Entries → Option PropPlace
 at n es = lookup (is_at (nat_cmp n)) es
 
-cond-content_of : (b : Bool) (o : Option Holder) (rest : Option (Option Holder)) → option_map content_of (cond b (Some o) rest)
-    ≡ cond b (Some (content_of o)) (option_map content_of rest)
-cond-content_of true o rest = refl
-cond-content_of false o rest = refl
+cond-place_of : (b : Bool) (p : PropPlace) (rest : Option PropPlace) → option_map place_of (cond b (Some p) rest)
+    ≡ cond b (Some (place_of p)) (option_map place_of rest)
+cond-place_of true p rest = refl
+cond-place_of false p rest = refl
 
-pub lookup-Prop : (es : Entries) (n : ℕ) → lookup (same (cells.Prop n)) (slots_of es) ≡ option_map content_of (at n es)
+pub lookup-Prop : (es : Entries) (n : ℕ) → lookup (same (cells.Prop n)) (slots_of es) ≡ option_map place_of (at n es)
 lookup-Prop [] n = refl
 lookup-Prop (e ∷ es) n =
-    (λ i. cond (same-Prop n e.0 i) (Some (content_of e.1)) (lookup-Prop es n i))
-    ∙ sym (cond-content_of (eq_by_cmp nat_cmp n e.0) e.1 (at n es))
+    (λ i. cond (same-Prop n e.0 i) (Some (place_of e.1)) (lookup-Prop es n i))
+    ∙ sym (cond-place_of (eq_by_cmp nat_cmp n e.0) e.1 (at n es))
 
 -- no other cell is found
 pub lookup-other : (es : Entries) (cell : Cell) → is_prop cell ≡ false → lookup (same cell) (slots_of es) ≡ None
@@ -52,7 +56,7 @@ lookup-other [] cells.Default other = refl
 lookup-other (e ∷ es) cells.Default other = lookup-other es cells.Default other
 
 -- what a property's cell shows
-seen-content : (o : Option (Option Holder)) → seen (option_map content_of o) ≡ shown (content_at o)
+seen-content : (o : Option PropPlace) → seen (option_map place_of o) ≡ shown (content_at o)
 seen-content None = refl
 seen-content (Some o) = refl
 
@@ -66,32 +70,43 @@ is_some-map : {X Y : Type 0} (f : X → Y) (o : Option X) → is_some (option_ma
 is_some-map f None = refl
 is_some-map f (Some x) = refl
 
-pub contains-Prop : (es : Entries) (n : ℕ) → contains (places_in es) (cells.Prop n) ≡ is_some (at n es)
+pub contains-Prop : (es : Entries) (n : ℕ) → contains_key (places_in es) (cells.Prop n) ≡ is_some (at n es)
 contains-Prop es n =
-    contains-places_of (slots_of es) (cells.Prop n) ∙ ap is_some (lookup-Prop es n) ∙ is_some-map content_of (at n es)
+    contains-places_of (slots_of es) (cells.Prop n) ∙ ap is_some (lookup-Prop es n) ∙ is_some-map place_of (at n es)
+
+stamped-place : (o : Option PropPlace) → stamped (option_map place_of o) ≡ option_map (λ p. p.stamp) o
+stamped-place None = refl
+stamped-place (Some p) = refl
+
+-- and its stamp
+pub stamp-Prop : (es : Entries) (n : ℕ) → get (places_in es) (cells.Prop n) ≡ option_map (λ p. p.stamp) (at n es)
+stamp-Prop es n = get-places_of (slots_of es) (cells.Prop n) ∙ ap stamped (lookup-Prop es n) ∙ stamped-place (at n es)
 
 -- only properties have a place
-pub contains-other : (es : Entries) (cell : Cell) → is_prop cell ≡ false → contains (places_in es) cell ≡ false
+pub contains-other : (es : Entries) (cell : Cell) → is_prop cell ≡ false → contains_key (places_in es) cell ≡ false
 contains-other es cell other = contains-places_of (slots_of es) cell ∙ ap is_some (lookup-other es cell other)
 
 -- a present property has a place
-pub placed-Prop : (es : Entries) (n : ℕ) → IsSome (shown (content_at (at n es))) → contains (places_in es) (cells.Prop n) ≡ true
+pub placed-Prop : (es : Entries) (n : ℕ) → IsSome (shown (content_at (at n es))) → contains_key (places_in es) (cells.Prop n) ≡ true
 placed-Prop es n some = contains-Prop es n ∙ found (at n es) some
   where
-    found : (o : Option (Option Holder)) → is_some (shown (content_at o)) ≡ true → is_some o ≡ true
+    found : (o : Option PropPlace) → is_some (shown (content_at o)) ≡ true → is_some o ≡ true
     found None some = some
-    found (Some o) some = refl
+    found (Some p) some = refl
 
 -- a number that isn't found has nothing
-pub missed : (o : Option (Option Holder)) → is_some o ≡ false → o ≡ None
+pub missed : (o : Option PropPlace) → is_some o ≡ false → o ≡ None
 missed None e = refl
-missed (Some o) e = absurd (true≢false e)
+missed (Some p) e = absurd (true≢false e)
 
 -- what a property's entry has is of the cell's form
-pub formed : (n : ℕ) (o : Option (Option Holder)) → IsTrue (is_form (cells.Prop n) (shown (content_at o)))
+pub formed : (n : ℕ) (o : Option PropPlace) → IsTrue (is_form (cells.Prop n) (shown (content_at o)))
 formed n None = refl
-formed n (Some None) = refl
-formed n (Some (Some value)) = refl
+formed n (Some p) = by p.value
+  where
+    by : (value : Option Holder) → IsTrue (is_form (cells.Prop n) (shown (content_of value)))
+    by None = refl
+    by (Some value) = refl
 
 -- a content of that form is its value's
 pub content-value : (n : ℕ) (content : Content) → IsTrue (is_form (cells.Prop n) (shown content))
@@ -101,41 +116,59 @@ content-value n (Held value) fits = refl
 content-value n (Slot tick value) fits = absurd (true≢false (sym fits))
 
 -- a property set, or given a place
-module _ (old new : Entries) (k : ℕ) (o : Option Holder) (updates : (q : ℕ) → at q new ≡ cond (is_at (nat_cmp k) q) (Some o) (at q old)) where
+module _ (old new : Entries) (k : ℕ) (p : PropPlace) (updates : (q : ℕ) → at q new ≡ cond (is_at (nat_cmp k) q) (Some p) (at q old)) where
   lookup-set : (cell : Cell) → lookup (same cell) (slots_of new)
-      ≡ cond (same cell (cells.Prop k)) (Some (content_of o)) (lookup (same cell) (slots_of old))
+      ≡ cond (same cell (cells.Prop k)) (Some (place_of p)) (lookup (same cell) (slots_of old))
   lookup-set (cells.Prop n) =
-      lookup-Prop new n ∙ ap (option_map content_of) (updates n) ∙ cond-content_of (eq_by_cmp nat_cmp k n) o (at n old)
+      lookup-Prop new n ∙ ap (option_map place_of) (updates n) ∙ cond-place_of (eq_by_cmp nat_cmp k n) p (at n old)
       ∙ (let tied = (eq_by_cmp_equiv nat_cmp_total).symm k n ∙ sym (same-Prop n k) in
-      λ i. cond (tied i) (Some (content_of o)) (sym (lookup-Prop old n) i))
+      λ i. cond (tied i) (Some (place_of p)) (sym (lookup-Prop old n) i))
   lookup-set (cells.Elem n) = lookup-other new (cells.Elem n) refl ∙ sym (lookup-other old (cells.Elem n) refl)
   lookup-set (cells.Key key) = lookup-other new (cells.Key key) refl ∙ sym (lookup-other old (cells.Key key) refl)
   lookup-set cells.Default = lookup-other new cells.Default refl ∙ sym (lookup-other old cells.Default refl)
 
-  seen-cond : (b : Bool) (content : Content) (rest : Option Content) → seen (cond b (Some content) rest)
-      ≡ cond b (shown content) (seen rest)
-  seen-cond true content rest = refl
-  seen-cond false content rest = refl
+  seen-cond : (b : Bool) (place : Place) (rest : Option Place) → seen (cond b (Some place) rest)
+      ≡ cond b (shown place.content) (seen rest)
+  seen-cond true place rest = refl
+  seen-cond false place rest = refl
 
-  pub parts-set : parts_in new ≡ set_at (parts_in old) (cells.Prop k) (shown (content_of o))
+  stamped-cond : (b : Bool) (place : Place) (rest : Option Place) → stamped (cond b (Some place) rest)
+      ≡ cond b (Some place.stamp) (stamped rest)
+  stamped-cond true place rest = refl
+  stamped-cond false place rest = refl
+
+  pub parts-set : parts_in new ≡ set_at (parts_in old) (cells.Prop k) (shown (content_of p.value))
   parts-set =
       same_map cell_cmp_total cell_cmp-IsAntisymmetric _ _ (λ cell.
       get-parts_of (slots_of new) cell ∙ ap seen (lookup-set cell)
-      ∙ seen-cond (same cell (cells.Prop k)) (content_of o) (lookup (same cell) (slots_of old))
-      ∙ ap (cond (same cell (cells.Prop k)) (shown (content_of o))) (sym (get-parts_of (slots_of old) cell))
-      ∙ sym (get-set_at cell_cmp_total (parts_in old) (cells.Prop k) (shown (content_of o)) cell))
+      ∙ seen-cond (same cell (cells.Prop k)) (place_of p) (lookup (same cell) (slots_of old))
+      ∙ ap (cond (same cell (cells.Prop k)) (shown (content_of p.value))) (sym (get-parts_of (slots_of old) cell))
+      ∙ sym (get-set_at cell_cmp_total (parts_in old) (cells.Prop k) (shown (content_of p.value)) cell))
 
-  some-cond : (b : Bool) (content : Content) (rest : Option Content) → is_some (cond b (Some content) rest) ≡ (b || is_some rest)
-  some-cond true content rest = refl
-  some-cond false content rest = refl
-
-  pub places-set : places_in new ≡ insert (places_in old) (cells.Prop k)
+  pub places-set : places_in new ≡ insert (places_in old) (cells.Prop k) p.stamp
   places-set =
-      same_set cell_cmp_total cell_cmp-IsAntisymmetric _ _ (λ cell.
-      contains-places_of (slots_of new) cell ∙ ap is_some (lookup-set cell)
-      ∙ some-cond (same cell (cells.Prop k)) (content_of o) (lookup (same cell) (slots_of old))
-      ∙ ap (λ b. same cell (cells.Prop k) || b) (sym (contains-places_of (slots_of old) cell))
-      ∙ sym (contains-insert cell_cmp_total (places_in old) (cells.Prop k) cell))
+      same_map cell_cmp_total cell_cmp-IsAntisymmetric _ _ (λ cell.
+      get-places_of (slots_of new) cell ∙ ap stamped (lookup-set cell)
+      ∙ stamped-cond (same cell (cells.Prop k)) (place_of p) (lookup (same cell) (slots_of old))
+      ∙ ap (cond (same cell (cells.Prop k)) (Some p.stamp)) (sym (get-places_of (slots_of old) cell))
+      ∙ sym (get-insert cell_cmp_total (places_in old) (cells.Prop k) p.stamp cell))
+
+  one_if-shown : (o : Option Holder) → one_if (shown (content_of o)) ≡ one_if o
+  one_if-shown None = refl
+  one_if-shown (Some value) = refl
+
+  one_if-at : (o : Option PropPlace) → one_if (shown (content_at o)) ≡ one_if (value_at o)
+  one_if-at None = refl
+  one_if-at (Some q) = one_if-shown q.value
+
+  -- how many are present then
+  pub len-set : len (parts_in new) + one_if (value_at (at k old)) ≡ len (parts_in old) + one_if p.value
+  len-set =
+      let a = ap len parts-set in
+      let b = len-set_at cell_cmp_total (parts_in old) (cells.Prop k) (shown (content_of p.value)) in
+      let c = ap one_if (get-Prop old k) ∙ one_if-at (at k old) in
+      let d = one_if-shown p.value in
+      omega (arith, a, b, c, d)
 
 -- a place made for a number that has none leaves the parts
 absent-set : (b : Bool) (o : Option Present) → (b ≡ true → o ≡ None) → cond b None o ≡ o
@@ -153,9 +186,9 @@ pub parts-absent : (es : Entries) (k : ℕ) → at k es ≡ None → set_at (par
 parts-absent es k none = parts-unset es k (get-Prop es k ∙ ap (λ o. shown (content_at o)) none)
 
 -- the content of a property, from its value
-pub content-value_at : (o : Option (Option Holder)) → content_of (value_at o) ≡ content_at o
+pub content-value_at : (o : Option PropPlace) → content_of (value_at o) ≡ content_at o
 content-value_at None = refl
-content-value_at (Some o) = refl
+content-value_at (Some p) = refl
 
 -- and its value, from the content
 pub shown-value : (o : Option Holder) → option_map (λ present. present.value) (shown (content_of o)) ≡ o
@@ -170,47 +203,98 @@ pub none-value : (o : Option Holder) → shown (content_of o) ≡ None → o ≡
 none-value None none = refl
 none-value (Some value) none = absurd cc
 
--- a value in the place of one that is there
-module _ (old new : Entries) (k : ℕ) (value : Holder)
-    (updates : IsSome (at k old) → (q : ℕ) → at q new ≡ cond (is_at (nat_cmp k) q) (Some (option_map (λ _. value) (value_at (at k old)))) (at q old))
-    (kept : at k old ≡ None → new ≡ old) where
-  pub places-replaced : places_in new ≡ places_in old
-  places-replaced = by (at k old) refl
-    where
-      by : (o : Option (Option Holder)) → at k old ≡ o → places_in new ≡ places_in old
-      by None e = ap places_in (kept e)
-      by (Some o) e =
-          places-set old new k _ (updates (ap is_some e))
-          ∙ sym (insert-places_of (slots_of old) (cells.Prop k) (contains-Prop old k ∙ ap is_some e))
+-- the entry under a number that is there
+pub found : (o : Option PropPlace) → is_some o ≡ true → (p : PropPlace) × (o ≡ Some p)
+found None e = absurd (true≢false (sym e))
+found (Some p) e = (p, refl)
 
-  pub parts-replaced : IsSome (value_at (at k old)) → parts_in new ≡ set_at (parts_in old) (cells.Prop k) (shown (Held value))
-  parts-replaced some = by (at k old) refl
-    where
-      by : (o : Option (Option Holder)) → at k old ≡ o → parts_in new ≡ set_at (parts_in old) (cells.Prop k) (shown (Held value))
-      by None e = absurd (true≢false (sym some ∙ ap (λ o. is_some (value_at o)) e))
-      by (Some None) e = absurd (true≢false (sym some ∙ ap (λ o. is_some (value_at o)) e))
-      by (Some (Some was)) e =
-          parts-set old new k _ (updates (ap is_some e))
-          ∙ ap (λ o. set_at (parts_in old) (cells.Prop k) (shown (content_of (option_map (λ _. value) (value_at o))))) e
+-- a value put in the place of one, and a stamp
+module _ (old new : Entries) (k : ℕ) (p : PropPlace) (there : at k old ≡ Some p) where
+  abbrev Updated : PropPlace → Type 0
+  Updated q = (n : ℕ) → at n new ≡ cond (is_at (nat_cmp k) n) (Some q) (at n old)
 
-  pub parts-left : value_at (at k old) ≡ None → parts_in new ≡ parts_in old
-  parts-left none = by (at k old) refl
+  own-stamp : get (places_in old) (cells.Prop k) ≡ Some p.stamp
+  own-stamp = stamp-Prop old k ∙ ap (option_map (λ p. p.stamp)) there
+
+  own-content : get (parts_in old) (cells.Prop k) ≡ shown (content_of p.value)
+  own-content = get-Prop old k ∙ ap (λ o. shown (content_at o)) there
+
+  pub parts-put : (value : Option Holder) → Updated (record p { value = value })
+      → parts_in new ≡ set_at (parts_in old) (cells.Prop k) (shown (content_of value))
+  parts-put value updated = parts-set old new k (record p { value = value }) updated
+
+  pub places-put : (value : Option Holder) → Updated (record p { value = value }) → places_in new ≡ places_in old
+  places-put value updated =
+      places-set old new k (record p { value = value }) updated ∙ insert-own (places_in old) (cells.Prop k) p.stamp own-stamp
+
+  back : set_at (parts_in old) (cells.Prop k) (shown (content_of p.value)) ≡ parts_in old
+  back =
+      same_map cell_cmp_total cell_cmp-IsAntisymmetric _ _ (λ cell.
+      get-set_at cell_cmp_total (parts_in old) (cells.Prop k) (shown (content_of p.value)) cell ∙ by cell (same cell (cells.Prop k)) refl)
     where
-      by : (o : Option (Option Holder)) → at k old ≡ o → parts_in new ≡ parts_in old
-      by None e = ap parts_in (kept e)
-      by (Some o) e =
-          parts-set old new k _ (updates (ap is_some e))
-          ∙ ap (λ v. set_at (parts_in old) (cells.Prop k) (shown (content_of (option_map (λ _. value) v)))) none
-          ∙ parts-unset old k (get-Prop old k ∙ ap shown (sym (content-value_at (at k old))) ∙ ap (λ v. shown (content_of v)) none)
+      by : (cell : Cell) (b : Bool) → same cell (cells.Prop k) ≡ b → cond b (shown (content_of p.value)) (get (parts_in old) cell)
+          ≡ get (parts_in old) cell
+      by cell true t = sym own-content ∙ ap (get (parts_in old)) (sym (same-is cell (cells.Prop k) t))
+      by cell false t = refl
+
+  pub parts-stamp : (stamp : ℕ) → Updated (record p { stamp = stamp }) → parts_in new ≡ parts_in old
+  parts-stamp stamp updated = parts-set old new k (record p { stamp = stamp }) updated ∙ back
+
+  pub places-stamp : (stamp : ℕ) → Updated (record p { stamp = stamp }) → places_in new ≡ insert (places_in old) (cells.Prop k) stamp
+  places-stamp stamp updated = places-set old new k (record p { stamp = stamp }) updated
+
+  -- both, where there is a value
+  module _ (value : Holder) (stamp : Option ℕ) (updated : Updated (replaced value stamp p)) where
+    is_replaced : (was : Holder) → p.value ≡ Some was
+        → replaced value stamp p ≡ record { stamp = new_stamp stamp p.stamp; value = Some value }
+    is_replaced was e = λ i. replaced value stamp (record { stamp = p.stamp; value = e i })
+
+    pub parts-replaced : (was : Holder) → p.value ≡ Some was → parts_in new ≡ set_at (parts_in old) (cells.Prop k) (shown (Held value))
+    parts-replaced was e = parts-set old new k (replaced value stamp p) updated
+        ∙ λ i. set_at (parts_in old) (cells.Prop k) (shown (content_of (is_replaced was e i).value))
+
+    pub places-replaced : (was : Holder) → p.value ≡ Some was
+        → places_in new ≡ insert (places_in old) (cells.Prop k) (new_stamp stamp p.stamp)
+    places-replaced was e = places-set old new k (replaced value stamp p) updated
+        ∙ λ i. insert (places_in old) (cells.Prop k) (is_replaced was e i).stamp
+
+    is_left : p.value ≡ None → replaced value stamp p ≡ p
+    is_left e = (λ i. replaced value stamp (record { stamp = p.stamp; value = e i })) ∙ λ i. record { stamp = p.stamp; value = sym e i }
+
+    pub parts-left : p.value ≡ None → parts_in new ≡ parts_in old
+    parts-left e = parts-set old new k (replaced value stamp p) updated
+        ∙ (λ i. set_at (parts_in old) (cells.Prop k) (shown (content_of (is_left e i).value))) ∙ back
+
+    pub places-left : p.value ≡ None → places_in new ≡ places_in old
+    places-left e = places-set old new k (replaced value stamp p) updated
+        ∙ (λ i. insert (places_in old) (cells.Prop k) (is_left e i).stamp) ∙ insert-own (places_in old) (cells.Prop k) p.stamp own-stamp
 
 -- the slots of the present entries
-abbrev pub is_kept : ℕ × Option Holder → Bool
-is_kept e = is_some e.1
+pub slots-afresh : (es : Entries) → slots_of (afresh es) ≡ slots.afresh (filter is_present (slots_of es))
+slots-afresh [] = refl
+slots-afresh (e ∷ es) = by e.1.value (slots-afresh es)
+  where
+    by : (value : Option Holder) → slots_of (afresh es) ≡ slots.afresh (filter is_present (slots_of es))
+        → slots_of (afresh ((e.0, record { stamp = e.1.stamp; value = value }) ∷ es))
+        ≡ slots.afresh (filter is_present (slots_of ((e.0, record { stamp = e.1.stamp; value = value }) ∷ es)))
+    by None rest = rest
+    by (Some value) rest = ap (λ ss. (cells.Prop e.0, record { stamp = 0; content = Held value }) ∷ ss) rest
 
-pub slots-kept : (es : Entries) → slots_of (filter is_kept es) ≡ filter is_present (slots_of es)
-slots-kept [] = refl
-slots-kept ((n, None) ∷ es) = slots-kept es
-slots-kept ((n, Some value) ∷ es) = ap (λ slots. (cells.Prop n, Held value) ∷ slots) (slots-kept es)
+-- what is left of entries, once those without a value are taken away and the stamps are cleared
+module _ {F : Type 0} (Called : F → ℕ → PropPlace → Bool → PropPlace → F → Type 0) where
+  pub afresh-retained : ((g : F) (k : ℕ) (v : PropPlace) (b : Bool) (w : PropPlace) (g' : F) → Called g k v b w g'
+      → (b ≡ is_some v.value) × (w ≡ record { stamp = 0; value = v.value }))
+      → (f : F) (es kept : Entries) → RetainsPairs Called f es kept → kept ≡ afresh es
+  afresh-retained told f [] kept s = s
+  afresh-retained told f (e ∷ es) kept s =
+      let t = told f e.0 e.1 s.0 s.1 s.2 s.4 in
+      let r = afresh-retained told s.2 es s.3 s.5 in
+      s.6 ∙ (λ j. cond (t.0 j) ((e.0, t.1 j) ∷ r j) (r j)) ∙ by e.1.value
+    where
+      by : (o : Option Holder) → cond (is_some o) ((e.0, record { stamp = 0; value = o }) ∷ afresh es) (afresh es)
+          ≡ afresh ((e.0, record { stamp = e.1.stamp; value = o }) ∷ es)
+      by None = refl
+      by (Some value) = refl
 
 apart_from : (n : ℕ) (es : Entries) → AllByRecursion (λ k. eq_by_cmp nat_cmp n k ≡ false) (keys_of es)
     → AllByRecursion (λ cell. same (cells.Prop n) cell ≡ false) (keys_of (slots_of es))
@@ -227,13 +311,18 @@ length-slots : (es : Entries) → length (slots_of es) ≡ length es
 length-slots [] = refl
 length-slots (e ∷ es) = ap suc (length-slots es)
 
+-- no more properties are present than have a place
+pub len-parts : (es : Entries) → len (parts_in es) ≤ length es
+len-parts es = let a = len-parts_of (slots_of es) in let b = length-slots es in omega (arith, a, b)
+
 module _ (es : Entries) (apart : IsDistinct (eq_by_cmp nat_cmp) (keys_of es)) where
   pub len-places : len (places_in es) ≡ length es
   len-places = len-places_of (slots_of es) (distinct-slots es apart) ∙ length-slots es
 
   -- a copy has the parts, and a place for what is present alone
-  pub parts-kept : parts_in (filter is_kept es) ≡ parts_in es
-  parts-kept = ap parts_of (slots-kept es) ∙ parts_of-filter (slots_of es) (distinct-slots es apart)
+  pub parts-afresh : parts_in (afresh es) ≡ parts_in es
+  parts-afresh = ap parts_of (slots-afresh es) ∙ parts_of-afresh (filter is_present (slots_of es))
+      ∙ parts_of-filter (slots_of es) (distinct-slots es apart)
 
-  pub places-kept : places_in (filter is_kept es) ≡ places_for (parts_in es)
-  places-kept = ap places_of (slots-kept es) ∙ places_of-filter (slots_of es) (distinct-slots es apart)
+  pub places-afresh : places_in (afresh es) ≡ places_for (parts_in es)
+  places-afresh = ap places_of (slots-afresh es) ∙ places_of-filter (slots_of es) (distinct-slots es apart)

@@ -1,5 +1,6 @@
 pub mod PropLists
 pub mod EntryLists
+mod EntryPurges
 pub mod PropRows
 pub mod OrderMembers
 pub mod OrderDepth

@@ -15,52 +15,80 @@ use Rattle.std.proofs.lemmas.Map.Keys.{IsDistinct-from_sorted}
 use Rattle.t3_holder.specs.declared.holder.Holder.{Holder}
 use Rattle.t3_undo.specs.Content.{Present, shown}
 use Rattle.t3_tadsobj.specs.Object.{props_of}
-use Rattle.t3_tadsobj.specs.Inner.Entries.{content_at, value_at, parts_in, listed}
+use Rattle.t3_tadsobj.specs.Inner.Entries.{content_of, content_at, value_at, parts_in, listed}
+use Rattle.t3_tadsobj.specs.declared.entries.PropPlace.{PropPlace}
 use Rattle.t3_tadsobj.proofs.PropLists.{get-props_of}
 use Rattle.t3_tadsobj.proofs.EntryLists.{Entries, at, get-Prop}
 
 -- the present properties with their values
 abbrev pub rows : Entries → List (ℕ × Holder)
-rows es = filter_map (λ e. option_map (λ value. (e.0, value)) e.1) es
+rows es = filter_map (λ e. option_map (λ value. (e.0, value)) e.1.value) es
 
 pub pairs-listed : (es : Entries) → map (λ p. (p.number, p.value)) (listed es) ≡ rows es
 pairs-listed [] = refl
-pairs-listed ((n, None) ∷ es) = pairs-listed es
-pairs-listed ((n, Some value) ∷ es) = ap (λ xs. (n, value) ∷ xs) (pairs-listed es)
+pairs-listed (e ∷ es) = by e.1.value (pairs-listed es)
+  where
+    by : (o : Option Holder) → map (λ p. (p.number, p.value)) (listed es) ≡ rows es
+        → map (λ p. (p.number, p.value)) (listed ((e.0, record { stamp = e.1.stamp; value = o }) ∷ es))
+        ≡ rows ((e.0, record { stamp = e.1.stamp; value = o }) ∷ es)
+    by None rest = rest
+    by (Some value) rest = ap (λ xs. (e.0, value) ∷ xs) rest
 
 pub numbers-listed : (es : Entries) → map (λ p. p.number) (listed es) ≡ keys_of (rows es)
 numbers-listed [] = refl
-numbers-listed ((n, None) ∷ es) = numbers-listed es
-numbers-listed ((n, Some value) ∷ es) = ap (λ xs. n ∷ xs) (numbers-listed es)
+numbers-listed (e ∷ es) = by e.1.value (numbers-listed es)
+  where
+    by : (o : Option Holder) → map (λ p. p.number) (listed es) ≡ keys_of (rows es)
+        → map (λ p. p.number) (listed ((e.0, record { stamp = e.1.stamp; value = o }) ∷ es))
+        ≡ keys_of (rows ((e.0, record { stamp = e.1.stamp; value = o }) ∷ es))
+    by None rest = rest
+    by (Some value) rest = ap (λ xs. e.0 ∷ xs) rest
 
-value-cond : (b : Bool) (o : Option Holder) (rest : Option (Option Holder)) → value_at (cond b (Some o) rest) ≡ cond b o (value_at rest)
-value-cond true o rest = refl
-value-cond false o rest = refl
+value-cond : (b : Bool) (p : PropPlace) (rest : Option PropPlace) → value_at (cond b (Some p) rest) ≡ cond b p.value (value_at rest)
+value-cond true p rest = refl
+value-cond false p rest = refl
 
 pub find-rows : (es : Entries) → IsDistinct (eq_by_cmp nat_cmp) (keys_of es) → (n : ℕ) → find nat_cmp n (rows es) ≡ value_at (at n es)
 unfolding IsDistinct
 find-rows [] apart n = refl
-find-rows ((k, Some value) ∷ es) apart n =
-    ap (cond (eq_by_cmp nat_cmp n k) (Some value)) (find-rows es apart.1 n)
-    ∙ sym (value-cond (eq_by_cmp nat_cmp n k) (Some value) (at n es))
-find-rows ((k, None) ∷ es) apart n = find-rows es apart.1 n ∙ by (eq_by_cmp nat_cmp n k) refl
+find-rows (e ∷ es) apart n = by e.1.value refl (find-rows es apart.1 n)
   where
-    by : (b : Bool) → eq_by_cmp nat_cmp n k ≡ b → value_at (at n es) ≡ value_at (cond b (Some None) (at n es))
-    by true t = ap value_at (lookup-none _ es (none_past_head (eq_by_cmp_equiv nat_cmp_total) n (k, None) es apart t))
-    by false t = refl
+    none : (o : Option Holder) → e.1.value ≡ None → find nat_cmp n (rows es) ≡ value_at (at n es)
+        → (b : Bool) → eq_by_cmp nat_cmp n e.0 ≡ b → find nat_cmp n (rows es) ≡ cond b e.1.value (value_at (at n es))
+    none o is rest true t =
+        rest ∙ ap value_at (lookup-none _ es (none_past_head (eq_by_cmp_equiv nat_cmp_total) n e es apart t)) ∙ sym is
+    none o is rest false t = rest
+
+    by : (o : Option Holder) → e.1.value ≡ o → find nat_cmp n (rows es) ≡ value_at (at n es)
+        → find nat_cmp n (rows ((e.0, record { stamp = e.1.stamp; value = o }) ∷ es))
+        ≡ value_at (cond (eq_by_cmp nat_cmp n e.0) (Some e.1) (at n es))
+    by None is rest =
+        none None is rest (eq_by_cmp nat_cmp n e.0) refl ∙ sym (value-cond (eq_by_cmp nat_cmp n e.0) e.1 (at n es))
+    by (Some value) is rest =
+        ap (cond (eq_by_cmp nat_cmp n e.0) (Some value)) rest
+        ∙ sym (value-cond (eq_by_cmp nat_cmp n e.0) e.1 (at n es) ∙ λ i. cond (eq_by_cmp nat_cmp n e.0) (is i) (value_at (at n es)))
 
 below-rows : (k : ℕ) (es : Entries) → AllByRecursion (λ q. nat_cmp k q ≡ Less) (keys_of es)
     → AllByRecursion (λ q. nat_cmp k q ≡ Less) (keys_of (rows es))
 below-rows k [] all = tt
-below-rows k ((n, None) ∷ es) all = below-rows k es all.1
-below-rows k ((n, Some value) ∷ es) all = (all.0, below-rows k es all.1)
+below-rows k (e ∷ es) all = by e.1.value (below-rows k es all.1)
+  where
+    by : (o : Option Holder) → AllByRecursion (λ q. nat_cmp k q ≡ Less) (keys_of (rows es))
+        → AllByRecursion (λ q. nat_cmp k q ≡ Less) (keys_of (rows ((e.0, record { stamp = e.1.stamp; value = o }) ∷ es)))
+    by None rest = rest
+    by (Some value) rest = (all.0, rest)
 
 -- they rise as the entries do
 pub rising-rows : (es : Entries) → IsStrictlySortedBy nat_cmp (keys_of es) → IsStrictlySortedBy nat_cmp (keys_of (rows es))
 unfolding IsStrictlySortedBy
 rising-rows [] rise = tt
-rising-rows ((n, None) ∷ es) rise = rising-rows es rise.1
-rising-rows ((n, Some value) ∷ es) rise = (below-rows n es rise.0, rising-rows es rise.1)
+rising-rows (e ∷ es) rise = by e.1.value (rising-rows es rise.1) (below-rows e.0 es rise.0)
+  where
+    by : (o : Option Holder) → IsStrictlySortedBy nat_cmp (keys_of (rows es))
+        → AllByRecursion (λ q. nat_cmp e.0 q ≡ Less) (keys_of (rows es))
+        → IsStrictlySortedBy nat_cmp (keys_of (rows ((e.0, record { stamp = e.1.stamp; value = o }) ∷ es)))
+    by None rest below = rest
+    by (Some value) rest below = (below, rest)
 
 both : (a b : Bool) → a ≡ true → b ≡ true → (a && b) ≡ true
 both true b s t = t
@@ -79,10 +107,13 @@ from_true : (b : Bool) → b ≡ true → T b
 from_true true t = tt
 from_true false t = absurd (true≢false (sym t))
 
-shown-value : (o : Option (Option Holder)) → option_map (λ (p : Present). p.value) (shown (content_at o)) ≡ value_at o
+shown-value : (o : Option PropPlace) → option_map (λ (p : Present). p.value) (shown (content_at o)) ≡ value_at o
 shown-value None = refl
-shown-value (Some None) = refl
-shown-value (Some (Some value)) = refl
+shown-value (Some p) = by p.value
+  where
+    by : (o : Option Holder) → option_map (λ (p : Present). p.value) (shown (content_of o)) ≡ o
+    by None = refl
+    by (Some value) = refl
 
 -- a property of the parts
 pub get-prop : (es : Entries) (n : ℕ) → get (props_of (parts_in es)) n ≡ value_at (at n es)

@@ -3,7 +3,6 @@ use Rattle.std.specs.Prelude.{ℕ, Bool, true, false, IsTrue, List, Option, None
 use Rattle.std.specs.List.{filter_map}
 use Rattle.std.specs.Ordering.{nat_cmp}
 use Rattle.std.specs.FinMap.{FinMap, entries, from_entries}
-use Rattle.std.specs.FinSet as set
 use Rattle.std.specs.FinMap as finite
 use Rattle.std.specs.Coded.{Coded, code_by, coded×, coded_ℕ, coded_bool, coded_list}
 use Rattle.t3_holder.specs.declared.holder.Holder.{Holder}
@@ -11,7 +10,7 @@ use Rattle.t3_undo.specs.Content.{Present, Parts, Places, coded_parts, coded_pla
 use Rattle.t3_undo.specs.declared.cell.Cell.{Cell}
 use Rattle.t3_undo.specs.declared.cell.Cell.TheVariants as cells
 
--- a tads-object: its present cells, the cells that have a place, its superclasses, and whether it is a class
+-- a tads-object: its present cells, the cells that have a place with their stamps, its superclasses, and whether it is a class
 pub record Tads : Type 0 where
   pub parts : Parts
   pub places : Places
@@ -26,7 +25,7 @@ coded_tads =
 
 -- an object without properties
 abbrev pub bare : List ℕ → Bool → Tads
-bare supers class = record { parts = finite.empty; places = set.empty; supers = supers; class = class }
+bare supers class = record { parts = finite.empty; places = finite.empty; supers = supers; class = class }
 
 -- whether the cell is a property
 abbrev pub is_prop : Cell → Bool
@@ -37,7 +36,7 @@ is_prop cells.Default = false
 
 -- only properties have a place
 abbrev pub HasOnlyProps : Places → Type 0
-HasOnlyProps places = (cell : Cell) → IsTrue (set.contains places cell) → IsTrue (is_prop cell)
+HasOnlyProps places = (cell : Cell) → IsTrue (finite.contains_key places cell) → IsTrue (is_prop cell)
 
 -- a property's number and value
 abbrev pub prop_in : Cell → Present → Option (ℕ × Holder)

@@ -14,6 +14,7 @@
 #![tactic(auto)]
 
 mod cycles;
+mod entries;
 mod object;
 mod order;
 mod props;

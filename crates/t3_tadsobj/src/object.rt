@@ -1,29 +1,30 @@
-ghost use Rattle.std.specs.Prelude.{◌≡◌, false, [], Some, None, map, filter, is_some, option_map, IsTrue, IsSome, IfOk, OnOk, OnErr, MatchOption};
-ghost use Rattle.std.specs.FinMap.{get, entries};
+ghost use Rattle.std.specs.Prelude.{◌≡◌, ℕ, false, [], Some, None, map, option_map, IsTrue, IsSome, IfOk, OnOk, OnErr, MatchOption};
+ghost use Rattle.std.specs.FinMap.{get, entries, insert, contains_key};
 ghost use Rattle.std.specs.List.Sorted.{IsStrictlyIncreasing};
-ghost use Rattle.std.specs.FinSet as set;
-ghost use Rattle.std.specs.BTreeMap as tree;
-ghost use Rattle.std.specs.Ordering.{nat_cmp};
-ghost use Rattle.t3_undo.specs.Content.{shown, is_form, places_for};
+ghost use Rattle.t3_undo.specs.Content.{shown, is_form, with_place, places_for};
 ghost use Rattle.t3_undo.specs.Objects.{set_at};
+ghost use Rattle.t3_undo.specs.Purging.{Stays};
+ghost use Rattle.t3_undo.specs.declared.cell.Cell.{Cell};
 ghost use Rattle.t3_tadsobj.specs.Object.{bare, is_prop, props_of};
-ghost use Rattle.t3_tadsobj.specs.Inner.Entries.{content_of, content_at, value_at, listed};
+ghost use Rattle.t3_tadsobj.specs.Inner.Entries.{new_stamp};
 
-use crate::props::{PropValue, Props};
+use crate::entries::{
+    Entries, PropPlace, content_at, content_of, exchange, listed, one_if_present, place_of,
+    present_entries, purge, replace_value, restamp, stamp_at, value_at, value_in,
+};
+use crate::props::Props;
 use std::alloc::Global;
 use std::collections::BTreeMap;
 use std::marker::Model;
-use std::mem;
 use t3_holder::{Holder, NoMemory};
-use t3_undo::{Cell, Content, Metaclass, Numbers};
-
-/// The properties that have a place, by their numbers, each with its value if it is present.
-type Entries = BTreeMap<u16, Option<Holder>>;
+use t3_undo::{Cell, Content, Metaclass, Numbers, Place};
 
 /// An object of the TADS language: superclasses, whether it is a class, and properties.
 #[derive(Drop)]
 pub struct TadsObject {
     props: Entries,
+    /// How many of the properties are present.
+    present: u64,
     supers: Numbers,
     class: bool,
 }
@@ -42,6 +43,10 @@ impl Model for TadsObject {
       supers = o.supers;
       class = o.class;
     } };
+
+    ghost use Rattle.t3_tadsobj.specs.Inner.Entries.{AreCounted};
+
+    ghost invariant = { λ o. AreCounted o.props.entries o.present };
 }
 
 impl TadsObject {
@@ -58,51 +63,62 @@ impl TadsObject {
     {
         TadsObject {
             props: BTreeMap::new(alloc),
+            present: 0,
             supers,
             class,
         }
     }
 
-    /// An object like this one, with a place for each present property alone.
+    /// An object like this one, with a place with stamp 0 for each present property alone.
     pub fn copy(&self, alloc: Global) -> Result<TadsObject, NoMemory>
         ensures { IfOk result (λ copy. copy ≡ record self.now { places = places_for self.now.parts }) }
     {
-        let props = present(&self.props)?;
+        let props = present_entries(alloc, &self.props)?;
         let supers = Vec::from_slice(alloc, self.supers())?;
         Ok(TadsObject {
             props,
+            present: self.present,
             supers: Numbers(supers),
             class: self.class,
         })
     }
 
-    /// Sets a property, which has a place then.
+    /// Sets a property, which has a place with stamp 0 then.
     pub fn set(&mut self, number: u16, value: Holder) -> Result<(), NoMemory>
         ensures ok { OnOk result (self.new ≡ record self.old {
           parts = set_at self.old.parts (Cell.Prop number) (shown (Content.Held value));
-          places = set.insert self.old.places (Cell.Prop number);
+          places = insert self.old.places (Cell.Prop number) 0;
         }) }
         ensures err { OnErr result (self.new ≡ self.old) }
     {
-        self.props.insert(number, Some(value))?;
+        let _within = self.props.len();
+        let place = PropPlace {
+            stamp: 0,
+            value: Some(value),
+        };
+        let old = self.props.insert(number, place)?;
+        self.present = self.present + 1 - one_if_present(value_in(old));
         Ok(())
     }
 
-    /// Sets a property that is present to another value, and hands out what stood there. It is `Absent`
-    /// exactly where the property isn't present, and then nothing changes. No memory is taken.
+    /// Sets a property that is present to another value, and gives its place this stamp, if there is one.
+    /// Hands out what stood there, with its stamp. The content is `Absent` exactly where the property isn't
+    /// present, and then nothing changes. No memory is taken.
     #[inline(always)]
-    pub fn replace(&mut self, number: u16, value: Holder) -> Content
-        ensures old { shown result ≡ get self.old.parts (Cell.Prop number) }
-        ensures placed { IsSome (shown result) → IsTrue (set.contains self.old.places (Cell.Prop number)) }
-        ensures formed { IsTrue (is_form (Cell.Prop number) (shown result)) }
-        ensures value { option_map (λ present. present.value) (shown result)
+    pub fn replace(&mut self, number: u16, value: Holder, stamp: Option<u64>) -> Place
+        ensures old { shown result.content ≡ get self.old.parts (Cell.Prop number) }
+        ensures placed { IsSome (shown result.content)
+            → get self.old.places (Cell.Prop number) ≡ Some result.stamp }
+        ensures formed { IsTrue (is_form (Cell.Prop number) (shown result.content)) }
+        ensures value { option_map (λ present. present.value) (shown result.content)
             ≡ get (props_of self.old.parts) number }
-        ensures set { IsSome (shown result) → self.new.parts
-            ≡ set_at self.old.parts (Cell.Prop number) (shown (Content.Held value)) }
-        ensures kept { shown result ≡ None → self.new.parts ≡ self.old.parts }
-        ensures rest { self.new ≡ record self.old { parts = self.new.parts } }
+        ensures set { IsSome (shown result.content) → self.new ≡ record self.old {
+          parts = set_at self.old.parts (Cell.Prop number) (shown (Content.Held value));
+          places = insert self.old.places (Cell.Prop number) (new_stamp stamp result.stamp);
+        } }
+        ensures kept { shown result.content ≡ None → self.new ≡ self.old }
     {
-        content_of(replace_value(&mut self.props, number, value))
+        place_of(replace_value(&mut self.props, number, value, stamp))
     }
 
     /// The value of a property, if it is present.
@@ -152,8 +168,8 @@ impl Metaclass for TadsObject {
     #[inline(always)]
     fn get(&self, cell: &Cell) -> Content
         ensures content { shown result ≡ get self.now.parts cell.now }
-        ensures placed { IsSome (shown result) → IsTrue (set.contains self.now.places cell.now) }
-        ensures formed { IsTrue (set.contains self.now.places cell.now)
+        ensures placed { IsSome (shown result) → IsTrue (contains_key self.now.places cell.now) }
+        ensures formed { IsTrue (contains_key self.now.places cell.now)
             → IsTrue (is_form cell.now (shown result)) }
         ensures only_props { IsSome (shown result) → IsTrue (is_prop cell.now) }
     {
@@ -165,7 +181,7 @@ impl Metaclass for TadsObject {
 
     #[inline(always)]
     fn put(&mut self, cell: &Cell, content: Content) -> Content
-        requires place { IsTrue (set.contains self.old.places cell.now) }
+        requires place { IsTrue (contains_key self.old.places cell.now) }
         requires form { IsTrue (is_form cell.now (shown content)) }
         ensures object { self.new ≡ record self.old { parts = set_at self.old.parts cell.now (shown content) } }
         ensures old { shown result ≡ get self.old.parts cell.now }
@@ -173,7 +189,13 @@ impl Metaclass for TadsObject {
         ensures only_props { IsTrue (is_prop cell.now) }
     {
         match prop_number(cell) {
-            Some(number) => content_of(exchange(&mut self.props, number, content.value())),
+            Some(number) => {
+                let _within = self.props.len();
+                let value = content.value();
+                let old = exchange(&mut self.props, number, value);
+                self.present = self.present + one_if_present(value) - one_if_present(old);
+                content_of(old)
+            }
             // Only properties have a place.
             None => content,
         }
@@ -181,7 +203,7 @@ impl Metaclass for TadsObject {
 
     fn make_place(&mut self, cell: Cell) -> Result<(), NoMemory>
         requires { IsTrue (is_prop cell) }
-        ensures ok { OnOk result (self.new ≡ record self.old { places = set.insert self.old.places cell }) }
+        ensures ok { OnOk result (self.new ≡ record self.old { places = with_place self.old.places cell }) }
         ensures err { OnErr result (self.new ≡ self.old) }
     {
         let Some(number) = prop_number(&cell) else {
@@ -190,12 +212,50 @@ impl Metaclass for TadsObject {
         if self.props.contains_key(&number) {
             return Ok(());
         }
-        self.props.insert(number, None)?;
+        let place = PropPlace {
+            stamp: 0,
+            value: None,
+        };
+        self.props.insert(number, place)?;
         Ok(())
+    }
+
+    fn stamp(&self, cell: &Cell) -> u64 {
+        match prop_number(cell) {
+            Some(number) => stamp_at(&self.props, number),
+            None => 0,
+        }
+    }
+
+    fn set_stamp(&mut self, cell: &Cell, stamp: u64)
+        requires { IsTrue (contains_key self.old.places cell.now) }
+        ensures { self.new ≡ record self.old { places = insert self.old.places cell.now stamp } }
+    {
+        if let Some(number) = prop_number(cell) {
+            restamp(&mut self.props, number, stamp);
+        }
     }
 
     fn places(&self) -> u64 {
         self.props.len() as u64
+    }
+
+    fn present(&self) -> u64 {
+        self.present
+    }
+
+    fn purge(&mut self, oldest: u64)
+        ensures parts { self.new.parts ≡ self.old.parts }
+        ensures fewer { (cell : Cell) (stamp : ℕ) → get self.new.places cell ≡ Some stamp
+            → get self.old.places cell ≡ Some stamp }
+        ensures kept { (cell : Cell) (stamp : ℕ) → get self.old.places cell ≡ Some stamp
+            → Stays self.old.parts self.old.places oldest cell
+            → get self.new.places cell ≡ Some stamp }
+        ensures gone { (cell : Cell) (stamp : ℕ) → get self.new.places cell ≡ Some stamp
+            → Stays self.old.parts self.old.places oldest cell }
+        ensures object { self.new ≡ record self.old { places = self.new.places } }
+    {
+        purge(&mut self.props, oldest);
     }
 }
 
@@ -207,103 +267,5 @@ fn prop_number(cell: &Cell) -> Option<u16>
     match cell {
         Cell::Prop(number) => Some(*number),
         Cell::Elem(_) | Cell::Key(_) | Cell::Default => None,
-    }
-}
-
-/// A value as the content of a property.
-#[inline(always)]
-fn content_of(value: Option<Holder>) -> Content
-    ensures { result ≡ content_of value }
-{
-    match value {
-        Some(value) => Content::Held(value),
-        None => Content::Absent,
-    }
-}
-
-/// What stands under a number.
-#[inline(always)]
-fn content_at(entries: &Entries, number: u16) -> Content
-    ensures { result ≡ content_at (tree.get nat_cmp entries.now number) }
-{
-    match entries.get(&number) {
-        Some(value) => content_of(*value),
-        None => Content::Absent,
-    }
-}
-
-/// The value under a number.
-#[inline(always)]
-fn value_at(entries: &Entries, number: u16) -> Option<Holder>
-    ensures { result ≡ value_at (tree.get nat_cmp entries.now number) }
-{
-    match entries.get(&number) {
-        Some(value) => *value,
-        None => None,
-    }
-}
-
-/// Puts another value under a number that is there, and hands out what stood there.
-#[inline(always)]
-fn exchange(entries: &mut Entries, number: u16, value: Option<Holder>) -> Option<Holder>
-    requires { IsSome (tree.get nat_cmp entries.old number) }
-    ensures updates { tree.Updates nat_cmp entries.old entries.new number (Some value) }
-    ensures old { tree.get nat_cmp entries.old number ≡ Some result }
-{
-    match entries.get_mut(&number) {
-        Some(place) => mem::replace(place, value),
-        None => value,
-    }
-}
-
-/// Puts another value under a number that has one, and hands out the one that stood there.
-#[inline(always)]
-fn replace_value(entries: &mut Entries, number: u16, value: Holder) -> Option<Holder>
-    ensures old { result ≡ value_at (tree.get nat_cmp entries.old number) }
-    ensures updates { IsSome (tree.get nat_cmp entries.old number)
-        → tree.Updates nat_cmp entries.old entries.new number (Some (option_map (λ _. value) result)) }
-    ensures kept { tree.get nat_cmp entries.old number ≡ None → entries.new ≡ entries.old }
-{
-    match entries.get_mut(&number) {
-        Some(place) => {
-            let old = *place;
-            if old.is_some() {
-                *place = Some(value);
-            }
-            old
-        }
-        None => None,
-    }
-}
-
-/// The entries that are present.
-fn present(entries: &Entries) -> Result<Entries, NoMemory>
-    ensures present { IfOk result (λ copy. copy.entries
-        ≡ filter (λ e. is_some e.1) entries.now.entries) }
-    ensures ordered { IfOk result (λ _. tree.IsOrdered nat_cmp entries.now) }
-{
-    let mut copy = entries.clone()?;
-    copy.retain(|_, value| value.is_some());
-    Ok(copy)
-}
-
-/// The properties that are present, in the order of their numbers.
-fn listed(alloc: Global, entries: &Entries) -> Result<Vec<PropValue>, NoMemory>
-    ensures listed { IfOk result (λ props. props.items ≡ listed entries.now.entries) }
-    ensures ordered { tree.IsOrdered nat_cmp entries.now }
-{
-    let props = entries
-        .iter()
-        .filter_map(|(number, value)| prop_value(*number, *value));
-    Ok(props.collect(alloc)?)
-}
-
-/// A property that is present, with its value.
-fn prop_value(number: u16, value: Option<Holder>) -> Option<PropValue>
-    ensures { result ≡ option_map (λ value. record { number = number; value = value }) value }
-{
-    match value {
-        Some(value) => Some(PropValue { number, value }),
-        None => None,
     }
 }

@@ -1,19 +1,20 @@
-use Rattle.std.proofs.Common.{◌≡◌, ◌∙◌, ap, subst, rules, tests, filter}
+use Rattle.std.proofs.Common.{◌≡◌, ◌∙◌, ap, subst, rules, tests}
 use Rattle.std.specs.Ordering.{nat_cmp}
 use Rattle.std.specs.Map.{keys_of}
 use Rattle.std.specs.List.Sorted.{IsStrictlySortedBy}
-use Rattle.std.proofs.lemmas.Map.Entries.{entries_from_clone, filter_from_retain_pairs}
-use Rattle.t3_tadsobj.proofs.EntryLists.{Entries, is_kept}
-use Rattle.t3_tadsobj.proofs.object.present.Goals as goal
-use Rattle.t3_tadsobj.proofs.object.present.Goals.{After-retain}
+use Rattle.std.proofs.lemmas.Map.Entries.{entries_from_clone}
+use Rattle.t3_tadsobj.specs.Inner.Entries.{afresh}
+use Rattle.t3_tadsobj.proofs.EntryLists.{Entries, afresh-retained}
+use Rattle.t3_tadsobj.proofs.entries.present_entries.Goals as goal
+use Rattle.t3_tadsobj.proofs.entries.present_entries.Goals.{After-retain}
 
 cloned : (c : After-retain) → c.in_ok-copy.copy.entries ≡ c.args.entries.now.entries
 cloned c = entries_from_clone _ _ (λ x y h. h) (λ x y h. search (rules, tests)) _ _ c.in_ok-copy.ensures.cases
 
 pub returns-clause-present : goal.returns-clause-present
 returns-clause-present c =
-    filter_from_retain_pairs _ (λ f. Unit {0}) is_kept (λ f k v b w g i called. search (rules, tests)) _ _ _ tt c.retain.ensures.filtered
-    ∙ ap (filter is_kept) (cloned c)
+    afresh-retained _ (λ g k v b w g' called. search (rules, tests)) _ _ _ c.retain.ensures.filtered
+    ∙ ap afresh (cloned c)
 
 pub returns-clause-ordered : goal.returns-clause-ordered
 returns-clause-ordered c = subst (λ (es : Entries). IsStrictlySortedBy nat_cmp (keys_of es)) (cloned c) c.retain.ensures.was_ordered
