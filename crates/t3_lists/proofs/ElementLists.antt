@@ -11,20 +11,22 @@ use Rattle.std.proofs.lemmas.Option.{slice_get-get_or, slice_get_past}
 use Rattle.std.proofs.lemmas.Map.Made.{is_some-lookup}
 use Rattle.std.proofs.lemmas.List.Sums.{sum_by-set, sum_by-append, count_by-le-length}
 use Rattle.std.specs.Map.{keys_of, lookup, set_value}
-use Rattle.std.specs.FinMap.{get}
-use Rattle.std.specs.FinSet.{contains, insert, len}
+use Rattle.std.specs.FinMap.{get, insert, contains_key}
 use Rattle.t3_holder.specs.declared.holder.Holder.{Holder}
 use Rattle.t3_undo.specs.Cell.{cell_cmp_total}
-use Rattle.t3_undo.specs.Content.{Present, shown, is_form}
+use Rattle.t3_undo.specs.Content.{Present, with_place, shown, is_form}
 use Rattle.t3_undo.specs.Objects.{set_at}
 use Rattle.t3_undo.specs.Slots as slots
 use Rattle.t3_undo.specs.declared.cell.Cell.{Cell}
 use Rattle.t3_undo.specs.declared.cell.Cell.TheVariants as cells
 use Rattle.t3_undo.specs.declared.content.Content.{Content}
 use Rattle.t3_undo.specs.declared.content.Content.TheVariants.{Absent, Held, Slot}
-use Rattle.t3_undo.proofs.SlotLists.{same, seen, get-parts_of, contains-places_of, parts_of-set_value, places_of-set_value, parts_of-add-absent, places_of-add, insert-places_of, len-places_of}
-use Rattle.t3_lists.specs.Vector.{content_of, numbered, parts_of, places_of, is_element, HasPlaceBelow}
-use Rattle.t3_lists.specs.Inner.Elements.{index_of, content_found, content_in, element_of, exchanged, with_next, AreCounted}
+use Rattle.t3_undo.proofs.SlotLists.{same, seen, get-parts_of, parts_of-set_value, parts_of-add-absent, with_place-there}
+use Rattle.t3_lists.specs.Vector.{content_of, bare, numbered, parts_in, places_from, values_of, stamps_of, is_element, HasPlaceBelow}
+use Rattle.t3_undo.specs.declared.place.Place.{Place}
+use Rattle.t3_lists.proofs.ElementStamps as stamped
+use Rattle.t3_lists.specs.declared.elements.Element.{Element}
+use Rattle.t3_lists.specs.Inner.Elements.{index_of, content_found, content_in, element_of, exchanged, with_next, with_next_stamp, stamp_in, restamped, AreCounted}
 
 abbrev Elements : Type 0
 Elements = List (Option Holder)
@@ -46,13 +48,13 @@ other-number n k e = same-Elem n k ∙ ne_eqb n k e
 
 -- an element is found under its number
 lookup-at : (number index m : ℕ) (elements : Elements) → m ≡ number + index → lookup (same (cells.Elem m)) (numbered number elements)
-    ≡ option_map content_of (slice_get elements index)
+    ≡ option_map bare (slice_get elements index)
 lookup-at number index m [] e = refl
 lookup-at number zero m (element ∷ elements) e =
-    ap (λ b. cond b (Some (content_of element)) (lookup (same (cells.Elem m)) (numbered (suc number) elements)))
+    ap (λ b. cond b (Some (bare element)) (lookup (same (cells.Elem m)) (numbered (suc number) elements)))
     (same-number m number (omega arith))
 lookup-at number (suc index) m (element ∷ elements) e =
-    ap (λ b. cond b (Some (content_of element)) (lookup (same (cells.Elem m)) (numbered (suc number) elements)))
+    ap (λ b. cond b (Some (bare element)) (lookup (same (cells.Elem m)) (numbered (suc number) elements)))
     (other-number m number (λ w. absurd (omega arith)))
     ∙ lookup-at (suc number) index m elements (omega arith)
 
@@ -60,7 +62,7 @@ lookup-at number (suc index) m (element ∷ elements) e =
 pub lookup-below : (number m : ℕ) (elements : Elements) → m < number → lookup (same (cells.Elem m)) (numbered number elements) ≡ None
 lookup-below number m [] e = refl
 lookup-below number m (element ∷ elements) e =
-    ap (λ b. cond b (Some (content_of element)) (lookup (same (cells.Elem m)) (numbered (suc number) elements)))
+    ap (λ b. cond b (Some (bare element)) (lookup (same (cells.Elem m)) (numbered (suc number) elements)))
     (other-number m number (λ w. absurd (omega arith)))
     ∙ lookup-below (suc number) m elements (omega arith)
 
@@ -78,9 +80,9 @@ lookup-Default number [] = refl
 lookup-Default number (element ∷ elements) = lookup-Default (suc number) elements
 
 -- the element at an index
-abbrev pub found : Elements → Option ℕ → Option Content
+abbrev pub found : Elements → Option ℕ → Option Place
 found elements None = None
-found elements (Some index) = option_map content_of (slice_get elements index)
+found elements (Some index) = option_map bare (slice_get elements index)
 
 lookup-numbered : (cell : Cell) (elements : Elements) → lookup (same cell) (numbered 1 elements) ≡ found elements (index_of cell)
 lookup-numbered (cells.Elem zero) elements = lookup-below 1 0 elements (omega arith)
@@ -93,21 +95,19 @@ seen-found : (elements : Elements) (index : Option ℕ) → seen (found elements
 seen-found elements None = refl
 seen-found elements (Some index) = by (slice_get elements index)
   where
-    by : (o : Option (Option Holder)) → seen (option_map content_of o) ≡ shown (content_found o)
+    by : (o : Option (Option Holder)) → seen (option_map bare o) ≡ shown (content_found o)
     by None = refl
     by (Some element) = refl
 
 -- what stands in a cell
-pub get-parts : (elements : Elements) (cell : Cell) → get (parts_of elements) cell ≡ shown (content_in elements (index_of cell))
-unfolding parts_of
+pub get-parts : (elements : Elements) (cell : Cell) → get (parts_in elements) cell ≡ shown (content_in elements (index_of cell))
+unfolding parts_in
 get-parts elements cell = get-parts_of (numbered 1 elements) cell ∙ ap seen (lookup-numbered cell elements)
     ∙ seen-found elements (index_of cell)
 
 -- and whether it has a place
-pub contains-places : (elements : Elements) (cell : Cell) → contains (places_of elements) cell
-    ≡ is_some (found elements (index_of cell))
-unfolding places_of
-contains-places elements cell = contains-places_of (numbered 1 elements) cell ∙ ap is_some (lookup-numbered cell elements)
+pub contains-places : (stamps : List ℕ) (cell : Cell) → contains_key (places_from 1 stamps) cell ≡ is_some (stamp_in stamps (index_of cell))
+contains-places stamps cell = ap is_some (stamped.get-places stamps cell)
 
 -- what is present has a place
 pub placed : (elements : Elements) (index : Option ℕ) → is_some (shown (content_in elements index)) ≡ true
@@ -115,7 +115,7 @@ pub placed : (elements : Elements) (index : Option ℕ) → is_some (shown (cont
 placed elements None e = e
 placed elements (Some index) e = by (slice_get elements index) e
   where
-    by : (o : Option (Option Holder)) → is_some (shown (content_found o)) ≡ true → is_some (option_map content_of o) ≡ true
+    by : (o : Option (Option Holder)) → is_some (shown (content_found o)) ≡ true → is_some (option_map bare o) ≡ true
     by None e = e
     by (Some element) e = refl
 
@@ -142,17 +142,17 @@ element-placed elements cells.Default e = absurd (true≢false (sym e))
 
 -- an element set
 set-numbered : (number index m : ℕ) (elements : Elements) (element : Option Holder) → m ≡ number + index
-    → set_value (same (cells.Elem m)) (numbered number elements) (content_of element) ≡ numbered number (slice_set elements index element)
+    → set_value (same (cells.Elem m)) (numbered number elements) (bare element) ≡ numbered number (slice_set elements index element)
 set-numbered number index m [] element e = refl
 set-numbered number zero m (first ∷ elements) element e =
-    ap (λ b. cond b ((cells.Elem number, content_of element) ∷ numbered (suc number) elements)
-    ((cells.Elem number, content_of first) ∷ set_value (same (cells.Elem m)) (numbered (suc number) elements) (content_of element)))
+    ap (λ b. cond b ((cells.Elem number, bare element) ∷ numbered (suc number) elements)
+    ((cells.Elem number, bare first) ∷ set_value (same (cells.Elem m)) (numbered (suc number) elements) (bare element)))
     (same-number m number (omega arith))
 set-numbered number (suc index) m (first ∷ elements) element e =
-    ap (λ b. cond b ((cells.Elem number, content_of element) ∷ numbered (suc number) elements)
-    ((cells.Elem number, content_of first) ∷ set_value (same (cells.Elem m)) (numbered (suc number) elements) (content_of element)))
+    ap (λ b. cond b ((cells.Elem number, bare element) ∷ numbered (suc number) elements)
+    ((cells.Elem number, bare first) ∷ set_value (same (cells.Elem m)) (numbered (suc number) elements) (bare element)))
     (other-number m number (λ w. absurd (omega arith)))
-    ∙ ap (λ xs. (cells.Elem number, content_of first) ∷ xs) (set-numbered (suc number) index m elements element (omega arith))
+    ∙ ap (λ xs. (cells.Elem number, bare first) ∷ xs) (set-numbered (suc number) index m elements element (omega arith))
 
 -- a content of an element's form is one of elements
 shown-element : (n : ℕ) (content : Content) → IsTrue (is_form (cells.Elem n) (shown content)) → shown (content_of (element_of content))
@@ -163,39 +163,29 @@ shown-element n (Slot tick value) fits = absurd (true≢false (sym fits))
 
 module _ (elements : Elements) (content : Content) where
   pub parts-exchanged : (cell : Cell) → is_some (found elements (index_of cell)) ≡ true → IsTrue (is_form cell (shown content))
-      → parts_of (exchanged elements (index_of cell) content) ≡ set_at (parts_of elements) cell (shown content)
-  unfolding parts_of
+      → parts_in (exchanged elements (index_of cell) content) ≡ set_at (parts_in elements) cell (shown content)
+  unfolding parts_in
   parts-exchanged (cells.Elem zero) there fits = absurd (true≢false (sym there))
   parts-exchanged (cells.Elem (suc index)) there fits =
       ap slots.parts_of (sym (set-numbered 1 index (suc index) elements (element_of content) (omega arith)))
-      ∙ parts_of-set_value (numbered 1 elements) (cells.Elem (suc index)) (content_of (element_of content))
+      ∙ parts_of-set_value (numbered 1 elements) (cells.Elem (suc index)) (bare (element_of content))
       (ap is_some (lookup-numbered (cells.Elem (suc index)) elements) ∙ there)
       ∙ ap (set_at (slots.parts_of (numbered 1 elements)) (cells.Elem (suc index))) (shown-element (suc index) content fits)
   parts-exchanged (cells.Prop n) there fits = absurd (true≢false (sym there))
   parts-exchanged (cells.Key key) there fits = absurd (true≢false (sym there))
   parts-exchanged cells.Default there fits = absurd (true≢false (sym there))
 
-  places-set : (index : ℕ) → places_of (slice_set elements index (element_of content)) ≡ places_of elements
-  unfolding places_of
-  places-set index =
-      ap slots.places_of (sym (set-numbered 1 index (suc index) elements (element_of content) (omega arith)))
-      ∙ places_of-set_value (numbered 1 elements) (cells.Elem (suc index)) (content_of (element_of content))
-
-  pub places-exchanged : (index : Option ℕ) → places_of (exchanged elements index content) ≡ places_of elements
-  places-exchanged None = refl
-  places-exchanged (Some index) = places-set index
-
 -- one more element, at the end
 pub numbered-push : (number : ℕ) (elements : Elements) (element : Option Holder) → numbered number (elements ++ element ∷ [])
-    ≡ numbered number elements ++ (cells.Elem (number + length elements), content_of element) ∷ []
-numbered-push number [] element = ap (λ n. (cells.Elem n, content_of element) ∷ []) (omega arith)
+    ≡ numbered number elements ++ (cells.Elem (number + length elements), bare element) ∷ []
+numbered-push number [] element = ap (λ n. (cells.Elem n, bare element) ∷ []) (omega arith)
 numbered-push number (first ∷ elements) element =
-    ap (λ xs. (cells.Elem number, content_of first) ∷ xs)
+    ap (λ xs. (cells.Elem number, bare first) ∷ xs)
     (numbered-push (suc number) elements element
-    ∙ ap (λ n. numbered (suc number) elements ++ (cells.Elem n, content_of element) ∷ []) (omega arith))
+    ∙ ap (λ n. numbered (suc number) elements ++ (cells.Elem n, bare element) ∷ []) (omega arith))
 
 -- an index past the end finds nothing
-not-found : (elements : Elements) (index : ℕ) → is_some (found elements (Some index)) ≡ true → index < length elements
+pub not-found : (elements : Elements) (index : ℕ) → is_some (found elements (Some index)) ≡ true → index < length elements
 not-found [] index e = absurd (true≢false (sym e))
 not-found (element ∷ elements) zero e = omega arith
 not-found (element ∷ elements) (suc index) e = let h = not-found elements index e in omega arith
@@ -221,10 +211,6 @@ distinct-numbered number (element ∷ elements) =
 length-numbered : (number : ℕ) (elements : Elements) → length (numbered number elements) ≡ length elements
 length-numbered number [] = refl
 length-numbered number (element ∷ elements) = ap (λ n. suc n) (length-numbered (suc number) elements)
-
-pub len-places : (elements : Elements) → len (places_of elements) ≡ length elements
-unfolding places_of
-len-places elements = len-places_of (numbered 1 elements) (distinct-numbered 1 elements) ∙ length-numbered 1 elements
 
 -- how many elements are present
 abbrev pub one : Option Present → ℕ
@@ -279,10 +265,10 @@ pub new-cell : (elements : Elements) → list_any (same (cells.Elem (1 + length 
 new-cell elements =
     sym (is_some-lookup (same (cells.Elem (1 + length elements))) (numbered 1 elements))
     ∙ ap is_some (lookup-at 1 (length elements) (1 + length elements) elements refl
-    ∙ ap (option_map content_of) (slice_get_past elements (length elements) (omega arith)))
+    ∙ ap (option_map bare) (slice_get_past elements (length elements) (omega arith)))
 
-pub parts-next : (elements : Elements) (index : Option ℕ) → parts_of (with_next elements index) ≡ parts_of elements
-unfolding parts_of
+pub parts-next : (elements : Elements) (index : Option ℕ) → parts_in (with_next elements index) ≡ parts_in elements
+unfolding parts_in
 parts-next elements None = refl
 parts-next elements (Some index) = by (index == length elements)
   where
@@ -292,43 +278,50 @@ parts-next elements (Some index) = by (index == length elements)
     by false = refl
 
 -- the elements below have their places
-reaches : (elements : Elements) (index : ℕ) → HasPlaceBelow (places_of elements) (cells.Elem (suc index)) → index ≤ length elements
-reaches elements index below = by (nat_lt (length elements) index) refl
+stamp-within : (stamps : List ℕ) (index : ℕ) → is_some (slice_get stamps index) ≡ true → index < length stamps
+stamp-within [] index e = absurd (true≢false (sym e))
+stamp-within (s ∷ stamps) zero e = omega arith
+stamp-within (s ∷ stamps) (suc index) e = let h = stamp-within stamps index e in omega arith
+
+pub stamp-there : (stamps : List ℕ) (index : ℕ) → index < length stamps → is_some (slice_get stamps index) ≡ true
+stamp-there [] index h = absurd (omega arith)
+stamp-there (s ∷ stamps) zero h = refl
+stamp-there (s ∷ stamps) (suc index) h = stamp-there stamps index (omega arith)
+
+reaches : (stamps : List ℕ) (index : ℕ) → HasPlaceBelow (places_from 1 stamps) (cells.Elem (suc index)) → index ≤ length stamps
+reaches stamps index below = by (nat_lt (length stamps) index) refl
   where
-    by : (b : Bool) → nat_lt (length elements) index ≡ b → index ≤ length elements
+    by : (b : Bool) → nat_lt (length stamps) index ≡ b → index ≤ length stamps
     by true e =
         let h = ltb-true _ _ e in
-        let there = sym (contains-places elements (cells.Elem (suc (length elements))))
-        ∙ below.1 (suc (length elements)) (omega arith) (omega arith) in
-        let within = not-found elements (length elements) there in
+        let there = sym (contains-places stamps (cells.Elem (suc (length stamps))))
+        ∙ below.1 (suc (length stamps)) (omega arith) (omega arith) in
+        let within = stamp-within stamps (length stamps) there in
         absurd (omega arith)
     by false e = ltb-false _ _ e
 
-pub places-next : (elements : Elements) (cell : Cell) → HasPlaceBelow (places_of elements) cell
-    → places_of (with_next elements (index_of cell)) ≡ insert (places_of elements) cell
-unfolding places_of
-places-next elements (cells.Elem zero) below = absurd (omega (arith, below.0))
-places-next elements (cells.Elem (suc index)) below = by (index == length elements) refl
+pub places-next : (stamps : List ℕ) (cell : Cell) → HasPlaceBelow (places_from 1 stamps) cell
+    → places_from 1 (with_next_stamp stamps (index_of cell)) ≡ with_place (places_from 1 stamps) cell
+places-next stamps (cells.Elem zero) below = absurd (omega (arith, below.0))
+places-next stamps (cells.Elem (suc index)) below = by (index == length stamps) refl
   where
-    at : (n : ℕ) → index ≡ length elements → n ≡ 1 + length elements → cells.Elem n ≡ cells.Elem (suc index)
-    at n e is = ap cells.Elem (omega (arith, e, is))
-
-    by : (b : Bool) → (index == length elements) ≡ b
-        → slots.places_of (numbered 1 (cond b (elements ++ None ∷ []) elements))
-        ≡ insert (slots.places_of (numbered 1 elements)) (cells.Elem (suc index))
+    by : (b : Bool) → (index == length stamps) ≡ b
+        → places_from 1 (cond b (stamps ++ 0 ∷ []) stamps) ≡ with_place (places_from 1 stamps) (cells.Elem (suc index))
     by true e =
-        ap slots.places_of (numbered-push 1 elements None)
-        ∙ places_of-add (numbered 1 elements) (cells.Elem (1 + length elements)) Absent
-        ∙ ap (insert (slots.places_of (numbered 1 elements))) (at (1 + length elements) (eqb-true _ _ e) refl)
+        let is = eqb-true _ _ e in
+        let none : contains_key (places_from 1 stamps) (cells.Elem (suc index)) ≡ false =
+        contains-places stamps (cells.Elem (suc index)) ∙ ap is_some (slice_get_past stamps index (omega arith)) in
+        stamped.places-push stamps 0 ∙ (λ i. insert (places_from 1 stamps) (cells.Elem (suc (sym is i))) 0)
+        ∙ λ i. if sym none i then places_from 1 stamps else insert (places_from 1 stamps) (cells.Elem (suc index)) 0
     by false e =
-        let least = reaches elements index below in
+        let least = reaches stamps index below in
         let apart = eqb-false _ _ e in
-        let within : index < length elements = omega arith in
-        insert-places_of (numbered 1 elements) (cells.Elem (suc index))
-        (contains-places elements (cells.Elem (suc index)) ∙ is-found elements index within)
-places-next elements (cells.Prop n) below = absurd below
-places-next elements (cells.Key key) below = absurd below
-places-next elements cells.Default below = absurd below
+        let within : index < length stamps = omega arith in
+        sym (with_place-there (places_from 1 stamps) (cells.Elem (suc index))
+        (contains-places stamps (cells.Elem (suc index)) ∙ stamp-there stamps index within))
+places-next stamps (cells.Prop n) below = absurd below
+places-next stamps (cells.Key key) below = absurd below
+places-next stamps cells.Default below = absurd below
 
 pub counted-next : (elements : Elements) (present : ℕ) (index : Option ℕ) → AreCounted elements present
     → length (with_next elements index) < 2 ^ 32 → AreCounted (with_next elements index) present
@@ -341,3 +334,47 @@ counted-next elements present (Some index) counted few = record {
     by : (b : Bool) → count_by is_some (cond b (elements ++ None ∷ []) elements) ≡ count_by is_some elements
     by true = let more = sum_by-append (λ (element : Option Holder). cond (is_some element) 1 0) elements (None ∷ []) in omega (arith, more)
     by false = refl
+
+-- an element with another stamp, or another value
+pub values-set : (elements : List Element) (index t : ℕ) (e : Element) → index < length elements → e ≡ get_or elements index e
+    → values_of (slice_set elements index (record e { stamp = t })) ≡ values_of elements
+values-set [] index t e h is = absurd (omega arith)
+values-set (x ∷ elements) zero t e h is = λ i. (is i).value ∷ values_of elements
+values-set (x ∷ elements) (suc index) t e h is = ap (λ xs. x.value ∷ xs) (values-set elements index t e (omega arith) is)
+
+pub stamps-set : (elements : List Element) (index t : ℕ) (e : Element) → stamps_of (slice_set elements index (record e { stamp = t }))
+    ≡ slice_set (stamps_of elements) index t
+stamps-set [] index t e = refl
+stamps-set (x ∷ elements) zero t e = refl
+stamps-set (x ∷ elements) (suc index) t e = ap (λ xs. x.stamp ∷ xs) (stamps-set elements index t e)
+
+pub values-put : (elements : List Element) (index : ℕ) (o : Option Holder) (e : Element)
+    → values_of (slice_set elements index (record e { value = o })) ≡ slice_set (values_of elements) index o
+values-put [] index o e = refl
+values-put (x ∷ elements) zero o e = refl
+values-put (x ∷ elements) (suc index) o e = ap (λ xs. x.value ∷ xs) (values-put elements index o e)
+
+pub stamps-put : (elements : List Element) (index : ℕ) (o : Option Holder) (e : Element) → index < length elements → e ≡ get_or elements index e
+    → stamps_of (slice_set elements index (record e { value = o })) ≡ stamps_of elements
+stamps-put [] index o e h is = absurd (omega arith)
+stamps-put (x ∷ elements) zero o e h is = λ i. (is i).stamp ∷ stamps_of elements
+stamps-put (x ∷ elements) (suc index) o e h is = ap (λ xs. x.stamp ∷ xs) (stamps-put elements index o e (omega arith) is)
+
+pub value-at : (elements : List Element) (index : ℕ) (e : Element) → index < length elements → e ≡ get_or elements index e
+    → slice_get (values_of elements) index ≡ Some e.value
+value-at [] index e h is = absurd (omega arith)
+value-at (x ∷ elements) zero e h is = λ i. Some (sym is i).value
+value-at (x ∷ elements) (suc index) e h is = value-at elements index e (omega arith) is
+
+pub value-past : (elements : List Element) (index : ℕ) → length elements ≤ index → slice_get (values_of elements) index ≡ None
+value-past [] index h = refl
+value-past (x ∷ elements) zero h = absurd (omega arith)
+value-past (x ∷ elements) (suc index) h = value-past elements index (omega arith)
+
+pub places-restamped : (stamps : List ℕ) (cell : Cell) (t : ℕ) → is_some (stamp_in stamps (index_of cell)) ≡ true
+    → places_from 1 (restamped stamps (index_of cell) t) ≡ insert (places_from 1 stamps) cell t
+places-restamped stamps (cells.Elem zero) t there = absurd (true≢false (sym there))
+places-restamped stamps (cells.Elem (suc index)) t there = stamped.places-set stamps index t (stamp-within stamps index there)
+places-restamped stamps (cells.Prop n) t there = absurd (true≢false (sym there))
+places-restamped stamps (cells.Key key) t there = absurd (true≢false (sym there))
+places-restamped stamps cells.Default t there = absurd (true≢false (sym there))

@@ -1,2 +1,4 @@
+pub mod ElementStamps
 pub mod ElementLists
+pub mod ElementPurges
 pub mod Items

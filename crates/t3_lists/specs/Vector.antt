@@ -1,8 +1,7 @@
 -- Vectors: elements that have a place, each with its value or missing; as cells, and as a list of items.
 use Rattle.std.specs.Prelude.{◌≡◌, ℕ, suc, ◌<◌, Bool, true, false, List, [], ◌∷◌, map, Option, None, Some, IsTrue}
 use Rattle.std.specs.List.{filter_map}
-use Rattle.std.specs.FinMap.{entries}
-use Rattle.std.specs.FinSet as set
+use Rattle.std.specs.FinMap.{entries, empty, insert, contains_key}
 use Rattle.t3_holder.specs.declared.holder.Holder.{Holder}
 use Rattle.t3_undo.specs.Content.{Present, Parts, Places}
 use Rattle.t3_undo.specs.Slots as slots
@@ -10,24 +9,47 @@ use Rattle.t3_undo.specs.declared.cell.Cell.{Cell}
 use Rattle.t3_undo.specs.declared.cell.Cell.TheVariants as cells
 use Rattle.t3_undo.specs.declared.content.Content.{Content}
 use Rattle.t3_undo.specs.declared.content.Content.TheVariants as contents
+use Rattle.t3_undo.specs.declared.place.Place.{Place}
+use Rattle.t3_lists.specs.declared.elements.Element.{Element}
 
 -- what stands in the cell of an element
 abbrev pub content_of : Option Holder → Content
 content_of None = contents.Absent
 content_of (Some value) = contents.Held value
 
+-- a place with what an element says
+abbrev pub bare : Option Holder → Place
+bare element = slots.unstamped (content_of element)
+
 -- elements in their cells, the first under this number
-abbrev pub numbered : ℕ → List (Option Holder) → List (Cell × Content)
+abbrev pub numbered : ℕ → List (Option Holder) → List (Cell × Place)
 numbered number [] = []
-numbered number (element ∷ elements) = (cells.Elem number, content_of element) ∷ numbered (suc number) elements
+numbered number (element ∷ elements) = (cells.Elem number, bare element) ∷ numbered (suc number) elements
 
--- the present elements as cells, of which the first is number 1
-unfoldable pub parts_of : List (Option Holder) → Parts
-parts_of elements = slots.parts_of (numbered 1 elements)
+-- the present ones of these as cells, of which the first is number 1
+unfoldable pub parts_in : List (Option Holder) → Parts
+parts_in elements = slots.parts_of (numbered 1 elements)
 
--- the cells of all elements
-unfoldable pub places_of : List (Option Holder) → Places
-places_of elements = slots.places_of (numbered 1 elements)
+-- the values of a vector's elements
+abbrev pub values_of : List Element → List (Option Holder)
+values_of elements = map (λ element. element.value) elements
+
+-- and their stamps
+abbrev pub stamps_of : List Element → List ℕ
+stamps_of elements = map (λ element. element.stamp) elements
+
+-- the present elements as cells
+abbrev pub parts_of : List Element → Parts
+parts_of elements = parts_in (values_of elements)
+
+-- places of elements with these stamps, the first under this number
+unfoldable pub places_from : ℕ → List ℕ → Places
+places_from number [] = empty
+places_from number (stamp ∷ stamps) = insert (places_from (suc number) stamps) (cells.Elem number) stamp
+
+-- the places of all elements
+abbrev pub places_of : List Element → Places
+places_of elements = places_from 1 (stamps_of elements)
 
 -- the value of an element
 abbrev pub item_in : Cell → Present → Option Holder
@@ -42,7 +64,7 @@ items_of parts = filter_map (λ e. item_in e.0 e.1) (entries parts)
 
 -- the parts of a vector of these items
 abbrev pub filled : List Holder → Parts
-filled items = parts_of (map (λ item. Some item) items)
+filled items = parts_in (map (λ item. Some item) items)
 
 -- no element is missing below another: there are items of which these are the parts
 abbrev pub IsWhole : Parts → Type 0
@@ -58,7 +80,7 @@ is_element cells.Default = false
 -- the cell is an element, from number 1 on, and all lower elements have a place
 abbrev pub HasPlaceBelow : Places → Cell → Type 0
 HasPlaceBelow places (cells.Elem number) =
-    (0 < number) × ((lower : ℕ) → 0 < lower → lower < number → IsTrue (set.contains places (cells.Elem lower)))
+    (0 < number) × ((lower : ℕ) → 0 < lower → lower < number → IsTrue (contains_key places (cells.Elem lower)))
 HasPlaceBelow places (cells.Prop _) = ⊥
 HasPlaceBelow places (cells.Key _) = ⊥
 HasPlaceBelow places cells.Default = ⊥

@@ -54,11 +54,10 @@ impl List {
 
 impl Metaclass for List {
     ghost use Rattle.std.specs.FinMap as finite;
-    ghost use Rattle.std.specs.FinSet as set;
 
     ghost parts = { λ list. finite.empty };
 
-    ghost places = { λ list. set.empty };
+    ghost places = { λ list. finite.empty };
 
     ghost can_have = { λ list cell. ⊥ };
 
@@ -81,7 +80,25 @@ impl Metaclass for List {
         Ok(())
     }
 
+    fn stamp(&self, _cell: &Cell) -> u64 {
+        0
+    }
+
+    /// Changes nothing, since no cell has a place.
+    fn set_stamp(&mut self, _cell: &Cell, _stamp: u64)
+        ensures { self.new ≡ self.old }
+    {}
+
     fn places(&self) -> u64 {
         0
     }
+
+    fn present(&self) -> u64 {
+        0
+    }
+
+    /// Changes nothing, since no cell has a place.
+    fn purge(&mut self, _oldest: u64)
+        ensures { self.new ≡ self.old }
+    {}
 }

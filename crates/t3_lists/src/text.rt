@@ -52,11 +52,10 @@ impl Text {
 
 impl Metaclass for Text {
     ghost use Rattle.std.specs.FinMap as finite;
-    ghost use Rattle.std.specs.FinSet as set;
 
     ghost parts = { λ text. finite.empty };
 
-    ghost places = { λ text. set.empty };
+    ghost places = { λ text. finite.empty };
 
     ghost can_have = { λ text cell. ⊥ };
 
@@ -79,7 +78,25 @@ impl Metaclass for Text {
         Ok(())
     }
 
+    fn stamp(&self, _cell: &Cell) -> u64 {
+        0
+    }
+
+    /// Changes nothing, since no cell has a place.
+    fn set_stamp(&mut self, _cell: &Cell, _stamp: u64)
+        ensures { self.new ≡ self.old }
+    {}
+
     fn places(&self) -> u64 {
         0
     }
+
+    fn present(&self) -> u64 {
+        0
+    }
+
+    /// Changes nothing, since no cell has a place.
+    fn purge(&mut self, _oldest: u64)
+        ensures { self.new ≡ self.old }
+    {}
 }

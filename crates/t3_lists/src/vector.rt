@@ -1,36 +1,39 @@
 ghost use Rattle.std.specs.Prelude.{◌≡◌, List, [], IsTrue, IsSome, IfOk, OnOk, OnErr, length};
-ghost use Rattle.std.specs.FinMap.{get};
-ghost use Rattle.std.specs.FinSet as set;
+ghost use Rattle.std.specs.FinMap.{get, contains_key};
 ghost use Rattle.t3_holder.specs.declared.holder.Holder.{Holder};
 ghost use Rattle.t3_undo.specs.Content.{shown, is_form, places_for};
 ghost use Rattle.t3_undo.specs.Objects.{set_at};
 ghost use Rattle.t3_lists.specs.Vector.{parts_of, places_of, items_of, filled, is_element, IsWhole};
 
-use crate::elements::{add_missing, content_in, exchange, one_if_present, present_elements};
+use crate::elements::{
+    Element, add_missing, content_in, exchange, one_if_present, present_elements, purge, set_stamp,
+    stamp_at,
+};
 use std::alloc::Global;
 use std::marker::Model;
 use t3_holder::{Holder, NoMemory};
 use t3_undo::{Cell, Content, Metaclass};
 
 /// A vector: elements, numbered from 1, which can be set. Contracts see the elements that have a place,
-/// each with its value, or without one where it is missing.
+/// each with its stamp and its value, or without a value where it is missing.
 #[derive(Drop)]
 pub struct Vector {
-    elements: Vec<Option<Holder>>,
+    elements: Vec<Element>,
     present: u32,
 }
 
 impl Model for Vector {
-    ghost use Rattle.std.specs.Prelude.{List, Option};
-    ghost use Rattle.t3_holder.specs.declared.holder.Holder.{Holder};
+    ghost use Rattle.std.specs.Prelude.{List};
+    ghost use Rattle.t3_lists.specs.declared.elements.Element.{Element};
+    ghost use Rattle.t3_lists.specs.Vector.{values_of};
 
-    ghost Value = { List (Option Holder) };
+    ghost Value = { List Element };
 
     ghost view = { λ v. v.elements.items };
 
     ghost use Rattle.t3_lists.specs.Inner.Elements.{AreCounted};
 
-    ghost invariant = { λ v. AreCounted v.elements.items v.present };
+    ghost invariant = { λ v. AreCounted (values_of v.elements.items) v.present };
 }
 
 impl Vector {
@@ -44,8 +47,8 @@ impl Vector {
         }
     }
 
-    /// A vector like this one, with a place for each present element alone. No element may be missing below
-    /// another.
+    /// A vector like this one, with a place with stamp 0 for each present element alone. No element may be
+    /// missing below another.
     pub fn copy(&self, alloc: Global) -> Result<Vector, NoMemory>
         requires { IsWhole (parts_of self.now) }
         ensures parts { IfOk result (λ copy. parts_of copy ≡ parts_of self.now) }
@@ -81,7 +84,7 @@ impl Metaclass for Vector {
     }
 
     fn put(&mut self, cell: &Cell, content: Content) -> Content
-        requires place { IsTrue (set.contains (places_of self.old) cell.now) }
+        requires place { IsTrue (contains_key (places_of self.old) cell.now) }
         requires form { IsTrue (is_form cell.now (shown content)) }
         ensures parts { parts_of self.new ≡ set_at (parts_of self.old) cell.now (shown content) }
         ensures places { places_of self.new ≡ places_of self.old }
@@ -101,7 +104,23 @@ impl Metaclass for Vector {
         Ok(())
     }
 
+    fn stamp(&self, cell: &Cell) -> u64 {
+        stamp_at(&self.elements, cell)
+    }
+
+    fn set_stamp(&mut self, cell: &Cell, stamp: u64) {
+        set_stamp(&mut self.elements, cell, stamp);
+    }
+
     fn places(&self) -> u64 {
         self.elements.len() as u64
+    }
+
+    fn present(&self) -> u64 {
+        u64::from(self.present)
+    }
+
+    fn purge(&mut self, oldest: u64) {
+        purge(&mut self.elements, oldest);
     }
 }

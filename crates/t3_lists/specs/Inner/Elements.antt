@@ -1,5 +1,5 @@
 -- The elements of a vector by their indices.
-use Rattle.std.specs.Prelude.{◌≡◌, ℕ, zero, suc, ◌<◌, ◌^◌, ◌==◌, ◌++◌, if◌then◌else◌, List, [], ◌∷◌, Option, None, Some, count_by, is_some, length, slice_get, slice_set, option_map}
+use Rattle.std.specs.Prelude.{◌≡◌, Bool, ◌||◌, nat_le, ℕ, zero, suc, ◌<◌, ◌^◌, ◌==◌, ◌++◌, if◌then◌else◌, List, [], ◌∷◌, Option, None, Some, count_by, is_some, length, slice_get, slice_set, option_map}
 use Rattle.t3_holder.specs.declared.holder.Holder.{Holder}
 use Rattle.t3_undo.specs.Content.{shown}
 use Rattle.t3_undo.specs.declared.cell.Cell.{Cell}
@@ -7,6 +7,8 @@ use Rattle.t3_undo.specs.declared.cell.Cell.TheVariants as cells
 use Rattle.t3_undo.specs.declared.content.Content.{Content}
 use Rattle.t3_undo.specs.declared.content.Content.TheVariants as contents
 use Rattle.t3_lists.specs.Vector.{content_of}
+use Rattle.std.specs.List.{filter_map, list_any}
+use Rattle.t3_lists.specs.declared.elements.Element.{Element}
 
 -- the index of an element
 abbrev pub index_of : Cell → Option ℕ
@@ -43,3 +45,36 @@ pub record AreCounted (elements : List (Option Holder)) (present : ℕ) : Type 0
 abbrev pub with_next : List (Option Holder) → Option ℕ → List (Option Holder)
 with_next elements None = elements
 with_next elements (Some index) = if index == length elements then elements ++ None ∷ [] else elements
+
+-- the stamps, and one more where the index is the next one
+abbrev pub with_next_stamp : List ℕ → Option ℕ → List ℕ
+with_next_stamp stamps None = stamps
+with_next_stamp stamps (Some index) = if index == length stamps then stamps ++ 0 ∷ [] else stamps
+
+-- the stamp at an index
+abbrev pub stamp_in : List ℕ → Option ℕ → Option ℕ
+stamp_in stamps None = None
+stamp_in stamps (Some index) = slice_get stamps index
+
+-- the stamps with another at an index
+abbrev pub restamped : List ℕ → Option ℕ → ℕ → List ℕ
+restamped stamps None stamp = stamps
+restamped stamps (Some index) stamp = slice_set stamps index stamp
+
+-- an element that isn't missing, with stamp 0
+abbrev pub afresh : Element → Option Element
+afresh element = option_map (λ value. record { stamp = 0; value = Some value }) element.value
+
+-- the present elements alone, with stamp 0
+abbrev pub present_of : List Element → List Element
+present_of elements = filter_map afresh elements
+
+-- whether an element isn't missing, or its stamp isn't below this one
+abbrev pub is_needed : ℕ → Element → Bool
+is_needed oldest element = is_some element.value || nat_le oldest element.stamp
+
+-- the elements up to the last one that is needed
+abbrev pub purged : ℕ → List Element → List Element
+purged oldest [] = []
+purged oldest (element ∷ elements) =
+    if list_any (is_needed oldest) (element ∷ elements) then element ∷ purged oldest elements else []

@@ -1,7 +1,7 @@
-use Rattle.std.proofs.Common.{sym}
-use Rattle.std.specs.FinSet.{len-empty}
+use Rattle.std.proofs.Common.{sym, ℕ}
+use Rattle.std.specs.FinMap.{len-empty}
 use Rattle.t3_undo.specs.Cell.{cell_cmp}
 use Rattle.t3_lists.proofs.text.TextMetaclass.places.Goals as goal
 
 pub returns : goal.returns
-returns c = sym (len-empty cell_cmp)
+returns c = sym (len-empty cell_cmp ℕ)
