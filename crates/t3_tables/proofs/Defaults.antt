@@ -1,17 +1,15 @@
 -- Entries and a default as cells: what is found there, and what a change of one does. Other crates may use these.
-use Rattle.std.proofs.Common.{◌≡◌, ◌≢◌, ◌∙◌, ap, sym, subst, refl, ℕ, ◌+◌, ◌<◌, ◌≤◌, max, Bool, true, false, cond, ◌||◌, Option, None, Some, is_some, true≢false, ◌⊎◌, inl, inr, map, arith}
-use Rattle.std.specs.FinMap.{get, get-empty, empty, entries as all_entries}
-use Rattle.std.specs.FinSet as set
-use Rattle.std.specs.FinSet.{contains, contains-insert, contains-empty, len-insert, same_set}
+use Rattle.std.proofs.Common.{◌≡◌, ◌≢◌, ◌∙◌, ap, sym, subst, refl, ℕ, ◌+◌, ◌<◌, ◌≤◌, max, Bool, true, false, cond, if◌then◌else◌, Option, None, Some, is_some, true≢false, map, arith}
+use Rattle.std.specs.FinMap.{get, get-empty, get-insert, empty, insert, contains_key, len, len-insert, entries as all_entries}
 use Rattle.t3_holder.specs.declared.holder.Holder.{Holder}
 use Rattle.t3_undo.specs.Cell.{cell_cmp, cell_cmp_total, cell_cmp-IsAntisymmetric}
-use Rattle.t3_undo.specs.Content.{Present, Parts, Places, shown}
+use Rattle.t3_undo.specs.Content.{Present, Parts, Places, shown, with_place}
 use Rattle.t3_undo.specs.Objects.{set_at}
 use Rattle.t3_undo.specs.declared.cell.Cell.{Cell}
 use Rattle.t3_undo.specs.declared.cell.Cell.TheVariants as cells
 use Rattle.t3_undo.specs.declared.content.Content.TheVariants.{Held}
 use Rattle.t3_undo.proofs.Maps.{get-set_at, set_at-again, set_at-apart}
-use Rattle.t3_undo.proofs.SlotLists.{same, same-is}
+use Rattle.t3_undo.proofs.SlotLists.{same, same-is, with_place-there}
 use Rattle.t3_tables.specs.Table.{with_default, is_cell, above, tick_after, AreBelow, pair_of, entries_of}
 use Rattle.t3_tables.specs.Inner.Slots.{IsEntry}
 use Rattle.t3_tables.proofs.OrderedEntries.{ordered-Default}
@@ -26,14 +24,14 @@ get-other entries default cell apart =
     get-set_at cell_cmp_total entries cells.Default (shown (Held default)) cell
     ∙ ap (λ b. cond b (shown (Held default)) (get entries cell)) apart
 
--- and whether it has a place
-pub contains-default : (places : Places) → contains (set.insert places cells.Default) cells.Default ≡ true
-contains-default places = contains-insert cell_cmp_total places cells.Default cells.Default
+-- and the stamp of its place
+pub stamp-default : (places : Places) (stamp : ℕ) → get (insert places cells.Default stamp) cells.Default ≡ Some stamp
+stamp-default places stamp = get-insert cell_cmp_total places cells.Default stamp cells.Default
 
-pub contains-other : (places : Places) (cell : Cell) → same cell cells.Default ≡ false
-    → contains (set.insert places cells.Default) cell ≡ contains places cell
-contains-other places cell apart =
-    contains-insert cell_cmp_total places cells.Default cell ∙ ap (λ b. b || contains places cell) apart
+pub stamp-other : (places : Places) (stamp : ℕ) (cell : Cell) → same cell cells.Default ≡ false
+    → get (insert places cells.Default stamp) cell ≡ get places cell
+stamp-other places stamp cell apart =
+    get-insert cell_cmp_total places cells.Default stamp cell ∙ ap (λ b. cond b (Some stamp) (get places cell)) apart
 
 -- a cell that is set
 pub default-set : (entries : Parts) (default value : Holder)
@@ -46,41 +44,44 @@ pub other-set : (entries : Parts) (default : Holder) (cell : Cell) (o : Option P
 other-set entries default cell o apart =
     set_at-apart cell_cmp_total cell_cmp-IsAntisymmetric entries cell cells.Default o (shown (Held default)) apart
 
+-- a stamp that is given
+pub stamp-set : (places : Places) (old new : ℕ)
+    → insert places cells.Default new ≡ insert (insert places cells.Default old) cells.Default new
+unfolding set_at
+stamp-set places old new = sym (set_at-again cell_cmp_total cell_cmp-IsAntisymmetric places cells.Default (Some old) (Some new))
+
+pub stamp-set_other : (places : Places) (stamp : ℕ) (cell : Cell) (new : ℕ) → same cell cells.Default ≡ false
+    → insert (insert places cell new) cells.Default stamp ≡ insert (insert places cells.Default stamp) cell new
+unfolding set_at
+stamp-set_other places stamp cell new apart =
+    set_at-apart cell_cmp_total cell_cmp-IsAntisymmetric places cell cells.Default (Some new) (Some stamp) apart
+
 -- a place that is made
-or-again : (a b : Bool) → (a || b) ≡ (a || (a || b))
-or-again true b = refl
-or-again false b = refl
+pub place-default : (places : Places) (stamp : ℕ)
+    → insert places cells.Default stamp ≡ with_place (insert places cells.Default stamp) cells.Default
+place-default places stamp =
+    sym (with_place-there (insert places cells.Default stamp) cells.Default (ap is_some (stamp-default places stamp)))
 
-or-swap : (a b c : Bool) → (a || (b || c)) ≡ (b || (a || c))
-or-swap true true c = refl
-or-swap true false c = refl
-or-swap false b c = refl
-
-pub insert-default : (places : Places) → set.insert places cells.Default ≡ set.insert (set.insert places cells.Default) cells.Default
-insert-default places =
-    same_set cell_cmp_total cell_cmp-IsAntisymmetric _ _ (λ q.
-    contains-insert cell_cmp_total places cells.Default q ∙ or-again (same q cells.Default) (contains places q)
-    ∙ ap (λ b. same q cells.Default || b) (sym (contains-insert cell_cmp_total places cells.Default q))
-    ∙ sym (contains-insert cell_cmp_total (set.insert places cells.Default) cells.Default q))
-
-pub insert-other : (places : Places) (cell : Cell)
-    → set.insert (set.insert places cell) cells.Default ≡ set.insert (set.insert places cells.Default) cell
-insert-other places cell =
-    same_set cell_cmp_total cell_cmp-IsAntisymmetric _ _ (λ q.
-    contains-insert cell_cmp_total (set.insert places cell) cells.Default q
-    ∙ ap (λ b. same q cells.Default || b) (contains-insert cell_cmp_total places cell q)
-    ∙ or-swap (same q cells.Default) (same q cell) (contains places q)
-    ∙ ap (λ b. same q cell || b) (sym (contains-insert cell_cmp_total places cells.Default q))
-    ∙ sym (contains-insert cell_cmp_total (set.insert places cells.Default) cell q))
-
--- how many places there are, where only entries have some
-pub len-default : (places : Places) → ((cell : Cell) → contains places cell ≡ true → IsEntry cell)
-    → set.len (set.insert places cells.Default) ≡ set.len places + 1
-len-default places only = by (contains places cells.Default) refl
+pub place-other : (places : Places) (stamp : ℕ) (cell : Cell) → same cell cells.Default ≡ false
+    → insert (with_place places cell) cells.Default stamp ≡ with_place (insert places cells.Default stamp) cell
+place-other places stamp cell apart =
+    by (contains_key places cell)
+    ∙ ap (λ b. if b then insert places cells.Default stamp else insert (insert places cells.Default stamp) cell 0)
+    (ap is_some (sym (stamp-other places stamp cell apart)))
   where
-    by : (b : Bool) → contains places cells.Default ≡ b → set.len (set.insert places cells.Default) ≡ set.len places + 1
+    by : (b : Bool) → insert (if b then places else insert places cell 0) cells.Default stamp
+        ≡ if b then insert places cells.Default stamp else insert (insert places cells.Default stamp) cell 0
+    by true = refl
+    by false = stamp-set_other places stamp cell 0 apart
+
+-- how many places there are, where only entries have some, and how many cells are present
+pub len-default : (places : Places) (stamp : ℕ) → ((cell : Cell) → contains_key places cell ≡ true → IsEntry cell)
+    → len (insert places cells.Default stamp) ≡ len places + 1
+len-default places stamp only = by (contains_key places cells.Default) refl
+  where
+    by : (b : Bool) → contains_key places cells.Default ≡ b → len (insert places cells.Default stamp) ≡ len places + 1
     by true e = absurd (only cells.Default e)
-    by false e = len-insert cell_cmp_total places cells.Default ∙ ap (λ b. cond b (set.len places) (set.len places + 1)) e
+    by false e = len-insert cell_cmp_total places cells.Default stamp ∙ ap (λ b. cond b (len places) (len places + 1)) e
 
 -- the entries don't have the default's row
 pub entries-default : (entries : Parts) (default : Holder) → entries_of (with_default entries default) ≡ entries_of entries
@@ -141,22 +142,25 @@ tick-below next entries cell (Some present) below is = by present.tick refl
 pub below-empty : (next : ℕ) → AreBelow next (empty {R = cell_cmp})
 below-empty next cell present tick stands is = absurd (true≢false (ap is_some (sym stands ∙ get-empty cell_cmp cell)))
 
--- only entries have a place, in a new table, and with a place more
-pub only-empty : (cell : Cell) → contains (set.empty {R = cell_cmp}) cell ≡ true → IsEntry cell
-only-empty cell placed = absurd (true≢false (sym placed ∙ contains-empty cell_cmp cell))
+-- only entries have a place, in a new table, with a place more and with another stamp
+pub only-empty : (cell : Cell) → contains_key (empty {X = ℕ} {R = cell_cmp}) cell ≡ true → IsEntry cell
+only-empty cell placed = absurd (true≢false (sym placed ∙ ap is_some (get-empty cell_cmp cell)))
 
-or-true : (a b : Bool) → (a || b) ≡ true → (a ≡ true) ⊎ (b ≡ true)
-or-true true b e = inl refl
-or-true false b e = inr e
+module _ (places : Places) (new : Cell) (only : (cell : Cell) → contains_key places cell ≡ true → IsEntry cell) (is : IsEntry new) where
+  pub only-insert : (stamp : ℕ) (cell : Cell) → contains_key (insert places new stamp) cell ≡ true → IsEntry cell
+  only-insert stamp cell placed =
+      by (same cell new) refl (sym (ap is_some (get-insert cell_cmp_total places new stamp cell)) ∙ placed)
+    where
+      by : (b : Bool) → same cell new ≡ b → is_some (cond b (Some stamp) (get places cell)) ≡ true → IsEntry cell
+      by true e placed = subst IsEntry (sym (same-is cell new e)) is
+      by false e placed = only cell placed
 
-pub only-insert : (places : Places) (new : Cell) → ((cell : Cell) → contains places cell ≡ true → IsEntry cell) → IsEntry new
-    → (cell : Cell) → contains (set.insert places new) cell ≡ true → IsEntry cell
-only-insert places new only is cell placed =
-    by (or-true (same cell new) (contains places cell) (sym (contains-insert cell_cmp_total places new cell) ∙ placed))
-  where
-    by : ((same cell new ≡ true) ⊎ (contains places cell ≡ true)) → IsEntry cell
-    by (inl e) = subst IsEntry (sym (same-is cell new e)) is
-    by (inr e) = only cell e
+  pub only-with_place : (cell : Cell) → contains_key (with_place places new) cell ≡ true → IsEntry cell
+  only-with_place cell = by (contains_key places new)
+    where
+      by : (b : Bool) → contains_key (if b then places else insert places new 0) cell ≡ true → IsEntry cell
+      by true placed = only cell placed
+      by false placed = only-insert 0 cell placed
 
 -- a cell that isn't the default's
 pub apart-default : (cell : Cell) → cell ≢ cells.Default → same cell cells.Default ≡ false
@@ -165,6 +169,11 @@ apart-default cell other = by (same cell cells.Default) refl
     by : (b : Bool) → same cell cells.Default ≡ b → b ≡ false
     by true e = absurd (other (same-is cell cells.Default e))
     by false e = refl
+
+-- its place is one of the entries'
+pub placed-other : (places : Places) (stamp : ℕ) (cell : Cell) → cell ≢ cells.Default
+    → contains_key (insert places cells.Default stamp) cell ≡ true → contains_key places cell ≡ true
+placed-other places stamp cell other placed = ap is_some (sym (stamp-other places stamp cell (apart-default cell other))) ∙ placed
 
 pub entry-cell : (cell : Cell) → IsEntry cell → is_cell cell ≡ true
 entry-cell (cells.Key key) is = refl
@@ -177,3 +186,10 @@ cell-entry (cells.Key key) is other = tt
 cell-entry cells.Default is other = other refl
 cell-entry (cells.Prop n) is other = absurd (true≢false (sym is))
 cell-entry (cells.Elem n) is other = absurd (true≢false (sym is))
+
+-- how many cells are present
+pub present-default : (entries : Parts) (default : Holder) → get entries cells.Default ≡ None
+    → len (with_default entries default) ≡ len entries + 1
+unfolding set_at
+present-default entries default none =
+    len-insert cell_cmp_total entries cells.Default _ ∙ ap (λ o. cond (is_some o) (len entries) (len entries + 1)) none

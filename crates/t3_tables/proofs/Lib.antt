@@ -3,3 +3,4 @@ pub mod NumberedSlots
 pub mod Defaults
 pub mod TableLists
 pub mod EntryOrder
+pub mod TablePurges

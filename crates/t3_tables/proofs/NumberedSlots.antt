@@ -7,31 +7,31 @@ use Rattle.t3_undo.specs.Cell.{cell_cmp_total}
 use Rattle.t3_undo.specs.declared.key.Key.{Key}
 use Rattle.t3_undo.specs.declared.cell.Cell.{Cell}
 use Rattle.t3_undo.specs.declared.cell.Cell.TheVariants as cells
-use Rattle.t3_undo.specs.declared.content.Content.{Content}
+use Rattle.t3_undo.specs.declared.place.Place.{Place}
 use Rattle.t3_undo.proofs.SlotLists.{same}
 use Rattle.t3_tables.specs.declared.pair.Pair.{Pair}
 use Rattle.t3_tables.specs.Table.{numbered}
 use Rattle.t3_tables.proofs.OrderedEntries.{same_key}
 
 -- none of the cells before one of distinct cells is the same
-new-among : (slots : List (Cell × Content)) (cell : Cell) (content : Content) (rest : List (Cell × Content))
-    → IsDistinct same (keys_of (slots ++ (cell, content) ∷ rest)) → list_any (same cell) (keys_of slots) ≡ false
+new-among : (slots : List (Cell × Place)) (cell : Cell) (place : Place) (rest : List (Cell × Place))
+    → IsDistinct same (keys_of (slots ++ (cell, place) ∷ rest)) → list_any (same cell) (keys_of slots) ≡ false
 unfolding IsDistinct
-new-among [] cell content rest apart = refl
-new-among (slot ∷ slots) cell content rest apart =
+new-among [] cell place rest apart = refl
+new-among (slot ∷ slots) cell place rest apart =
     ap (λ b. b || list_any (same cell) (keys_of slots)) ((eq_by_cmp_equiv cell_cmp_total).symm cell slot.0 ∙ reach slots apart.0)
-    ∙ new-among slots cell content rest apart.1
+    ∙ new-among slots cell place rest apart.1
   where
-    reach : (slots : List (Cell × Content)) → AllByRecursion (λ c. same slot.0 c ≡ false) (keys_of (slots ++ (cell, content) ∷ rest))
+    reach : (slots : List (Cell × Place)) → AllByRecursion (λ c. same slot.0 c ≡ false) (keys_of (slots ++ (cell, place) ∷ rest))
         → same slot.0 cell ≡ false
     reach [] all = all.0
     reach (s ∷ slots) all = reach slots all.1
 
-pub new-next : (slots all : List (Cell × Content)) (cell : Cell) (content : Content) (rest : List (Cell × Content))
-    → slots ++ (cell, content) ∷ rest ≡ all → IsDistinct same (keys_of all) → list_any (same cell) (keys_of slots) ≡ false
-new-next slots all cell content rest e apart =
-    let P : List (Cell × Content) → Type 0 = λ s. IsDistinct same (keys_of s) in
-    new-among slots cell content rest (subst P (sym e) apart)
+pub new-next : (slots all : List (Cell × Place)) (cell : Cell) (place : Place) (rest : List (Cell × Place))
+    → slots ++ (cell, place) ∷ rest ≡ all → IsDistinct same (keys_of all) → list_any (same cell) (keys_of slots) ≡ false
+new-next slots all cell place rest e apart =
+    let P : List (Cell × Place) → Type 0 = λ s. IsDistinct same (keys_of s) in
+    new-among slots cell place rest (subst P (sym e) apart)
 
 apart-numbered : (tick : ℕ) (key : Key) (pairs : List Pair) → AllByRecursion (λ l. same_key key l ≡ false) (map (λ pair. pair.key) pairs)
     → AllByRecursion (λ cell. same (cells.Key key) cell ≡ false) (keys_of (numbered tick pairs))

@@ -6,51 +6,80 @@ use Rattle.std.specs.declared.cmp.Ordering.TheVariants.{Less, Equal, Greater}
 use Rattle.std.specs.Cmp.{nat_cmp_is, Equal-is, eq_by_cmp_equiv}
 use Rattle.std.specs.List.{AllByRecursion, IsDistinct, list_any}
 use Rattle.std.specs.Map.{keys_of, lookup}
-use Rattle.std.specs.FinMap.{get, entries, entries_sorted, put, keys, contains_key-keys, entries-insert, get-entries, nat_cmp-IsAntisymmetric}
+use Rattle.std.specs.FinMap.{get, insert, contains_key, entries, entries_sorted, put, get-insert, entries-insert, get-entries, same_map, nat_cmp-IsAntisymmetric}
 use Rattle.std.specs.FinMap.Entries.{by_order, below_all, is_sorted}
-use Rattle.std.specs.FinSet as set
-use Rattle.std.specs.FinSet.{contains, contains-insert, contains-from_list, same_set}
 use Rattle.t3_holder.specs.declared.holder.Holder.{Holder}
 use Rattle.t3_undo.specs.Cell.{cell_cmp_total, cell_cmp-IsAntisymmetric}
-use Rattle.t3_undo.specs.Content.{Present, Parts, shown, places_for}
+use Rattle.t3_undo.specs.Content.{Present, Parts, shown, with_place, places_for}
 use Rattle.t3_undo.specs.Key.{key_cmp, key_cmp-IsAntisymmetric}
 use Rattle.t3_undo.specs.Objects.{set_at}
-use Rattle.t3_undo.specs.Slots.{parts_of, places_of}
+use Rattle.t3_undo.specs.Slots.{parts_of, places_of, unstamped}
 use Rattle.t3_undo.specs.declared.key.Key.{Key}
 use Rattle.t3_undo.specs.declared.cell.Cell.{Cell}
 use Rattle.t3_undo.specs.declared.cell.Cell.TheVariants as cells
-use Rattle.t3_undo.specs.declared.content.Content.{Content}
 use Rattle.t3_undo.specs.declared.content.Content.TheVariants.{Held, Slot}
+use Rattle.t3_undo.specs.declared.place.Place.{Place as SlotPlace}
 use Rattle.t3_undo.proofs.Maps.{get-set_at}
-use Rattle.t3_undo.proofs.SlotLists.{same, same-is, seen, get-parts_of, contains-places_of, lookup-none}
+use Rattle.t3_undo.proofs.SlotLists.{same, same-is, seen, stamped, zero_if, get-parts_of, get-places_of, get-places_for, contains-places_of, lookup-none}
 use Rattle.t3_tables.specs.declared.pair.Pair.{Pair}
-use Rattle.t3_tables.specs.Table.{tick_after, place_cmp, ordered, pair_of, entries_of, with_default, numbered, filled}
+use Rattle.t3_tables.specs.Table.{AreBelow, tick_after, place_cmp, ordered, pair_of, entries_of, with_default, numbered, filled}
 use Rattle.t3_tables.specs.Inner.Slots.{IsEntry, IsTable}
 use Rattle.t3_tables.proofs.OrderedEntries.{Place, place_cmp_total, same_key, value_at, at_tick, get-ordered, ordered-new, all-found, no-entries, first, second}
 use Rattle.t3_tables.proofs.NumberedSlots.{distinct-numbered}
-use Rattle.t3_tables.proofs.Defaults.{only-empty, only-insert, below-empty, below-set, entries-default}
+use Rattle.t3_tables.proofs.Defaults.{only-empty, only-insert, only-with_place, below-empty, below-set, entries-default}
+
+some-of : {X : Type 0} (o : Option X) → is_some o ≡ true → (x : X) × (o ≡ Some x)
+some-of None e = absurd (true≢false (sym e))
+some-of (Some x) e = (x, refl)
 
 -- a new table
 pub table-new : IsTable [] 1
-unfolding parts_of
+unfolding parts_of places_of
 table-new = record { only = only-empty; below = below-empty 1 }
 
--- a place more, and a cell that is set
-pub table-place : (old new : List (Cell × Content)) (cell : Cell) (next : ℕ) → IsTable old next → IsEntry cell
-    → parts_of new ≡ parts_of old → places_of new ≡ set.insert (places_of old) cell → IsTable new next
-table-place old new cell next table is parts places = record {
-  only = λ q placed. only-insert (places_of old) cell table.only is q (sym (ap (λ p. contains p q) places) ∙ placed);
-  below = λ q present tick stands. table.below q present tick (sym (ap (λ p. get p q) parts) ∙ stands);
-}
+-- a place more, a cell that is set, another stamp, and places that go
+module _ (old new : List (Cell × SlotPlace)) (next : ℕ) (table : IsTable old next) where
+  alike : parts_of new ≡ parts_of old → AreBelow next (parts_of new)
+  alike parts q present tick stands = table.below q present tick (sym (ap (λ p. get p q) parts) ∙ stands)
 
-pub table-put : (old new : List (Cell × Content)) (cell : Cell) (o : Option Present) (next after : ℕ) → IsTable old next
-    → parts_of new ≡ set_at (parts_of old) cell o → places_of new ≡ places_of old → after ≡ tick_after next o → IsTable new after
-table-put old new cell o next after table parts places is = record {
-  only = λ q placed. table.only q (sym (ap (λ p. contains p q) places) ∙ placed);
-  below = λ q present tick stands ticks.
-      subst (λ n. tick < n) (sym is)
-      (below-set next (parts_of old) cell o table.below q present tick (sym (ap (λ p. get p q) parts) ∙ stands) ticks);
-}
+  pub table-place : (cell : Cell) → IsEntry cell → parts_of new ≡ parts_of old → places_of new ≡ with_place (places_of old) cell
+      → IsTable new next
+  table-place cell is parts places = record {
+    only = λ q placed. only-with_place (places_of old) cell table.only is q (sym (ap (λ p. contains_key p q) places) ∙ placed);
+    below = alike parts;
+  }
+
+  pub table-put : (cell : Cell) (o : Option Present) (after : ℕ) → parts_of new ≡ set_at (parts_of old) cell o
+      → places_of new ≡ places_of old → after ≡ tick_after next o → IsTable new after
+  table-put cell o after parts places is = record {
+    only = λ q placed. table.only q (sym (ap (λ p. contains_key p q) places) ∙ placed);
+    below = λ q present tick stands ticks.
+        subst (λ n. tick < n) (sym is)
+        (below-set next (parts_of old) cell o table.below q present tick (sym (ap (λ p. get p q) parts) ∙ stands) ticks);
+  }
+
+  pub table-stamp : (cell : Cell) (stamp : ℕ) → contains_key (places_of old) cell ≡ true → parts_of new ≡ parts_of old
+      → places_of new ≡ insert (places_of old) cell stamp → IsTable new next
+  table-stamp cell stamp placed parts places = record {
+    only = λ q there.
+        only-insert (places_of old) cell table.only (table.only cell placed) stamp q (sym (ap (λ p. contains_key p q) places) ∙ there);
+    below = alike parts;
+  }
+
+  pub table-purge : parts_of new ≡ parts_of old
+      → ((cell : Cell) (stamp : ℕ) → get (places_of new) cell ≡ Some stamp → get (places_of old) cell ≡ Some stamp) → IsTable new next
+  table-purge parts fewer = record {
+    only = λ q placed. let stamp = some-of (get (places_of new) q) placed in table.only q (ap is_some (fewer q stamp.0 stamp.1));
+    below = alike parts;
+  }
+
+-- the default is none of the entries
+pub absent-default : (slots : List (Cell × SlotPlace)) (next : ℕ) → IsTable slots next → get (parts_of slots) cells.Default ≡ None
+absent-default slots next table = by (lookup (same cells.Default) slots) refl
+  where
+    by : (o : Option SlotPlace) → lookup (same cells.Default) slots ≡ o → get (parts_of slots) cells.Default ≡ None
+    by None e = get-parts_of slots cells.Default ∙ ap seen e
+    by (Some place) e = absurd (table.only cells.Default (contains-places_of slots cells.Default ∙ ap is_some e))
 
 -- the keys of the entries are distinct
 tick_of : Option Present → Option ℕ
@@ -163,47 +192,43 @@ entries-filled default pairs apart =
     ∙ pairs-timed 1 pairs
 
 -- what is found among numbered slots
-abbrev IsBelow : ℕ → Content → Type 0
-IsBelow limit content = (present : Present) (t : ℕ) → shown content ≡ Some present → present.tick ≡ Some t → t < limit
+abbrev IsBelow : ℕ → SlotPlace → Type 0
+IsBelow limit place = (present : Present) (t : ℕ) → shown place.content ≡ Some present → present.tick ≡ Some t → t < limit
 
-found-numbered : (tick : ℕ) (pairs : List Pair) (cell : Cell) (content : Content)
-    → lookup (same cell) (numbered tick pairs) ≡ Some content → IsEntry cell × IsBelow (tick + length pairs) content
-found-numbered tick [] cell content e = cc
-found-numbered tick (pair ∷ pairs) cell content e =
-    by (found-numbered (suc tick) pairs cell content) (same cell (cells.Key pair.key)) refl e
+found-numbered : (tick : ℕ) (pairs : List Pair) (cell : Cell) (place : SlotPlace)
+    → lookup (same cell) (numbered tick pairs) ≡ Some place → IsEntry cell × IsBelow (tick + length pairs) place
+found-numbered tick [] cell place e = cc
+found-numbered tick (pair ∷ pairs) cell place e =
+    by (found-numbered (suc tick) pairs cell place) (same cell (cells.Key pair.key)) refl e
   where
-    by : (lookup (same cell) (numbered (suc tick) pairs) ≡ Some content → IsEntry cell × IsBelow (suc tick + length pairs) content)
+    by : (lookup (same cell) (numbered (suc tick) pairs) ≡ Some place → IsEntry cell × IsBelow (suc tick + length pairs) place)
         → (b : Bool) → same cell (cells.Key pair.key) ≡ b
-        → cond b (Some (Slot tick pair.value)) (lookup (same cell) (numbered (suc tick) pairs)) ≡ Some content
-        → IsEntry cell × IsBelow (tick + suc (length pairs)) content
+        → cond b (Some (unstamped (Slot tick pair.value))) (lookup (same cell) (numbered (suc tick) pairs)) ≡ Some place
+        → IsEntry cell × IsBelow (tick + suc (length pairs)) place
     by rest true is e =
-        let slot : Slot tick pair.value ≡ content = cc in (
+        let slot : unstamped (Slot tick pair.value) ≡ place = cc in (
           subst IsEntry (sym (same-is cell (cells.Key pair.key) is)) tt,
           λ present t shows ticks.
-              let same_tick : t ≡ tick = cc (ap shown slot) in omega (arith, same_tick),
+              let same_tick : t ≡ tick = cc (ap (λ p. shown p.content) slot) in omega (arith, same_tick),
         )
     by rest false is e = let r = rest e in (r.0, λ present t shows ticks. let h = r.1 present t shows ticks in omega (arith, h))
 
-shows-numbered : (tick : ℕ) (pairs : List Pair) (cell : Cell) → is_some (lookup (same cell) (numbered tick pairs))
-    ≡ is_some (seen (lookup (same cell) (numbered tick pairs)))
-shows-numbered tick [] cell = refl
-shows-numbered tick (pair ∷ pairs) cell = by (same cell (cells.Key pair.key)) (shows-numbered (suc tick) pairs cell)
+stamps-numbered : (tick : ℕ) (pairs : List Pair) (cell : Cell) → stamped (lookup (same cell) (numbered tick pairs))
+    ≡ zero_if (is_some (seen (lookup (same cell) (numbered tick pairs))))
+stamps-numbered tick [] cell = refl
+stamps-numbered tick (pair ∷ pairs) cell = by (same cell (cells.Key pair.key)) (stamps-numbered (suc tick) pairs cell)
   where
-    by : (b : Bool) → is_some (lookup (same cell) (numbered (suc tick) pairs))
-        ≡ is_some (seen (lookup (same cell) (numbered (suc tick) pairs)))
-        → is_some (cond b (Some (Slot tick pair.value)) (lookup (same cell) (numbered (suc tick) pairs)))
-        ≡ is_some (seen (cond b (Some (Slot tick pair.value)) (lookup (same cell) (numbered (suc tick) pairs))))
+    by : (b : Bool) → stamped (lookup (same cell) (numbered (suc tick) pairs))
+        ≡ zero_if (is_some (seen (lookup (same cell) (numbered (suc tick) pairs))))
+        → stamped (cond b (Some (unstamped (Slot tick pair.value))) (lookup (same cell) (numbered (suc tick) pairs)))
+        ≡ zero_if (is_some (seen (cond b (Some (unstamped (Slot tick pair.value))) (lookup (same cell) (numbered (suc tick) pairs)))))
     by true rest = refl
     by false rest = rest
 
-some-of : {X : Type 0} (o : Option X) → is_some o ≡ true → (x : X) × (o ≡ Some x)
-some-of None e = absurd (true≢false (sym e))
-some-of (Some x) e = (x, refl)
-
-seen-some : (o : Option Content) (present : Present) → seen o ≡ Some present
-    → (content : Content) × ((o ≡ Some content) × (shown content ≡ Some present))
+seen-some : (o : Option SlotPlace) (present : Present) → seen o ≡ Some present
+    → (place : SlotPlace) × ((o ≡ Some place) × (shown place.content ≡ Some present))
 seen-some None present e = cc
-seen-some (Some content) present e = (content, (refl, e))
+seen-some (Some place) present e = (place, (refl, e))
 
 pub table-numbered : (pairs : List Pair) → IsTable (numbered 1 pairs) (length pairs + 1)
 table-numbered pairs = record {
@@ -216,20 +241,19 @@ table-numbered pairs = record {
       omega (arith, h);
 }
 
--- a place for each present cell alone
+-- a place with stamp 0 for each present cell alone
 pub places-filled : (default : Holder) (pairs : List Pair)
-    → set.insert (places_of (numbered 1 pairs)) cells.Default ≡ places_for (filled default pairs)
+    → insert (places_of (numbered 1 pairs)) cells.Default 0 ≡ places_for (filled default pairs)
 places-filled default pairs =
-    same_set cell_cmp_total cell_cmp-IsAntisymmetric _ _ (λ q.
-    contains-insert cell_cmp_total (places_of (numbered 1 pairs)) cells.Default q
-    ∙ ap (λ b. same q cells.Default || b) (contains-places_of (numbered 1 pairs) q ∙ shows-numbered 1 pairs q
-    ∙ ap is_some (sym (get-parts_of (numbered 1 pairs) q)))
+    same_map cell_cmp_total cell_cmp-IsAntisymmetric _ _ (λ q.
+    get-insert cell_cmp_total (places_of (numbered 1 pairs)) cells.Default 0 q
+    ∙ ap (cond (same q cells.Default) (Some 0)) (get-places_of (numbered 1 pairs) q ∙ stamps-numbered 1 pairs q
+    ∙ ap (λ o. zero_if (is_some o)) (sym (get-parts_of (numbered 1 pairs) q)))
     ∙ by (same q cells.Default) (get (parts_of (numbered 1 pairs)) q)
-    ∙ ap is_some (sym (get-set_at cell_cmp_total (parts_of (numbered 1 pairs)) cells.Default (shown (Held default)) q))
-    ∙ contains_key-keys (filled default pairs) q
-    ∙ sym (contains-from_list cell_cmp_total (keys (filled default pairs)) q))
+    ∙ ap (λ o. zero_if (is_some o)) (sym (get-set_at cell_cmp_total (parts_of (numbered 1 pairs)) cells.Default (shown (Held default)) q))
+    ∙ sym (get-places_for (filled default pairs) q))
   where
-    by : (b : Bool) (o : Option Present) → (b || is_some o) ≡ is_some (cond b (shown (Held default)) o)
+    by : (b : Bool) (o : Option Present) → cond b (Some 0) (zero_if (is_some o)) ≡ zero_if (is_some (cond b (shown (Held default)) o))
     by true o = refl
     by false o = refl
 

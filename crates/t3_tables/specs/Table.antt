@@ -4,9 +4,8 @@ use Rattle.std.specs.List.{filter_map}
 use Rattle.std.specs.Option.{option_map}
 use Rattle.std.specs.Ordering.{nat_cmp, ordering_then}
 use Rattle.std.specs.declared.cmp.Ordering.{Ordering}
-use Rattle.std.specs.FinMap.{FinMap, get, entries, from_entries}
+use Rattle.std.specs.FinMap.{FinMap, get, insert, entries, from_entries}
 use Rattle.std.specs.FinMap as finite
-use Rattle.std.specs.FinSet as set
 use Rattle.std.specs.Coded.{Coded, code_by, coded×, coded_ℕ}
 use Rattle.t3_holder.specs.declared.holder.Holder.{Holder}
 use Rattle.t3_holder.specs.declared.holder.Holder.TheVariants as holders
@@ -14,29 +13,33 @@ use Rattle.t3_undo.specs.Content.{Present, Parts, Places, shown, coded_parts, co
 use Rattle.t3_undo.specs.Key.{key_cmp}
 use Rattle.t3_undo.specs.Objects.{set_at}
 use Rattle.t3_undo.specs.Slots as slots
+use Rattle.t3_undo.specs.Slots.{unstamped}
 use Rattle.t3_undo.specs.declared.key.Key.{Key}
 use Rattle.t3_undo.specs.declared.cell.Cell.{Cell}
 use Rattle.t3_undo.specs.declared.cell.Cell.TheVariants as cells
-use Rattle.t3_undo.specs.declared.content.Content.{Content}
 use Rattle.t3_undo.specs.declared.content.Content.TheVariants as contents
+use Rattle.t3_undo.specs.declared.place.Place.{Place}
 use Rattle.t3_tables.specs.declared.pair.Pair.{Pair}
 
--- a table: its present entries, the cells of entries that have a place, its default, and a tick above those of its entries
+-- a table: its present entries, the places of entries, its default with the stamp of that one's place, and a tick above
+-- those of its entries
 pub record TableValue : Type 0 where
   pub entries : Parts
   pub places : Places
   pub default : Holder
+  pub default_stamp : ℕ
   pub next_tick : ℕ
 
 abbrev pub coded_table : Coded TableValue
 coded_table =
-    code_by (Parts × (Places × (Holder × ℕ))) (coded× coded_parts (coded× coded_places (coded× coded_holder coded_ℕ)))
-    (λ t. (t.entries, (t.places, (t.default, t.next_tick))))
-    (λ c. record { entries = c.0; places = c.1.0; default = c.1.1.0; next_tick = c.1.1.1 }) (λ _. refl)
+    code_by (Parts × (Places × (Holder × (ℕ × ℕ))))
+    (coded× coded_parts (coded× coded_places (coded× coded_holder (coded× coded_ℕ coded_ℕ))))
+    (λ t. (t.entries, (t.places, (t.default, (t.default_stamp, t.next_tick)))))
+    (λ c. record { entries = c.0; places = c.1.0; default = c.1.1.0; default_stamp = c.1.1.1.0; next_tick = c.1.1.1.1 }) (λ _. refl)
 
 -- a table without entries, whose default is nil
 abbrev pub new_table : TableValue
-new_table = record { entries = finite.empty; places = set.empty; default = holders.Nil; next_tick = 1 }
+new_table = record { entries = finite.empty; places = finite.empty; default = holders.Nil; default_stamp = 0; next_tick = 1 }
 
 -- entries and a default as cells
 abbrev pub with_default : Parts → Holder → Parts
@@ -46,9 +49,9 @@ with_default entries default = set_at entries cells.Default (shown (contents.Hel
 abbrev pub parts_of : TableValue → Parts
 parts_of table = with_default table.entries table.default
 
--- the cells that have a place: those of entries, and the default
+-- the places: those of entries, and the default's
 abbrev pub places_of : TableValue → Places
-places_of table = set.insert table.places cells.Default
+places_of table = insert table.places cells.Default table.default_stamp
 
 -- whether a table can have the cell: it is an entry or the default
 abbrev pub is_cell : Cell → Bool
@@ -95,10 +98,10 @@ pair_of entry = record { key = entry.0.1; value = entry.1 }
 unfoldable pub entries_of : Parts → List Pair
 entries_of parts = map pair_of (entries (ordered parts))
 
--- entries in their cells, with ticks from this one on
-abbrev pub numbered : ℕ → List Pair → List (Cell × Content)
+-- entries in their cells, with ticks from this one on, in places with stamp 0
+abbrev pub numbered : ℕ → List Pair → List (Cell × Place)
 numbered tick [] = []
-numbered tick (pair ∷ pairs) = (cells.Key pair.key, contents.Slot tick pair.value) ∷ numbered (suc tick) pairs
+numbered tick (pair ∷ pairs) = (cells.Key pair.key, unstamped (contents.Slot tick pair.value)) ∷ numbered (suc tick) pairs
 
 -- the parts of a table with this default and these entries, whose ticks are 1, 2 and so on
 abbrev pub filled : Holder → List Pair → Parts

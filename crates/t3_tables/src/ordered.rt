@@ -13,7 +13,7 @@ use crate::pair::Pair;
 use std::alloc::Global;
 use std::collections::BTreeMap;
 use t3_holder::{Holder, NoMemory};
-use t3_undo::{Cell, Content, Key, Slots};
+use t3_undo::{Cell, Content, Key, Place, Slots};
 
 /// Entries by their ticks, and where two ticks were equal by their keys.
 type ByTick = BTreeMap<(u64, Key), Holder>;
@@ -24,8 +24,8 @@ pub(crate) fn entries_by_tick(alloc: Global, slots: &Slots) -> Result<ByTick, No
 {
     let mut by_tick = BTreeMap::new(alloc);
     for index in 0..slots.places() as usize {
-        let (cell, content) = slots.slot(index).unwrap();
-        add_entry(alloc, &mut by_tick, cell, content)?;
+        let (cell, place) = slots.slot(index).unwrap();
+        add_entry(alloc, &mut by_tick, cell, &place.content)?;
     }
     Ok(by_tick)
 }
@@ -58,7 +58,7 @@ pub(crate) fn pairs_of(alloc: Global, mut by_tick: ByTick) -> Result<Vec<Pair>, 
     Ok(pairs)
 }
 
-/// Slots for the entries among slots, in their order, with the ticks 1, 2 and so on.
+/// Slots for the entries among slots, in their order, with the ticks 1, 2 and so on and with stamp 0.
 pub(crate) fn slots_anew(alloc: Global, slots: &Slots) -> Result<Slots, NoMemory>
     ensures { IfOk result (λ anew. anew ≡ numbered 1 (map pair_of (entries (ordered (parts_of slots.now))))) }
 {
@@ -66,7 +66,7 @@ pub(crate) fn slots_anew(alloc: Global, slots: &Slots) -> Result<Slots, NoMemory
     numbered_slots(alloc, by_tick)
 }
 
-/// Slots for entries in their order, with the ticks 1, 2 and so on.
+/// Slots for entries in their order, with the ticks 1, 2 and so on and with stamp 0.
 fn numbered_slots(alloc: Global, mut by_tick: ByTick) -> Result<Slots, NoMemory>
     requires { IsDistinct (eq_by_cmp key_cmp) (map (λ pair. pair.key) (map pair_of by_tick.entries)) }
     ensures { IfOk result (λ slots. slots ≡ numbered 1 (map pair_of by_tick.entries)) }
@@ -74,7 +74,8 @@ fn numbered_slots(alloc: Global, mut by_tick: ByTick) -> Result<Slots, NoMemory>
     let mut slots = Slots::new(alloc);
     while let Some(((_, key), value)) = by_tick.pop_first() {
         let tick = slots.places() + 1;
-        slots.add(Cell::Key(key), Content::Slot(tick, value))?;
+        let place = Place::unstamped(Content::Slot(tick, value));
+        slots.add(Cell::Key(key), place)?;
     }
     Ok(slots)
 }

@@ -1,8 +1,9 @@
-ghost use Rattle.std.specs.Prelude.{◌≡◌, ◌+◌, ◌≤◌, ◌^◌, IsTrue, IsSome, IfOk, OnOk, OnErr, length};
-ghost use Rattle.std.specs.FinMap.{get};
-ghost use Rattle.std.specs.FinSet as set;
-ghost use Rattle.t3_undo.specs.Content.{shown, is_form, places_for};
+ghost use Rattle.std.specs.Prelude.{◌≡◌, ℕ, ◌+◌, ◌≤◌, ◌^◌, Some, IsTrue, IsSome, IfOk, OnOk, OnErr, length};
+ghost use Rattle.std.specs.FinMap.{get, insert, contains_key};
+ghost use Rattle.t3_undo.specs.Content.{shown, is_form, with_place, places_for};
 ghost use Rattle.t3_undo.specs.Objects.{set_at};
+ghost use Rattle.t3_undo.specs.Purging.{Stays};
+ghost use Rattle.t3_undo.specs.declared.cell.Cell.{Cell};
 ghost use Rattle.t3_tables.specs.Table.{parts_of, places_of, entries_of, filled, new_table, is_cell, tick_after, AreBelow};
 
 use crate::cells::{exchange_default, tick_after};
@@ -18,6 +19,7 @@ use t3_undo::{Cell, Content, Metaclass, Slots};
 pub struct Table {
     slots: Slots,
     default: Holder,
+    default_stamp: u64,
     next_tick: u64,
 }
 
@@ -33,6 +35,7 @@ impl Model for Table {
       entries = parts_of t.slots;
       places = places_of t.slots;
       default = t.default;
+      default_stamp = t.default_stamp;
       next_tick = t.next_tick;
     } };
 
@@ -49,12 +52,13 @@ impl Table {
         Table {
             slots: Slots::new(alloc),
             default: Holder::Nil,
+            default_stamp: 0,
             next_tick: 1,
         }
     }
 
     /// A table with the same entries in the same order and the same default, with a place for each present
-    /// cell alone. Its ticks are 1, 2 and so on.
+    /// cell alone, whose stamp is 0. Its ticks are 1, 2 and so on.
     pub fn copy(&self, alloc: Global) -> Result<Table, NoMemory>
         ensures parts { IfOk result (λ copy. parts_of copy
             ≡ filled self.now.default (entries_of (parts_of self.now))) }
@@ -69,6 +73,7 @@ impl Table {
         Ok(Table {
             slots,
             default: self.default,
+            default_stamp: 0,
             next_tick,
         })
     }
@@ -102,8 +107,8 @@ impl Metaclass for Table {
 
     fn get(&self, cell: &Cell) -> Content
         ensures content { shown result ≡ get (parts_of self.now) cell.now }
-        ensures placed { IsSome (shown result) → IsTrue (set.contains (places_of self.now) cell.now) }
-        ensures formed { IsTrue (set.contains (places_of self.now) cell.now)
+        ensures placed { IsSome (shown result) → IsTrue (contains_key (places_of self.now) cell.now) }
+        ensures formed { IsTrue (contains_key (places_of self.now) cell.now)
             → IsTrue (is_form cell.now (shown result)) }
         ensures only_table { IsSome (shown result) → IsTrue (is_cell cell.now) }
     {
@@ -116,7 +121,7 @@ impl Metaclass for Table {
     /// Sets the cell, and hands out what stood there. No memory is taken. The next tick rises above the one
     /// that is set, where it isn't above it already.
     fn put(&mut self, cell: &Cell, content: Content) -> Content
-        requires place { IsTrue (set.contains (places_of self.old) cell.now) }
+        requires place { IsTrue (contains_key (places_of self.old) cell.now) }
         requires form { IsTrue (is_form cell.now (shown content)) }
         ensures parts { parts_of self.new ≡ set_at (parts_of self.old) cell.now (shown content) }
         ensures places { places_of self.new ≡ places_of self.old }
@@ -138,7 +143,7 @@ impl Metaclass for Table {
         requires { IsTrue (is_cell cell) }
         ensures parts { parts_of self.new ≡ parts_of self.old }
         ensures next { self.new.next_tick ≡ self.old.next_tick }
-        ensures ok { OnOk result (places_of self.new ≡ set.insert (places_of self.old) cell) }
+        ensures ok { OnOk result (places_of self.new ≡ with_place (places_of self.old) cell) }
         ensures err { OnErr result (self.new ≡ self.old) }
     {
         match cell {
@@ -147,7 +152,47 @@ impl Metaclass for Table {
         }
     }
 
+    fn stamp(&self, cell: &Cell) -> u64 {
+        match cell {
+            Cell::Default => self.default_stamp,
+            _ => self.slots.stamp(cell),
+        }
+    }
+
+    /// Gives the cell's place another stamp. No memory is taken.
+    fn set_stamp(&mut self, cell: &Cell, stamp: u64)
+        requires { IsTrue (contains_key (places_of self.old) cell.now) }
+        ensures parts { parts_of self.new ≡ parts_of self.old }
+        ensures places { places_of self.new ≡ insert (places_of self.old) cell.now stamp }
+        ensures next { self.new.next_tick ≡ self.old.next_tick }
+    {
+        match cell {
+            Cell::Default => self.default_stamp = stamp,
+            _ => self.slots.set_stamp(cell, stamp),
+        }
+    }
+
     fn places(&self) -> u64 {
         self.slots.places() + 1
+    }
+
+    fn present(&self) -> u64 {
+        self.slots.present() + 1
+    }
+
+    /// Takes away the places of entries that are absent and whose stamps are below this one. The default's stays.
+    /// No memory is taken.
+    fn purge(&mut self, oldest: u64)
+        ensures parts { parts_of self.new ≡ parts_of self.old }
+        ensures fewer { (cell : Cell) (stamp : ℕ) → get (places_of self.new) cell ≡ Some stamp
+            → get (places_of self.old) cell ≡ Some stamp }
+        ensures kept { (cell : Cell) (stamp : ℕ) → get (places_of self.old) cell ≡ Some stamp
+            → Stays (parts_of self.old) (places_of self.old) oldest cell
+            → get (places_of self.new) cell ≡ Some stamp }
+        ensures gone { (cell : Cell) (stamp : ℕ) → get (places_of self.new) cell ≡ Some stamp
+            → Stays (parts_of self.old) (places_of self.old) oldest cell }
+        ensures next { self.new.next_tick ≡ self.old.next_tick }
+    {
+        self.slots.purge(oldest);
     }
 }

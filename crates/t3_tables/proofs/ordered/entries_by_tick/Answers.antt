@@ -19,8 +19,8 @@ loop-index-preserved c =
     let stands : slice_get c.args.slots.now c.loop-index.index
     ≡ Some (c.unwrap.result.0.now, c.unwrap.result.1.now) = sym c.slot.ensures.slot ∙ ap (option_map deref_pair) c.unwrap.ensures in
     c.in_ok-add_entry.ensures
-    ∙ (λ i. with_entry c.unwrap.result.0.now (shown c.unwrap.result.1.now) (c.loop-index.invariant i))
-    ∙ entries-with_entry (parts_of (take c.loop-index.index c.args.slots.now)) c.unwrap.result.0.now (shown c.unwrap.result.1.now)
+    ∙ (λ i. with_entry c.unwrap.result.0.now (shown c.unwrap.result.1.now.content) (c.loop-index.invariant i))
+    ∙ entries-with_entry (parts_of (take c.loop-index.index c.args.slots.now)) c.unwrap.result.0.now (shown c.unwrap.result.1.now.content)
     (get-at c.args.slots.now c.loop-index.index (c.unwrap.result.0.now, c.unwrap.result.1.now) c.places-index-end.ensures.distinct stands)
     ∙ λ i. entries (ordered
     (sym (parts_of-at c.args.slots.now c.loop-index.index (c.unwrap.result.0.now, c.unwrap.result.1.now)

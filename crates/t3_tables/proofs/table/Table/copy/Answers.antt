@@ -1,12 +1,11 @@
 use Rattle.std.proofs.Common.{◌≡◌, ◌∙◌, List, ℕ, ◌+◌, ap, sym, subst, length, map, arith}
-use Rattle.std.specs.FinMap.{entries}
-use Rattle.std.specs.FinSet.{insert}
+use Rattle.std.specs.FinMap.{entries, insert}
 use Rattle.t3_holder.specs.declared.holder.Holder.{Holder}
 use Rattle.t3_undo.specs.Content.{places_for}
 use Rattle.t3_undo.specs.Slots as slots
 use Rattle.t3_undo.specs.declared.cell.Cell.{Cell}
 use Rattle.t3_undo.specs.declared.cell.Cell.TheVariants as cells
-use Rattle.t3_undo.specs.declared.content.Content.{Content}
+use Rattle.t3_undo.specs.declared.place.Place.{Place}
 use Rattle.t3_tables.specs.Table.{TableValue, parts_of, entries_of, pair_of, ordered, with_default, numbered, filled}
 use Rattle.t3_tables.specs.Inner.Slots.{IsTable}
 use Rattle.t3_tables.proofs.NumberedSlots.{length-numbered}
@@ -14,7 +13,7 @@ use Rattle.t3_tables.proofs.TableLists.{gathered-entries, distinct-entries_of, t
 use Rattle.t3_tables.proofs.table.Table.copy.Goals as goal
 
 abbrev Slotted : Type 0
-Slotted = List (Cell × Content)
+Slotted = List (Cell × Place)
 
 -- the slots of the copy, by the entries of the table
 module _ (made from : Slotted) (default : Holder) (now : TableValue)
@@ -54,7 +53,7 @@ returns c =
           ap (λ (s : Slotted). entries_of (with_default (slots.parts_of s) c.self.inside.default)) is
           ∙ entries-filled c.self.inside.default (entries_of (parts_of c.args.self.now)) (distinct-entries_of (parts_of c.args.self.now));
       places =
-          ap (λ (s : Slotted). insert (slots.places_of s) cells.Default) is
+          ap (λ (s : Slotted). insert (slots.places_of s) cells.Default 0) is
           ∙ places-filled c.self.inside.default (entries_of (parts_of c.args.self.now))
           ∙ ap (λ (s : Slotted). places_for (with_default (slots.parts_of s) c.self.inside.default)) (sym is);
       next = omega (arith, e, c.places-next_tick.ensures.slots);

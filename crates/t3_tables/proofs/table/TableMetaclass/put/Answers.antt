@@ -1,29 +1,28 @@
 use Rattle.std.proofs.Common.{◌≡◌, ◌∙◌, ◌≤◌, ℕ, ap, sym, subst, false, arith}
-use Rattle.std.specs.FinMap.{get}
-use Rattle.std.specs.FinSet.{contains, insert}
+use Rattle.std.specs.FinMap.{get, insert, contains_key}
 use Rattle.t3_undo.specs.Content.{Parts, Places, shown}
 use Rattle.t3_undo.specs.Objects.{set_at}
 use Rattle.t3_undo.specs.Slots as slots
 use Rattle.t3_undo.specs.declared.cell.Cell.TheVariants as cells
 use Rattle.t3_undo.proofs.SlotLists.{same}
 use Rattle.t3_tables.specs.Table.{parts_of, places_of, with_default, tick_after}
-use Rattle.t3_tables.proofs.Defaults.{get-default, get-other, contains-other, default-set, other-set, apart-default, tick-below}
+use Rattle.t3_tables.proofs.Defaults.{get-default, get-other, placed-other, default-set, other-set, apart-default, tick-below}
 use Rattle.t3_tables.proofs.TableLists.{table-put}
 use Rattle.t3_tables.proofs.table.TableMetaclass.put.Goals as goal
 
 pub put-requires : goal.put-requires
 put-requires c = record {
   place =
-      sym (contains-other (slots.places_of c.self.inside.slots) c.args.cell.now (apart-default c.args.cell.now c.in_default.not-Default))
-      ∙ ap (λ t. contains (places_of t) c.args.cell.now) c.self.view_is ∙ c.requires.place;
+      placed-other (slots.places_of c.self.inside.slots) c.self.inside.default_stamp c.args.cell.now c.in_default.not-Default
+      (ap (λ t. contains_key (places_of t) c.args.cell.now) c.self.view_is ∙ c.requires.place);
   form = c.requires.form;
 }
 
 pub invariant_of-self-in_default : goal.invariant_of-self-in_default
 invariant_of-self-in_default c =
-    table-put c.self.inside.slots c.put.new.self c.args.cell.now (shown c.args.content) c.self.inside.next_tick
+    table-put c.self.inside.slots c.put.new.self c.self.inside.next_tick c.self.invariant c.args.cell.now (shown c.args.content)
     c.tick_after-self-inside.result
-    c.self.invariant c.put.ensures.parts c.put.ensures.places c.tick_after-self-inside.ensures
+    c.put.ensures.parts c.put.ensures.places c.tick_after-self-inside.ensures
 
 pub returns-in-Default-clause-parts : goal.returns-in-Default-clause-parts
 returns-in-Default-clause-parts c =
@@ -47,7 +46,7 @@ returns-in_default c =
           ap (λ (p : Parts). with_default p c.self.inside.default) c.put.ensures.parts
           ∙ other-set (slots.parts_of c.self.inside.slots) c.self.inside.default c.args.cell.now (shown c.args.content) apart
           ∙ ap (λ t. set_at (parts_of t) c.args.cell.now (shown c.args.content)) c.self.view_is;
-      places = ap (λ (p : Places). insert p cells.Default) c.put.ensures.places ∙ ap places_of c.self.view_is;
+      places = ap (λ (p : Places). insert p cells.Default c.self.inside.default_stamp) c.put.ensures.places ∙ ap places_of c.self.view_is;
       next = c.tick_after-self-inside.ensures ∙ ap (λ t. tick_after t.next_tick (shown c.args.content)) c.self.view_is;
       old =
           c.put.ensures.old
