@@ -1,8 +1,7 @@
 -- What a change of an object's parts does to its value, for each kind.
 use Rattle.std.proofs.Common.{◌≡◌, ◌∙◌, ap, sym, refl, ℕ, ◌+◌, ◌≤◌, length, true, cond, not, List, Option, None, Some, IfSome, IsTrue, IsSome, is_some, true≢false, arith}
 use Rattle.std.specs.Option.{option_map}
-use Rattle.std.specs.FinMap.{get, empty, get-empty}
-use Rattle.std.specs.FinSet as set
+use Rattle.std.specs.FinMap.{get, empty, get-empty, contains_key}
 use Rattle.t3_holder.specs.declared.holder.Holder.{Holder}
 use Rattle.t3_undo.specs.Cell.{cell_cmp}
 use Rattle.t3_undo.specs.Content.{Present, Parts, is_form}
@@ -168,13 +167,13 @@ other-shape (objects.Vector v) other is = cc
 other-shape (objects.Table t) other is = other t refl
 
 -- a string and a list have no places
-pub placed-text : (object : Object) (t : List ℕ) (cell : Cell) → object ≡ objects.Text t → IsTrue (set.contains (places_of object) cell) → ⊥
+pub placed-text : (object : Object) (t : List ℕ) (cell : Cell) → object ≡ objects.Text t → IsTrue (contains_key (places_of object) cell) → ⊥
 placed-text object t cell is placed =
-    true≢false (sym placed ∙ ap (λ o. set.contains (places_of o) cell) is ∙ set.contains-empty cell_cmp cell)
+    true≢false (sym placed ∙ ap (λ o. contains_key (places_of o) cell) is ∙ ap is_some (get-empty cell_cmp cell))
 
-pub placed-list : (object : Object) (l : List Holder) (cell : Cell) → object ≡ objects.List l → IsTrue (set.contains (places_of object) cell) → ⊥
+pub placed-list : (object : Object) (l : List Holder) (cell : Cell) → object ≡ objects.List l → IsTrue (contains_key (places_of object) cell) → ⊥
 placed-list object l cell is placed =
-    true≢false (sym placed ∙ ap (λ o. set.contains (places_of o) cell) is ∙ set.contains-empty cell_cmp cell)
+    true≢false (sym placed ∙ ap (λ o. contains_key (places_of o) cell) is ∙ ap is_some (get-empty cell_cmp cell))
 
 -- what has something in a cell can have it
 pub present-can : (value : Value) (cell : Cell) → IsSome (holder_in value cell) → IsTrue (can_have value cell)

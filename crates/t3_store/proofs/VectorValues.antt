@@ -9,6 +9,7 @@ use Rattle.t3_undo.specs.declared.cell.Cell.{Cell}
 use Rattle.t3_undo.specs.declared.cell.Cell.TheVariants as cells
 use Rattle.t3_lists.specs.Vector.{parts_of, places_of, items_of, filled, HasPlaceBelow}
 use Rattle.t3_lists.specs.Inner.Elements.{content_found}
+use Rattle.t3_lists.specs.declared.elements.Element.{Element}
 use Rattle.t3_lists.proofs.ElementLists.{get-parts}
 use Rattle.t3_lists.proofs.Items.{items-filled, filled-push, filled-set, filled-pop, place-below}
 use Rattle.t3_store.specs.Inner.Valid.{IsWholeVector}
@@ -173,7 +174,7 @@ present-element items (cells.Key key) some = absurd (true≢false (sym some))
 present-element items cells.Default some = absurd (true≢false (sym some))
 
 -- up to the next one each element can be given a place
-pub vector-place : (elements : List (Option Holder)) (cell : Cell) → IsWholeVector (parts_of elements)
+pub vector-place : (elements : List Element) (cell : Cell) → IsWholeVector (parts_of elements)
     → is_element_for cell (length (items_of (parts_of elements))) ≡ true → HasPlaceBelow (places_of elements) cell
 vector-place elements (cells.Elem zero) whole can = absurd (true≢false (sym can))
 vector-place elements (cells.Elem (suc index)) whole can =

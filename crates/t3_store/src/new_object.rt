@@ -109,8 +109,8 @@ fn make_vector(alloc: Global, items: &Holders) -> Result<Vector, NoMemory>
 /// Adds an element to a vector of so many.
 fn add_element(vector: &mut Vector, count: u32, value: Holder) -> Result<(), NoMemory>
     requires few { count < 65535 }
-    requires count { HasElements vector.old count }
-    ensures { OnOk result (IsWithElement vector.old vector.new count value) }
+    requires count { HasElements (parts_of vector.old) count }
+    ensures { OnOk result (IsWithElement (parts_of vector.old) (parts_of vector.new) count value) }
 {
     let cell = Cell::Elem(count + 1);
     vector.make_place(Cell::Elem(count + 1))?;

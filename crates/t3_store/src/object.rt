@@ -1,8 +1,7 @@
 ghost use Rattle.std.specs.Prelude.{◌≡◌, ◌+◌, ◌<◌, ◌≤◌, ◌-◌, ◌^◌, ℕ, None, IsTrue, IsSome, IfOk, OnOk, OnErr, option_map, map};
 ghost use Rattle.std.specs.List.Sorted.{IsStrictlyIncreasing};
-ghost use Rattle.std.specs.FinMap.{get, entries};
-ghost use Rattle.std.specs.FinSet as set;
-ghost use Rattle.t3_undo.specs.Content.{shown, is_form};
+ghost use Rattle.std.specs.FinMap.{get, contains_key, entries};
+ghost use Rattle.t3_undo.specs.Content.{shown, is_form, with_place};
 ghost use Rattle.t3_undo.specs.declared.cell.Cell.TheVariants.{Prop};
 ghost use Rattle.t3_undo.specs.Objects.{with_part};
 ghost use Rattle.t3_store.specs.Value.{holder_in, kind_of, supers_of, is_class_of, props_in, text_of, items_in, length_of, entries_in, with_cell, can_have, units_of};
@@ -33,8 +32,8 @@ impl Object {
     #[inline(always)]
     pub(crate) fn get(&self, cell: &Cell) -> Content
         ensures content { shown result ≡ get (thing_of self.now).1 cell.now }
-        ensures placed { IsSome (shown result) → IsTrue (set.contains (places_of self.now) cell.now) }
-        ensures formed { IsTrue (set.contains (places_of self.now) cell.now)
+        ensures placed { IsSome (shown result) → IsTrue (contains_key (places_of self.now) cell.now) }
+        ensures formed { IsTrue (contains_key (places_of self.now) cell.now)
             → IsTrue (is_form cell.now (shown result)) }
     {
         match self {
@@ -62,7 +61,7 @@ impl Object {
     #[inline(always)]
     pub(crate) fn replace_prop(&mut self, number: u16, value: Holder) -> Content
         ensures old { IsSome (shown result) → shown result ≡ get (thing_of self.old).1 (Prop number) }
-        ensures placed { IsSome (shown result) → IsTrue (set.contains (places_of self.old) (Prop number)) }
+        ensures placed { IsSome (shown result) → IsTrue (contains_key (places_of self.old) (Prop number)) }
         ensures formed { IsTrue (is_form (Prop number) (shown result)) }
         ensures value { option_map (λ present. present.value) (shown result)
             ≡ holder_in (value_of (thing_of self.old)) (Prop number) }
@@ -73,7 +72,7 @@ impl Object {
         ensures ticks { tick_of self.new ≡ tick_of self.old }
     {
         match self {
-            Object::Tads(object) => object.replace(number, value),
+            Object::Tads(object) => object.replace(number, value, None).content,
             _ => Content::Absent,
         }
     }
@@ -81,7 +80,7 @@ impl Object {
     /// Sets the cell, and hands out what stood there. No memory is taken.
     #[inline(always)]
     pub(crate) fn put(&mut self, cell: &Cell, content: Content) -> Content
-        requires place { IsTrue (set.contains (places_of self.old) cell.now) }
+        requires place { IsTrue (contains_key (places_of self.old) cell.now) }
         requires form { IsTrue (is_form cell.now (shown content)) }
         ensures thing { thing_of self.new ≡ with_part cell.now (shown content) (thing_of self.old) }
         ensures places { places_of self.new ≡ places_of self.old }
@@ -106,7 +105,7 @@ impl Object {
         requires valid { IsValid (thing_of self.old) }
         ensures thing { thing_of self.new ≡ thing_of self.old }
         ensures ticks { tick_of self.new ≡ tick_of self.old }
-        ensures ok { OnOk result (places_of self.new ≡ set.insert (places_of self.old) cell) }
+        ensures ok { OnOk result (places_of self.new ≡ with_place (places_of self.old) cell) }
         ensures err { OnErr result (places_of self.new ≡ places_of self.old) }
     {
         match self {

@@ -37,7 +37,7 @@ by_number read (entry ∷ entries) = set_at (by_number read entries) entry.numbe
 abbrev pub things_of : List Entry → Objects Shape
 things_of entries = by_number thing_of entries
 
--- and the cells of each that have a place
+-- and the places of each
 abbrev pub places_in : List Entry → FinMap nat_cmp Places
 places_in entries = by_number places_of entries
 

@@ -1,11 +1,11 @@
 -- Objects as what never changes of each, its shape, and its parts; and what value that is.
 use Rattle.std.specs.Prelude.{◌≡◌, ◌+◌, ◌≤◌, ℕ, zero, suc, Bool, false, List, [], ◌∷◌, ◌++◌, length, Option, None, Some, map, option_map, nat_lt, refl}
 use Rattle.std.specs.Ordering.{nat_cmp}
-use Rattle.std.specs.FinMap.{FinMap, empty, get, insert, retain_keys, entries, from_entries, code as coded_map}
-use Rattle.std.specs.FinSet as set
+use Rattle.std.specs.FinMap.{FinMap, empty, get, insert, contains_key, retain_keys, entries, from_entries, code as coded_map}
 use Rattle.std.specs.Borrow.{Bor}
 use Rattle.std.specs.Coded.{Coded, code_by, coded×, coded_ℕ, coded_bool, coded_list}
 use Rattle.t3_undo.specs.Content.{Parts, Places, Present, coded_parts, coded_places, coded_holder}
+use Rattle.t3_undo.specs.Content as content
 use Rattle.t3_undo.specs.Objects.{Objects, set_at, set_cell, adjust}
 use Rattle.t3_undo.specs.declared.cell.Cell.{Cell}
 use Rattle.t3_undo.specs.declared.cell.Cell.TheVariants as cells
@@ -37,11 +37,11 @@ thing_of (object.List l) = (ItemsShape l, empty)
 thing_of (object.Vector v) = (VectorShape, vectors.parts_of v)
 thing_of (object.Table t) = (TableShape, tables.parts_of t)
 
--- the cells of an object that have a place
+-- the places of an object
 abbrev pub places_of : Object → Places
 places_of (object.Tads o) = o.places
-places_of (object.Text t) = set.empty
-places_of (object.List l) = set.empty
+places_of (object.Text t) = empty
+places_of (object.List l) = empty
 places_of (object.Vector v) = vectors.places_of v
 places_of (object.Table t) = tables.places_of t
 
@@ -112,7 +112,7 @@ coded_shape =
     code_by Coding (coded× coded_ℕ (coded× (coded_list coded_ℕ) (coded× coded_bool (coded_list coded_holder)))) to_code from_code
     from_code-to_code
 
--- objects by their numbers, of each the cells that have a place, and its next tick
+-- objects by their numbers, of each its places, and its next tick
 pub record Stored : Type 0 where
   pub objects : Objects Shape
   pub places : FinMap nat_cmp Places
@@ -126,15 +126,15 @@ coded_stored =
 
 abbrev pub has_place_in : Option Places → Cell → Bool
 has_place_in None cell = false
-has_place_in (Some places) cell = set.contains places cell
+has_place_in (Some places) cell = contains_key places cell
 
 -- whether the object of that number has a place for the cell
 abbrev pub has_place : FinMap nat_cmp Places → ℕ → Cell → Bool
 has_place places number cell = has_place_in (get places number) cell
 
--- the places with one more, if there is the object
+-- the places with one for the cell, if there is the object: a new one has stamp 0
 abbrev pub with_place : ℕ → Cell → FinMap nat_cmp Places → FinMap nat_cmp Places
-with_place number cell places = adjust places number (λ own. set.insert own cell)
+with_place number cell places = adjust places number (λ own. content.with_place own cell)
 
 -- the places of objects numbered below
 abbrev pub places_below : ℕ → FinMap nat_cmp Places → FinMap nat_cmp Places
@@ -171,14 +171,13 @@ pub record IsWithProp (old new : Tadsobject.Tads) (number : ℕ) (value : Holder
   pub class : new.class ≡ old.class
   pub parts : new.parts ≡ set_at old.parts (cells.Prop number) (Some (record { tick = None; value = value }))
 
--- a vector has so many elements, and none is missing
-pub record HasElements (elements : List (Option Holder)) (number : ℕ) : Type 0 where
+-- a vector of these parts has so many elements, and none is missing
+pub record HasElements (parts : Parts) (number : ℕ) : Type 0 where
   pub items : List Holder
-  pub are : vectors.parts_of elements ≡ vectors.filled items
+  pub are : parts ≡ vectors.filled items
   pub count : length items ≡ number
 
 -- a vector has an element more
-abbrev pub IsWithElement : List (Option Holder) → List (Option Holder) → ℕ → Holder → Type 0
+abbrev pub IsWithElement : Parts → Parts → ℕ → Holder → Type 0
 IsWithElement old new count value =
-    (items : List Holder) → vectors.parts_of old ≡ vectors.filled items → length items ≡ count
-    → vectors.parts_of new ≡ vectors.filled (items ++ value ∷ [])
+    (items : List Holder) → old ≡ vectors.filled items → length items ≡ count → new ≡ vectors.filled (items ++ value ∷ [])

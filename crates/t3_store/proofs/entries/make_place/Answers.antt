@@ -1,9 +1,9 @@
-use Rattle.std.proofs.Common.{◌∙◌, ap, sym, true≢false}
+use Rattle.std.proofs.Common.{◌∙◌, ap, sym, refl, true≢false}
 use Rattle.std.specs.Option.{option_map}
 use Rattle.t3_store.specs.Value.{can_have_at}
-use Rattle.t3_store.proofs.Places.{contains-own}
+use Rattle.t3_undo.specs.Content.{with_place}
+use Rattle.t3_undo.proofs.SlotLists.{placed-made}
 use Rattle.t3_store.proofs.MapValues.{get-values, found-value}
-use Rattle.std.specs.FinSet as set
 use Rattle.t3_store.specs.Inner.Shapes.{thing_of, places_of, tick_of, value_of, has_place_in}
 use Rattle.t3_store.specs.Inner.Entries.{things_of, places_in}
 use Rattle.t3_store.proofs.Outcomes.{OnOk-map, OnErr-map}
@@ -24,7 +24,7 @@ returns-in-Some-clause-things c =
 
 pub returns-in-Some-clause-ok : goal.returns-in-Some-clause-ok
 returns-in-Some-clause-ok c =
-    OnOk-map c.make_place.result (λ e. by_number-changed places_of (λ own. set.insert own c.args.cell) _ _ _ _ c.make_place.new.self
+    OnOk-map c.make_place.result (λ e. by_number-changed places_of (λ own. with_place own c.args.cell) _ _ _ _ c.make_place.new.self
     (entry-at c.args.number c.args.entries.now.items _ _ c.in-Some.index _ c.deref.ensures.value c.index_of.ensures.index c.in-Some.is c.index_mut.ensures.value)
     e) c.make_place.ensures.ok
 
@@ -36,7 +36,7 @@ returns-in-Some-clause-err c =
 
 pub returns-in-None-clause-ok : goal.returns-in-None-clause-ok
 returns-in-None-clause-ok c =
-    sym (adjust-none (places_in c.args.entries.now.items) c.args.number (λ own. set.insert own c.args.cell)
+    sym (adjust-none (places_in c.args.entries.now.items) c.args.number (λ own. with_place own c.args.cell)
     (get-nowhere places_of c.args.number c.args.entries.now.items
     (no-entry c.args.number c.args.entries.now.items _ _ c.deref.ensures.value c.index_of.ensures.index c.in-None.is)))
 
@@ -44,7 +44,7 @@ pub returns-in-Some-clause-placed : goal.returns-in-Some-clause-placed
 returns-in-Some-clause-placed c =
     OnOk-map c.make_place.result (λ e. ap (λ o. has_place_in o c.args.cell) (get-changed places_of _ _ _ _ c.make_place.new.self
     (entry-at c.args.number c.args.entries.now.items _ _ c.in-Some.index _ c.deref.ensures.value c.index_of.ensures.index c.in-Some.is c.index_mut.ensures.value))
-    ∙ ap (λ own. set.contains own c.args.cell) e ∙ contains-own (places_of c.index_mut.result.now.object) c.args.cell)
+    ∙ placed-made _ _ c.args.cell c.args.cell e refl)
     c.make_place.ensures.ok
 
 pub returns-in-None-clause-placed : goal.returns-in-None-clause-placed

@@ -1,10 +1,9 @@
-use Rattle.std.proofs.Common.{◌≡◌, ◌∙◌, ◌+◌, ℕ, suc, ap, sym, subst, length, Some, None, arith}
-use Rattle.std.specs.FinSet as set
+use Rattle.std.proofs.Common.{◌≡◌, ◌∙◌, ◌+◌, ℕ, suc, sym, subst, refl, length, Some, None, arith}
 use Rattle.t3_undo.specs.Objects.{set_at}
+use Rattle.t3_undo.proofs.SlotLists.{placed-made}
 use Rattle.t3_undo.specs.declared.cell.Cell.TheVariants as cells
 use Rattle.t3_lists.specs.Vector.{places_of, HasPlaceBelow}
 use Rattle.t3_lists.proofs.Items.{filled-push, place-below}
-use Rattle.t3_store.proofs.Places.{contains-own}
 use Rattle.t3_store.proofs.new_object.add_element.Goals as goal
 
 pub make_place-requires : goal.make_place-requires
@@ -16,7 +15,7 @@ make_place-requires c =
 
 pub put-absent-requires-clause-place : goal.put-absent-requires-clause-place
 put-absent-requires-clause-place c =
-    ap (λ p. set.contains p (cells.Elem (c.args.count + 1))) c.in_ok-make_place.ensures.ok ∙ contains-own _ (cells.Elem (c.args.count + 1))
+    placed-made _ _ (cells.Elem (c.args.count + 1)) (cells.Elem (c.args.count + 1)) c.in_ok-make_place.ensures.ok refl
 
 pub returns : goal.returns
 returns c items are count =
