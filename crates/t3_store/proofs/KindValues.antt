@@ -167,11 +167,13 @@ other-shape (objects.Vector v) other is = cc
 other-shape (objects.Table t) other is = other t refl
 
 -- a string and a list have no places
-pub placed-text : (object : Object) (t : List ℕ) (cell : Cell) → object ≡ objects.Text t → IsTrue (contains_key (places_of object) cell) → ⊥
+pub placed-text : (object : Object) (t : List ℕ) (cell : Cell) → object ≡ objects.Text t
+    → IsTrue (contains_key (places_of object) cell) → ⊥
 placed-text object t cell is placed =
     true≢false (sym placed ∙ ap (λ o. contains_key (places_of o) cell) is ∙ ap is_some (get-empty cell_cmp cell))
 
-pub placed-list : (object : Object) (l : List Holder) (cell : Cell) → object ≡ objects.List l → IsTrue (contains_key (places_of object) cell) → ⊥
+pub placed-list : (object : Object) (l : List Holder) (cell : Cell) → object ≡ objects.List l
+    → IsTrue (contains_key (places_of object) cell) → ⊥
 placed-list object l cell is placed =
     true≢false (sym placed ∙ ap (λ o. contains_key (places_of o) cell) is ∙ ap is_some (get-empty cell_cmp cell))
 

@@ -32,7 +32,8 @@ impl Object {
     #[inline(always)]
     pub(crate) fn get(&self, cell: &Cell) -> Content
         ensures content { shown result ≡ get (thing_of self.now).1 cell.now }
-        ensures placed { IsSome (shown result) → IsTrue (contains_key (places_of self.now) cell.now) }
+        ensures placed { IsSome (shown result)
+            → IsTrue (contains_key (places_of self.now) cell.now) }
         ensures formed { IsTrue (contains_key (places_of self.now) cell.now)
             → IsTrue (is_form cell.now (shown result)) }
     {
@@ -61,7 +62,8 @@ impl Object {
     #[inline(always)]
     pub(crate) fn replace_prop(&mut self, number: u16, value: Holder) -> Content
         ensures old { IsSome (shown result) → shown result ≡ get (thing_of self.old).1 (Prop number) }
-        ensures placed { IsSome (shown result) → IsTrue (contains_key (places_of self.old) (Prop number)) }
+        ensures placed { IsSome (shown result)
+            → IsTrue (contains_key (places_of self.old) (Prop number)) }
         ensures formed { IsTrue (is_form (Prop number) (shown result)) }
         ensures value { option_map (λ present. present.value) (shown result)
             ≡ holder_in (value_of (thing_of self.old)) (Prop number) }

@@ -58,7 +58,7 @@ pub(crate) fn pairs_of(alloc: Global, mut by_tick: ByTick) -> Result<Vec<Pair>, 
     Ok(pairs)
 }
 
-/// Slots for the entries among slots, in their order, with the ticks 1, 2 and so on and with stamp 0.
+/// Slots for the entries among slots, in their order, with the ticks 1, 2 and so on and stamp 0.
 pub(crate) fn slots_anew(alloc: Global, slots: &Slots) -> Result<Slots, NoMemory>
     ensures { IfOk result (λ anew. anew ≡ numbered 1 (map pair_of (entries (ordered (parts_of slots.now))))) }
 {
@@ -66,7 +66,7 @@ pub(crate) fn slots_anew(alloc: Global, slots: &Slots) -> Result<Slots, NoMemory
     numbered_slots(alloc, by_tick)
 }
 
-/// Slots for entries in their order, with the ticks 1, 2 and so on and with stamp 0.
+/// Slots for entries in their order, with the ticks 1, 2 and so on and stamp 0.
 fn numbered_slots(alloc: Global, mut by_tick: ByTick) -> Result<Slots, NoMemory>
     requires { IsDistinct (eq_by_cmp key_cmp) (map (λ pair. pair.key) (map pair_of by_tick.entries)) }
     ensures { IfOk result (λ slots. slots ≡ numbered 1 (map pair_of by_tick.entries)) }

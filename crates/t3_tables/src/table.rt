@@ -107,7 +107,8 @@ impl Metaclass for Table {
 
     fn get(&self, cell: &Cell) -> Content
         ensures content { shown result ≡ get (parts_of self.now) cell.now }
-        ensures placed { IsSome (shown result) → IsTrue (contains_key (places_of self.now) cell.now) }
+        ensures placed { IsSome (shown result)
+            → IsTrue (contains_key (places_of self.now) cell.now) }
         ensures formed { IsTrue (contains_key (places_of self.now) cell.now)
             → IsTrue (is_form cell.now (shown result)) }
         ensures only_table { IsSome (shown result) → IsTrue (is_cell cell.now) }
@@ -180,8 +181,8 @@ impl Metaclass for Table {
         self.slots.present() + 1
     }
 
-    /// Takes away the places of entries that are absent and whose stamps are below this one. The default's stays.
-    /// No memory is taken.
+    /// Takes away the places of entries that are absent and whose stamps are below this one. The default's
+    /// stays. No memory is taken.
     fn purge(&mut self, oldest: u64)
         ensures parts { parts_of self.new ≡ parts_of self.old }
         ensures fewer { (cell : Cell) (stamp : ℕ) → get (places_of self.new) cell ≡ Some stamp
