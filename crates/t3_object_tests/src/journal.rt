@@ -1,12 +1,11 @@
-//! The journal by itself, and a kind round its slots.
-ghost use Rattle.std.specs.Prelude.{◌≡◌, ◌<◌, IsTrue, IfOk, OnOk};
-ghost use Rattle.t3_undo.specs.Content.{shown, is_form};
+//! The journal by itself.
+ghost use Rattle.std.specs.Prelude.{◌<◌};
 
 use std::alloc::Global;
 use std::process::Abort;
 use std::test::Fail;
-use t3_holder::{Bytes, Holder, NoMemory};
-use t3_undo::{Cell, Content, Journal, Key, Metaclass, Slots};
+use t3_holder::{Bytes, Holder};
+use t3_undo::{Cell, Content, Journal, Key};
 
 /// A number in a cell.
 fn held(number: i32) -> Content {
@@ -216,87 +215,4 @@ fn check_key(
     let cell = Cell::Key(key.copy(alloc)?);
     assert!(rt; cell.copy(alloc)? == cell);
     Ok(())
-}
-
-/// A kind round slots, which has any cell but a default.
-#[derive(Drop)]
-struct Sheet {
-    slots: Slots,
-}
-
-impl Metaclass for Sheet {
-    ghost use Rattle.std.specs.Prelude.{None, IsTrue};
-    ghost use Rattle.t3_undo.specs.Content.{is_form};
-    ghost use Rattle.t3_undo.specs.Slots.{parts_of, places_of};
-
-    ghost parts = { λ s. parts_of s.slots };
-
-    ghost places = { λ s. places_of s.slots };
-
-    ghost can_have = { λ s cell. IsTrue (is_form cell None) };
-
-    fn get(&self, cell: &Cell) -> Content {
-        self.slots.get(cell)
-    }
-
-    fn put(&mut self, cell: &Cell, content: Content) -> Content {
-        self.slots.put(cell, content)
-    }
-
-    fn make_place(&mut self, cell: Cell) -> Result<(), NoMemory> {
-        self.slots.make_place(cell)
-    }
-
-    fn places(&self) -> u64 {
-        self.slots.places()
-    }
-}
-
-#[test]
-fn what_stood_there_can_be_put_back(rt: HostRuntime) -> Result<(), Fail> {
-    let mut sheet = Sheet {
-        slots: Slots::new(rt.alloc()),
-    };
-    check_put_back(&rt, rt.alloc(), &mut sheet)?;
-    check_places(&rt, rt.alloc(), &mut sheet)
-}
-
-/// A key of three bytes.
-fn one(alloc: Global) -> Result<Key, NoMemory> {
-    Ok(Key::Text(Bytes(Vec::from_slice(alloc, b"one")?)))
-}
-
-fn check_put_back(rt: &impl Abort, alloc: Global, sheet: &mut Sheet) -> Result<(), Fail> {
-    let cell = Cell::Key(one(alloc)?);
-    let seen = set_and_put_back(sheet, alloc, &cell, Content::Slot(1, Holder::True))?;
-    assert_eq!(rt; seen.value(), Some(Holder::True));
-    assert_eq!(rt; sheet.get(&cell), Content::Absent);
-    Ok(())
-}
-
-fn check_places(rt: &impl Abort, alloc: Global, sheet: &mut Sheet) -> Result<(), Fail> {
-    sheet.make_place(Cell::Key(one(alloc)?))?;
-    sheet.make_place(Cell::Elem(2))?;
-    assert_eq!(rt; sheet.places(), 2, "one of these was there");
-    assert_eq!(rt; sheet.slots.copy(alloc)?.places(), 0, "none is present");
-    Ok(())
-}
-
-/// Makes a place for a cell, sets the cell, looks, and puts back what stood there.
-fn set_and_put_back<M: Metaclass>(
-    object: &mut M,
-    alloc: Global,
-    cell: &Cell,
-    content: Content,
-) -> Result<Content, NoMemory>
-    requires can_have { M.can_have object.old cell.now }
-    requires form { IsTrue (is_form cell.now (shown content)) }
-    ensures seen { IfOk result (λ seen. shown seen ≡ shown content) }
-    ensures parts { OnOk result (M.parts object.new ≡ M.parts object.old) }
-{
-    object.make_place(cell.copy(alloc)?)?;
-    let old = object.put(cell, content);
-    let seen = object.get(cell);
-    let _content = object.put(cell, old);
-    Ok(seen)
 }

@@ -7,6 +7,8 @@ mod cycles;
 #[cfg(test)]
 mod journal;
 #[cfg(test)]
+mod kinds;
+#[cfg(test)]
 mod orders;
 #[cfg(test)]
 mod plain_journal;

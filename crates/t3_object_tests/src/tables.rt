@@ -154,3 +154,24 @@ fn check_copied(rt: &impl Abort, alloc: Global, copy: &Table) -> Result<(), Fail
     assert_eq!(rt; copy.get(&Cell::Default), Content::Held(Holder::Int(7)));
     Ok(())
 }
+
+/// Makes an empty place, gives it a stamp, and tells the one that it had.
+fn empty_place(alloc: Global, table: &mut Table, key: Key, stamp: u64) -> Result<u64, NoMemory> {
+    let cell = Cell::Key(key);
+    table.make_place(cell.copy(alloc)?)?;
+    let first = table.stamp(&cell);
+    table.set_stamp(&cell, stamp);
+    Ok(first)
+}
+
+#[test]
+fn empty_places_go_by_their_stamps(rt: HostRuntime) -> Result<(), Fail> {
+    let alloc = rt.alloc();
+    let mut table = with_three(alloc)?;
+    assert_eq!(rt; empty_place(alloc, &mut table, Key::Int(4), 7)?, 0);
+    assert_eq!(rt; empty_place(alloc, &mut table, Key::Int(5), 8)?, 0);
+    assert_eq!(rt; (table.places(), table.present()), (6, 4));
+    table.purge(8);
+    assert_eq!(rt; (table.places(), table.present()), (5, 4));
+    check_order(&rt, alloc, &table, &[1, 2, 3])
+}

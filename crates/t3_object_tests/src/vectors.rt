@@ -37,6 +37,28 @@ impl Row {
         }
         self.vector.put(&Cell::Elem(number), content(value)).value()
     }
+
+    /// Gives an element's place a stamp.
+    fn set_stamp(&mut self, number: u32, stamp: u64) {
+        if number > 0 && number <= self.count {
+            self.vector.set_stamp(&Cell::Elem(number), stamp);
+        }
+    }
+
+    /// The stamp of an element's place.
+    fn stamp(&self, number: u32) -> u64 {
+        if number == 0 || number > self.count {
+            return u64::MAX;
+        }
+        self.vector.stamp(&Cell::Elem(number))
+    }
+
+    /// The vector without the places that aren't needed.
+    fn purged(self, oldest: u64) -> Vector {
+        let mut vector = self.vector;
+        vector.purge(oldest);
+        vector
+    }
 }
 
 fn content(value: Option<i32>) -> Content
@@ -119,6 +141,32 @@ fn holes_are_filled_from_above_and_from_below(rt: HostRuntime) -> Result<(), Fai
     check_emptied(&rt, &mut row)
 }
 
+/// The first element is 1, and the others are missing, with the stamps 2, 5, 4 and 0.
+fn with_holes(alloc: Global) -> Result<Row, NoMemory> {
+    let mut row = Row::with_places(alloc, 5)?;
+    let _missing = row.set(1, Some(1));
+    row.set_stamp(2, 2);
+    row.set_stamp(3, 5);
+    row.set_stamp(4, 4);
+    Ok(row)
+}
+
+#[test]
+fn missing_elements_lose_their_places_from_the_end(rt: HostRuntime) -> Result<(), Fail> {
+    let row = with_holes(rt.alloc())?;
+    assert_eq!(rt; (row.stamp(1), row.stamp(2), row.stamp(3)), (0, 2, 5));
+    let mut vector = row.purged(5);
+    assert_eq!(rt;
+        (vector.places(), vector.present()),
+        (3, 1),
+        "the second is below one that stays"
+    );
+    vector.purge(6);
+    assert_eq!(rt; (vector.places(), vector.present()), (1, 1));
+    assert_eq!(rt; vector.get(&Cell::Elem(1)), Content::Held(Holder::Int(1)));
+    Ok(())
+}
+
 #[test]
 fn the_greatest_element_of_a_vector(rt: HostRuntime) -> Result<(), Fail> {
     let alloc = rt.alloc();
@@ -159,6 +207,9 @@ fn strings_and_lists_have_no_cells(rt: HostRuntime) -> Result<(), Fail> {
     let back = list.put(&Cell::Elem(1), Content::Held(Holder::Nil));
     assert_eq!(rt; back, Content::Held(Holder::Nil));
     assert_eq!(rt; (text.places(), list.places()), (0, 0));
+    text.purge(u64::MAX);
+    list.purge(u64::MAX);
+    assert_eq!(rt; (text.present(), list.present()), (0, 0));
     assert_eq!(rt; text.get(&Cell::Elem(1)), Content::Absent);
     assert_eq!(rt; list.get(&Cell::Elem(1)), Content::Absent);
     assert_eq!(rt; text.bytes(), [b'h', 0xC3, 0xA9].as_slice());

@@ -4,7 +4,7 @@ use Rattle.t3_undo.specs.Content.{Parts, shown}
 use Rattle.t3_undo.specs.Objects.{set_at}
 use Rattle.t3_undo.specs.declared.cell.Cell.TheVariants as cells
 use Rattle.t3_undo.specs.declared.content.Content.TheVariants.{Held}
-use Rattle.t3_undo.proofs.SlotLists.{placed-insert}
+use Rattle.t3_undo.proofs.SlotLists.{placed-made}
 use Rattle.t3_lists.specs.Vector.{parts_of, places_of, items_of, filled, HasPlaceBelow}
 use Rattle.t3_lists.proofs.Items.{place-below, filled-push, items-filled}
 use Rattle.t3_object_tests.proofs.vectors.push.Goals as goal
@@ -22,7 +22,7 @@ make_place-requires c =
 
 pub put-absent-requires-clause-place : goal.put-absent-requires-clause-place
 put-absent-requires-clause-place c =
-    placed-insert (places_of c.args.vector.now) (places_of c.make_place.new.self) (cells.Elem (c.length-number.result + 1))
+    placed-made (places_of c.args.vector.now) (places_of c.make_place.new.self) (cells.Elem (c.length-number.result + 1))
     (cells.Elem (c.length-number.result + 1)) c.in_ok-make_place.ensures.ok refl
 
 pub returns : goal.returns
