@@ -24,12 +24,14 @@ use Rattle.t3_interp.specs.View.{state_of, comes_to}
 use Rattle.t3_interp.specs.Good.{IsGoodInput}
 use Rattle.t3_interp.specs.Inner.Acting.{IsGoodRun, HasGone, Tells}
 use Rattle.t3_interp.proofs.GoodSteps.{good-steps, good-by}
+use Rattle.t3_interp.proofs.LimitsKept.{limits-stay, limits-gone}
 
 -- by steps
 pub good-gone : (program : ProgramValue) (old new : Running) → HasGone program old new → IsGoodRun program old → IsGoodRun program new
 good-gone program old new gone good = record {
   static = good.static;
   state = good-steps IsGoodHolder program good.static (new.steps - old.steps) (state_of old) (comes_to new) gone.goes good.state;
+  limits = limits-gone program.limits program (new.steps - old.steps) (state_of old) (comes_to new) gone.goes good.limits;
 }
 
 -- ---- by an input that is wanted
@@ -54,6 +56,7 @@ pub good-moved : (program : ProgramValue) (want : Want) (input : Input) (old new
 good-moved program want input old new wanted moves good = record {
   static = good.static;
   state = good-by IsGoodHolder program good.static input (state_of old) (comes_to new) moves (good-wanted program want input wanted) good.state;
+  limits = limits-stay program.limits program input (state_of old) (comes_to new) moves good.limits;
 }
 
 -- what tells something names a file well
@@ -64,7 +67,7 @@ tells_named running false tells = subst IsNamed (sym tells.0) tt
 -- a run is as good when what it tells was handed out
 pub good-untold : (program : ProgramValue) (running : Running) (event : Event) → IsGoodRun program running
     → IsGoodRun program (record running { event = event })
-good-untold program running event good = record { static = good.static; state = good.state }
+good-untold program running event good = record { static = good.static; state = good.state; limits = good.limits }
 
 -- and when a step was counted
 pub good-counted : (program : ProgramValue) (running : Running) (steps : ℕ) → IsGoodRun program running
@@ -72,6 +75,7 @@ pub good-counted : (program : ProgramValue) (running : Running) (steps : ℕ) �
 good-counted program running steps good = record {
   static = good.static;
   state = record { frames = good.state.frames; register = good.state.register; store = good.state.store; say = good.state.say };
+  limits = good.limits;
 }
 
 -- ---- a state that was read

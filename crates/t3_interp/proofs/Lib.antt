@@ -6,7 +6,10 @@ mod Keeping
 mod FramesKeep
 mod CallsKeep
 mod InstructionsKeep
+mod StepsKeep
+mod SavepointCalls
 mod TakingBack
+mod LimitsKept
 pub mod Runs
 mod GoodCode
 mod GoodExceptions

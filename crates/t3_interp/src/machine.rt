@@ -1,5 +1,5 @@
 //! The machine: a program, and the state of its run.
-ghost use Rattle.std.specs.Prelude.{◌≡◌, ◌+◌, ◌<◌, ◌≤◌, ◌^◌, IfOk, IsOk, length};
+ghost use Rattle.std.specs.Prelude.{◌≡◌, ◌+◌, ◌<◌, ◌≤◌, ◌^◌, IfOk, IsOk, IsErr, length};
 ghost use Rattle.t3_store.specs.Store.{changed_cells};
 ghost use Rattle.t3_snapshot.specs.State.{IsSoundState, trimmed};
 ghost use Rattle.t3_interp.specs.declared.event.Event.TheVariants.{Went};
@@ -7,7 +7,7 @@ ghost use Rattle.t3_interp.specs.declared.event.Want.TheVariants.{Go};
 ghost use Rattle.t3_interp.specs.Machine.{initial};
 ghost use Rattle.t3_interp.specs.Step.{StepsBy, IsWanted, Goes};
 ghost use Rattle.t3_interp.specs.View.{state_of};
-ghost use Rattle.t3_interp.specs.Steady.{IsSteady};
+ghost use Rattle.t3_interp.specs.Steady.{IsSteady, LacksMemory};
 ghost use Rattle.t3_interp.specs.Wanting.{IsNamed};
 ghost use Rattle.t3_interp.specs.Inner.Acting.{IsBetweenSteps, IsGoodRun};
 
@@ -116,16 +116,19 @@ impl Machine {
         &self.whole.program.fingerprint
     }
 
-    /// How many savepoints are held.
+    /// How many savepoints are held: at most as many as the program's limits say.
     pub fn held(&self) -> u32
-        ensures { result ≡ length self.now.state.store.marks }
+        ensures held { result ≡ length self.now.state.store.marks }
+        ensures bound { result ≤ self.now.program.limits.savepoints }
     {
         self.whole.running.core.store.held()
     }
 
-    /// How many cells of objects were changed first since one of them, together.
+    /// How many cells of objects were changed first since one of them, together: at most as many as the program's limits
+    /// say.
     pub fn records(&self) -> u32
-        ensures { result ≡ changed_cells self.now.state.store.marks }
+        ensures records { result ≡ changed_cells self.now.state.store.marks }
+        ensures bound { result ≤ self.now.program.limits.records }
     {
         self.whole.running.core.store.records()
     }
@@ -163,7 +166,7 @@ impl Machine {
 
     /// Makes steps up to the first that says a text, be it empty, wants a line, a file or that one be put, or ends the run,
     /// and `most` at most. Gives how many were made, and what the last did. The run may not have ended, and as many steps as may be made here don't take
-    /// it past 2^40. Want of memory takes the machine with it.
+    /// it past 2^40. Want of memory takes the machine with it, and comes at a step that may take some.
     pub fn go(mut self, most: u32) -> Result<(Machine, u32, Event), NoMemory>
         requires wants { self.state.wants ≡ Go }
         requires few { self.state.steps + most ≤ 2 ^ 40 }
@@ -173,7 +176,7 @@ impl Machine {
         ensures bound { IfOk result (λ gone. gone.1 ≤ most) }
         ensures all { IfOk result (λ gone. gone.2 ≡ Went → gone.1 ≡ most) }
         ensures named { IfOk result (λ gone. IsNamed gone.2) }
-        ensures steady { most ≤ 1 → IsSteady self.program self.state Input.Go → IsOk result }
+        ensures steady { IsErr result → LacksMemory self.program most self.state }
     {
         let whole = &mut *self.whole;
         let made = whole

@@ -1,5 +1,7 @@
 //! Carrying out a method by its kind and index.
-ghost use Rattle.std.specs.Prelude.{◌≡◌, ◌+◌, ◌<◌, ◌≤◌, ◌^◌, IsTrue};
+ghost use Rattle.std.specs.Prelude.{◌≡◌, ◌+◌, ◌<◌, ◌≤◌, ◌^◌, IsTrue, Err};
+ghost use Rattle.t3_ops.specs.declared.fault.Fault.{Fault as AnyFault};
+ghost use Rattle.t3_ops.specs.declared.outcome.OpRefusal.TheVariants as refusals;
 ghost use Rattle.t3_kinds.specs.Changes.{HasDone};
 ghost use Rattle.t3_kinds.specs.Deeds.{when_text, when_list};
 ghost use Rattle.t3_kinds.specs.VectorMethods.{when_vector};
@@ -44,6 +46,7 @@ pub fn listed_method(
     requires few { store.old.writes + 2 ^ 17 ≤ 2 ^ 63 }
     ensures done { HasDone (listed_deed pools.now.constants store.old.store turns.old kind index me
         args.now) store.old.store result store.new.store turns.new }
+    ensures fault { (fault : AnyFault) → result ≡ Err (refusals.Fault fault) → store.new ≡ store.old }
     ensures writes { store.new.writes < store.old.writes + 2 ^ 17 }
     ensures savepoints { store.new.savepoints ≡ store.old.savepoints }
 {

@@ -9,8 +9,9 @@ use Rattle.t3_lines.proofs.Inputs.{still_reading, asked_for, input_read}
 use Rattle.t3_run.specs.Act.{Act, Asks, shown_by, shown_before}
 use Rattle.t3_run.specs.Showing.{ShowsMore}
 use Rattle.t3_run.specs.Asking.{IsInput, IsAskedFor, Moves, AsksBy}
-use Rattle.t3_run.specs.Inner.Playing.{asks_in, IsReadingOf}
+use Rattle.t3_run.specs.Inner.Playing.{asks_in, HasReadOn, IsReadingOf}
 use Rattle.t3_run.proofs.Acts.{shown_before-more, shown_before-here}
+use Rattle.t3_run.proofs.LastReads.{WasMoreLeft, more_left, not_ended, last_more}
 
 -- ---- lists of reads
 
@@ -63,6 +64,7 @@ asks-more acts more (Some before) (Some mid) after said text asks shows =
       asked = asks.asked;
       each = each_as (IsAskedFor acts before said) (IsAskedFor (acts ++ more) before (said ++ text)) asks.added
           (asked_longer acts more before said text) asks.each;
+      last = asks.last;
       none = asks.none;
     })
 
@@ -85,6 +87,7 @@ asks-none acts (Some before) after said shows =
       added = [];
       asked = sym (append-nil before.asked);
       each = tt;
+      last = tt;
       none = λ _. refl;
     })
 
@@ -102,7 +105,7 @@ pub some_input : (before now : Option Session) (reader : ReaderValue) → IsRead
 some_input None now reader reads =
     (reader.taken, tt, record { more = []; is = sym (append-nil reader.taken); ended = λ _. refl })
 some_input (Some before) None reader reads = absurd reads
-some_input (Some before) (Some now) reader reads = (before.left, refl, input_read reader now before.left reads)
+some_input (Some before) (Some now) reader reads = (before.left, refl, input_read reader now before.left reads.0)
 
 -- showing takes nothing of it
 pub reading-shown : (before mid after : Option Session) (reader : ReaderValue) (text : List ℕ) → IsReadingOf before mid reader
@@ -110,7 +113,10 @@ pub reading-shown : (before mid after : Option Session) (reader : ReaderValue) (
 reading-shown None mid after reader text reads shows = tt
 reading-shown (Some before) None after reader text reads shows = absurd reads
 reading-shown (Some before) (Some mid) after reader text reads shows =
-    subst (λ (s : Option Session). IsReadingOf (Some before) s reader) (sym shows) (record { is = reads.is; ended = reads.ended })
+    subst (λ (s : Option Session). IsReadingOf (Some before) s reader) (sym shows) (
+      record { is = reads.0.is; ended = reads.0.ended },
+      λ running. let on = reads.1 running in record { added = on.added; asked = on.asked; each = on.each },
+    )
 
 -- a reader takes it
 pub reading-taken : (before mid after : Option Session) (old new : ReaderValue) → IsReadingOf before mid old → Takes old new mid after
@@ -118,7 +124,19 @@ pub reading-taken : (before mid after : Option Session) (old new : ReaderValue) 
 reading-taken None mid after old new reads takes = tt
 reading-taken (Some before) None after old new reads takes = absurd reads
 reading-taken (Some before) (Some mid) None old new reads takes = absurd takes.told
-reading-taken (Some before) (Some mid) (Some after) old new reads takes = still_reading old new mid after before.left takes reads
+reading-taken (Some before) (Some mid) (Some after) old new reads takes =
+    let added = asked_by (length mid.left) (length mid.shown) takes.pieces in (
+      still_reading old new mid after before.left takes reads.0,
+      λ running.
+          let some = not_ended old.is_ended new.is_ended _ takes.ended running in
+          let on = reads.1 some.0 in
+          record {
+            added = on.added ++ added;
+            asked = takes.told.asked ∙ ap (λ a. a ++ added) on.asked ∙ append_assoc before.asked on.added added;
+            each = each_both WasMoreLeft on.added added on.each
+                (more_left mid.left after.left (length mid.shown) takes.pieces takes.told.left some.1);
+          },
+    )
 
 -- ---- reads while a line is wanted
 
@@ -175,7 +193,7 @@ asks-line acts (Some before) None after said old new all count reads takes few a
 asks-line acts (Some before) (Some mid) None said old new all count reads takes few asks = absurd takes.told
 asks-line acts (Some before) (Some mid) (Some after) said old new all count reads takes few asks =
     let added = asked_by (length mid.left) (length mid.shown) takes.pieces in
-    let now = still_reading old new mid after before.left takes reads in
+    let now = still_reading old new mid after before.left takes reads.0 in
     let longer : AsksBy (acts ++ Asks ∷ []) (Some before) (Some mid) said = asks-longer acts (Asks ∷ []) (Some before) (Some mid) said asks in
     record {
       moved = record { taken = new.taken; left = now.is; few = few; shown = takes.told.shown ∙ asks.moved.shown };
@@ -183,15 +201,21 @@ asks-line acts (Some before) (Some mid) (Some after) said old new all count read
       asked = takes.told.asked ∙ ap (λ a. a ++ added) asks.asked ∙ append_assoc before.asked asks.added added;
       each = each_both (IsAskedFor (acts ++ Asks ∷ []) before said) asks.added added
           (each_as (IsAskedFor acts before said) (IsAskedFor (acts ++ Asks ∷ []) before said) asks.added (one_longer) asks.each)
-          (each_here acts [] before mid after said old new old.is_ended refl count all asks.moved.shown reads takes);
+          (each_here acts [] before mid after said old new old.is_ended refl count all asks.moved.shown reads.0 takes);
+      last = last_more mid after old new old.is_ended asks.added refl asks.last (λ running. all_more (reads.1 running)) takes;
       none = λ none.
           let first : asks.moved.taken ≡ [] = asks.none (none_left asks.added added none) in
           let old_none : old.taken ≡ [] =
-          nothing_taken old.taken mid.left before.left (asks.moved.left ∙ ap (λ t. t ++ mid.left) first) reads.is in
+          nothing_taken old.taken mid.left before.left (asks.moved.left ∙ ap (λ t. t ++ mid.left) first) reads.0.is in
           takes.taken ∙ ap (λ t. t ++ concat takes.pieces) old_none
           ∙ no_pieces (length mid.left) (length mid.shown) takes.pieces (none_right asks.added added none);
     }
   where
+    all_more : HasReadOn before mid → AllByRecursion WasMoreLeft asks.added
+    all_more on =
+        subst (λ (reads : List (ℕ × ℕ)). AllByRecursion WasMoreLeft reads)
+        (append_cancel_left before.asked on.added asks.added (sym on.asked ∙ asks.asked)) on.each
+
     one_longer : (read : ℕ × ℕ) → IsAskedFor acts before said read → IsAskedFor (acts ++ Asks ∷ []) before said read
     one_longer read asked =
         subst (λ (s : List ℕ). IsAskedFor (acts ++ Asks ∷ []) before s read) (append-nil said)

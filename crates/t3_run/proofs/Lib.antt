@@ -1,6 +1,7 @@
 pub mod Acts
 pub mod Shown
 pub mod Cutting
+mod LastReads
 pub mod Asks
 pub mod Runs
 mod Screens

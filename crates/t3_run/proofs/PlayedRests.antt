@@ -1,5 +1,5 @@
 -- What is the rest of a play where a text is said, a line or a file is wanted, a file is put, an instruction is finished, and where it begins and ends.
-use Rattle.std.proofs.Common.{◌≡◌, ℕ, ◌+◌, List, [], ◌∷◌, ◌++◌, Option, Some, None, Ok, refl, sym, ap, subst, ◌∙◌}
+use Rattle.std.proofs.Common.{◌≡◌, ℕ, ◌+◌, List, [], ◌∷◌, ◌++◌, Option, Some, None, Ok, refl, sym, ap, subst, ◌∙◌, append-nil}
 use Rattle.std.specs.Global.{Vec}
 use Rattle.std.specs.Option.{option_map}
 use Rattle.std.specs.Vec.{vec_items}
@@ -175,7 +175,10 @@ played-none play state is = record {
   where
     none : (before : Option Session) → IsReadingOf before before new_reader
     none None = tt
-    none (Some session) = record { is = refl; ended = λ ended. absurd cc }
+    none (Some session) = (
+      record { is = refl; ended = λ ended. absurd cc },
+      λ running. record { added = []; asked = sym (append-nil session.asked); each = tt },
+    )
 
     stays : (files : Option Files) → LeavesActs files files []
     stays None = tt

@@ -1,5 +1,5 @@
 -- What is taken of a console's input while a command is carried out, and when.
-use Rattle.std.specs.Prelude.{◌≡◌, ℕ, ◌+◌, ◌≤◌, List, [], ◌++◌, length, Option, Some, None}
+use Rattle.std.specs.Prelude.{◌≡◌, ℕ, ◌+◌, ◌≤◌, List, [], ◌∷◌, ◌++◌, length, Option, Some, None}
 use Rattle.std.specs.List.{AllByRecursion}
 use Rattle.t3_io.specs.Session.{Session}
 use Rattle.t3_lines.specs.Lines.{limit, ended_lines}
@@ -30,12 +30,19 @@ pub record HasMoved (before after : Session) (said : List ℕ) : Type 0 where
   pub few : length taken ≤ limit
   pub shown : after.shown ≡ before.shown ++ said
 
--- and each read was made when a line was wanted of these acts; without a read nothing was taken
+-- a read that was made when nothing of the input was left is the last of these
+abbrev pub IsLastAtEnd : List (ℕ × ℕ) → Type 0
+IsLastAtEnd [] = Unit {0}
+IsLastAtEnd (read ∷ reads) = (read.0 ≡ 0 → reads ≡ []) × IsLastAtEnd reads
+
+-- and each read was made when a line was wanted of these acts, and none behind one that was made at the input's end; without a read nothing was
+-- taken
 pub record HasAsked (acts : List Act) (before after : Session) (said : List ℕ) : Type 0 where
   pub moved : HasMoved before after said
   pub added : List (ℕ × ℕ)
   pub asked : after.asked ≡ before.asked ++ added
   pub each : AllByRecursion (IsAskedFor acts before said) added
+  pub last : IsLastAtEnd added
   pub none : added ≡ [] → moved.taken ≡ []
 
 -- nothing is claimed of a console that doesn't tell

@@ -1,5 +1,6 @@
 -- What the functions that carry a run out have done of it, and what is the rest.
-use Rattle.std.specs.Prelude.{◌≡◌, ℕ, ◌+◌, false, List, [], ◌∷◌, ◌++◌, Option, Some, None, Result, Ok, Err}
+use Rattle.std.specs.Prelude.{◌≡◌, ℕ, ◌+◌, ◌<◌, false, List, [], ◌∷◌, ◌++◌, Option, Some, None, Result, Ok, Err}
+use Rattle.std.specs.List.{AllByRecursion}
 use Rattle.t3_io.specs.Files.{Files}
 use Rattle.t3_io.specs.Session.{Session}
 use Rattle.t3_io.specs.declared.refusal.DeviceRefusal.{DeviceRefusal}
@@ -64,11 +65,18 @@ NoPuts (Shows text ∷ acts) = NoPuts acts
 NoPuts (Puts name bytes ∷ acts) = ⊥
 NoPuts (Asks ∷ acts) = NoPuts acts
 
--- of the input that the console had, where it tells it, the reader has taken what isn't left
+-- the reads that were added, each of which was made when some of the input was left
+pub record HasReadOn (before now : Session) : Type 0 where
+  pub added : List (ℕ × ℕ)
+  pub asked : now.asked ≡ before.asked ++ added
+  pub each : AllByRecursion (λ read. 0 < read.0) added
+
+-- of the input that the console had, where it tells it, the reader has taken what isn't left, and until it has come to the end each read was made
+-- when some was
 abbrev pub IsReadingOf : Option Session → Option Session → ReaderValue → Type 0
 IsReadingOf None now reader = Unit {0}
 IsReadingOf (Some before) None reader = ⊥
-IsReadingOf (Some before) (Some now) reader = IsReading before.left reader now
+IsReadingOf (Some before) (Some now) reader = IsReading before.left reader now × (reader.is_ended ≡ false → HasReadOn before now)
 
 -- the rest of a run, by the files that there are then
 abbrev pub Rests : Type 1

@@ -61,4 +61,5 @@ returns-clause-good c =
             (good-started IsGoodHolder program.limits program.first program.passing program.next good.first good.passing good.next);
         say = tt;
       };
+      limits = ap (λ (s : StoreValue). s.limits) store_is;
     })

@@ -6,6 +6,7 @@ use Rattle.t3_interp.specs.Step.{Steps, Goes}
 use Rattle.t3_interp.specs.View.{state_of, comes_to}
 use Rattle.t3_interp.specs.Inner.Acting.{HasGone}
 use Rattle.t3_interp.proofs.Runs.{one_gone}
+use Rattle.t3_interp.proofs.Going.{steady_one}
 use Rattle.t3_interp.proofs.running.Running.step.Goals as goal
 
 pub returns-clause-step : goal.returns-clause-step
@@ -20,3 +21,8 @@ returns-clause-step c =
         let one : new.steps - old.steps ≡ 1 = omega (arith, some, bound) in
         one_gone program (state_of old) (comes_to new) (subst (λ n. Goes program n (state_of old) (comes_to new)) one gone.goes)
     stepped program old new (Err refusal) gone some bound = tt
+
+pub returns-clause-steady : goal.returns-clause-steady
+returns-clause-steady c =
+    steady_one c.args.program.now (state_of c.args.self.now) (c.args.self.now.steps + 1 - c.args.self.now.steps) c.advance.result (omega arith)
+    c.advance.ensures.steady
