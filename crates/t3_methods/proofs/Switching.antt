@@ -1,8 +1,11 @@
 -- The cases of a switch: which stands at an address, and what is known of them while they are gone over.
-use Rattle.std.proofs.Common.{◌≡◌, ℕ, zero, suc, ℤ, ◌+◌, ◌*◌, ◌^◌, ◌<◌, ◌≤◌, List, length, take, Option, Some, None, IfSome, is_some, Bool, IsTrue, inl, inr, sym, ap, ◌∙◌, subst, rules, arith, w16}
+use Rattle.std.proofs.Common.{◌≡◌, ℕ, zero, suc, ℤ, pos, negsuc, ◌+◌, ◌*◌, ◌^◌, ◌<◌, ◌≤◌, List, length, take, Option, Some, None, IfSome, is_some, Bool, IsTrue, inl, inr, sym, ap, ◌∙◌, subst, rules, arith, w16}
 use mir.Val.{to_z, of_z}
 use Rattle.std.proofs.lemmas.Bool.{cases_lt}
-use Rattle.std.proofs.lemmas.Int.{of_z-to_z, ints}
+use Rattle.std.specs.Int.{cast_signed}
+use Rattle.std.specs.Option.{option_map}
+use Rattle.std.proofs.lemmas.Int.{of_z-to_z, to_z-of_z, ints}
+use Rattle.std.proofs.lemmas.Option.{same_Some}
 use Rattle.std.specs.Int.RustNames.{FitsSigned}
 use Rattle.std.specs.FinMap.{get}
 use Rattle.t3_holder.specs.NumberText.{little_endian, twos_complement}
@@ -12,8 +15,11 @@ use Rattle.t3_holder.specs.declared.holder.Holder.{Holder}
 use Rattle.t3_holder.proofs.Numbers.{length-little_endian}
 use Rattle.t3_holder.proofs.Holders.{one_raw}
 use Rattle.t3_pools.specs.Pool.{Pool, HasBytes}
-use Rattle.t3_pools.proofs.Standing.{same_bytes}
+use Rattle.t3_pools.specs.Constants.{HasHolder, number_in}
+use Rattle.t3_pools.proofs.Standing.{same_bytes, number_in-stands}
+use Rattle.t3_pools.proofs.Lists.{holder_in-stands}
 use Rattle.t3_methods.specs.Operands.{HasJump, HasCase, HasCases}
+use Rattle.t3_methods.specs.Answers.{FindsCase}
 use Rattle.t3_methods.specs.Inner.Window.{Shows, ShowsAll, number_at}
 use Rattle.t3_methods.specs.Inner.Cases.{DecidesSwitch, FindsJump}
 use Rattle.t3_methods.proofs.Shown.{part, number_less, number_stands, short}
@@ -150,3 +156,30 @@ case_none code there place none beyond same holder jump has =
       | inl near ↦ none holder jump (subst (λ (n : ℕ). HasCase code n holder jump) (sym (same near)) has)
       | inr far ↦ case_beyond code there holder jump (beyond there (omega arith)) has
     ]
+
+-- ---- one case at an address
+
+one_holder : (code : Pool) (at : ℕ) (a b : Holder) → HasHolder code at a → HasHolder code at b → a ≡ b
+one_holder code at a b has_a has_b = same_Some a b (sym (holder_in-stands code at a has_a) ∙ holder_in-stands code at b has_b)
+
+bits_fit : (z : ℤ) → FitsSigned w16 z → twos_complement 2 z < 256 ^ 2
+bits_fit (pos n) fits = omega (arith, fits)
+bits_fit (negsuc n) fits = omega (arith, fits)
+
+-- the distance that stands is the one that is read
+pub jump_stands : (code : Pool) (at : ℕ) (z : ℤ) → HasJump code at z → option_map (cast_signed w16) (number_in 2 code at) ≡ Some z
+jump_stands code at z has =
+    ap (option_map (cast_signed w16)) (number_in-stands code 2 (twos_complement 2 z) at (bits_fit z has.fits) has.stands)
+    ∙ ap Some (to_z-of_z w16 z has.fits)
+
+one_jump : (code : Pool) (at : ℕ) (y z : ℤ) → HasJump code at y → HasJump code at z → y ≡ z
+one_jump code at y z has_y has_z = same_Some y z (sym (jump_stands code at y has_y) ∙ jump_stands code at z has_z)
+
+-- what finds a case finds the one that stands there
+pub finds_only : (code : Pool) (at nth : ℕ) (found : Option (Holder × ℕ × ℤ)) → FindsCase code at nth found → (holder : Holder) (jump : ℤ)
+    → HasCase code (at + 7 * nth) holder jump → found ≡ Some (holder, at + 7 * nth + 5, jump)
+finds_only code at nth None finds holder jump has = absurd (finds holder jump has)
+finds_only code at nth (Some found) finds holder jump has =
+    let same_holder : found.0 ≡ holder = one_holder code (at + 7 * nth) found.0 holder finds.0.has_holder has.has_holder in
+    let same_jump : found.2 ≡ jump = one_jump code (at + 7 * nth + 5) found.2 jump finds.0.has_jump has.has_jump in
+    λ i. Some (same_holder i, finds.1 i, same_jump i)

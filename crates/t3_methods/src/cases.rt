@@ -1,6 +1,8 @@
 //! The cases of a switch.
-ghost use Rattle.std.specs.Prelude.{◌≡◌, ℕ, ◌+◌, ◌*◌, ◌^◌, ◌<◌, ◌≤◌, None, IfSome, IsTrue};
+ghost use Rattle.std.specs.Prelude.{◌≡◌, ℕ, ℤ, ◌+◌, ◌*◌, ◌^◌, ◌<◌, ◌≤◌, None, Some, IfSome, IsTrue};
 ghost use Rattle.std.specs.FinMap.{get};
+ghost use Rattle.t3_holder.specs.declared.holder.Holder.{Holder as AnyHolder};
+ghost use Rattle.t3_methods.specs.Operands.{HasCase};
 ghost use Rattle.t3_methods.specs.Answers.{FindsCase};
 ghost use Rattle.t3_methods.specs.Inner.Cases.{DecidesSwitch, FindsJump, ReadsCase};
 
@@ -61,10 +63,12 @@ fn read_jump(pools: &Pools, at: u32) -> Option<i16>
 }
 
 /// The case of a switch of this number, from 0, where the first stands at `at`: its holder, the address
-/// of its distance, and that distance. `None` exactly where no such case stands there, since bytes are
-/// missing or its holder means nothing. It takes no memory.
+/// of its distance, and that distance; of an address there is one case at most. `None` exactly where no
+/// such case stands there, since bytes are missing or its holder means nothing. It takes no memory.
 pub fn case_at(pools: &Pools, at: u32, nth: u16) -> Option<(Holder, u32, i16)>
     ensures finds { FindsCase pools.now.code at nth result }
+    ensures only { (holder : AnyHolder) (jump : ℤ) → HasCase pools.now.code (at + 7 * nth) holder jump
+        → result ≡ Some (holder, at + 7 * nth + 5, jump) }
     ensures bounded { IfSome result (λ found. found.1 + 2 < 2 ^ 31) }
 {
     // An address that passes 32 bits has no case, as the last one of 32 bits hasn't.

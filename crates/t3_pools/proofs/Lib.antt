@@ -3,6 +3,7 @@ pub mod Bytes
 pub mod Kept
 pub mod Placing
 pub mod Rules
+pub mod Decided
 pub mod Standing
 pub mod Utf8
 pub mod Meaning

@@ -75,13 +75,29 @@ Keeps some blocks = AllByRecursion (λ rule. ¬ Breaks rule blocks) some
 abbrev pub KeepsRules : List PlacedBlock → Type 0
 KeepsRules blocks = Keeps rules blocks
 
--- the first rule that an image breaks; want of memory says only that the rules on definitions are kept, since to sort pages takes memory before
+-- the first of the rules that an image breaks
+abbrev pub BreaksFirst : List PlacedBlock → PoolRefusal → Type 0
+BreaksFirst blocks why = IsFirst (λ rule. Breaks rule blocks) rules why
+
+-- why an image has no pools: the first rule that it breaks; want of memory says only that the rules on definitions are kept, since to sort pages takes memory before
 -- their rules are tried
 abbrev pub Refuses : PoolRefusal → List PlacedBlock → Type 0
 Refuses NoMemory blocks = Keeps definition_rules blocks
-Refuses why blocks = IsFirst (λ rule. Breaks rule blocks) rules why
+Refuses why blocks = BreaksFirst blocks why
 
 -- the pools of an image that breaks no rule, or why it has none
 abbrev pub Builds : List PlacedBlock → Result PoolsValue PoolRefusal → Type 0
 Builds blocks (Ok pools) = KeepsRules blocks × (pools ≡ pools_in blocks)
 Builds blocks (Err why) = Refuses why blocks
+
+-- these pools, or memory ran out
+abbrev pub GivesOnly : PoolsValue → Result PoolsValue PoolRefusal → Type 0
+GivesOnly pools (Ok built) = built ≡ pools
+GivesOnly pools (Err NoMemory) = Unit {0}
+GivesOnly pools (Err _) = ⊥
+
+-- this refusal, or memory ran out
+abbrev pub GivesRefusal : PoolRefusal → Result PoolsValue PoolRefusal → Type 0
+GivesRefusal why (Ok built) = ⊥
+GivesRefusal why (Err NoMemory) = Unit {0}
+GivesRefusal why (Err answer) = answer ≡ why

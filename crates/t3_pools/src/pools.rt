@@ -1,7 +1,8 @@
 ghost use Rattle.std.specs.Prelude.{◌≡◌, ◌≢◌, ℕ, None, ◌<◌, ◌≤◌, ◌+◌, ◌*◌, ◌^◌, [], length, IfOk, IfSome};
 ghost use Rattle.std.specs.FinMap.{get};
 ghost use Rattle.t3_pools.specs.Pool.{numbered, page_size_of, pools_in, HasBytes, ReachesPageEnd};
-ghost use Rattle.t3_pools.specs.Building.{Builds};
+ghost use Rattle.t3_pools.specs.Building.{BreaksFirst, Builds, GivesOnly, GivesRefusal, KeepsRules};
+ghost use Rattle.t3_pools.specs.declared.refusal.PoolRefusal.{PoolRefusal as AnyRefusal};
 ghost use Rattle.t3_pools.specs.Constants.{FindsText, FindsHolder, FindsList, extent_of, text_in, list_in, holder_in, IsOfBytes};
 
 use crate::paged::PagedPool;
@@ -41,6 +42,15 @@ impl Pools {
     pub fn build(alloc: Global, image: &Image) -> Result<Pools, PoolRefusal>
         ensures built { IfOk result (λ pools. pools ≡ pools_in image.now.blocks) }
         ensures decides { Builds image.now.blocks result }
+        ensures only { KeepsRules image.now.blocks → GivesOnly (pools_in image.now.blocks) result }
+        ensures refuses { (why : AnyRefusal) → BreaksFirst image.now.blocks why → GivesRefusal why result }
+    {
+        Pools::by_rules(alloc, image)
+    }
+
+    /// The same, by the rules in their order.
+    fn by_rules(alloc: Global, image: &Image) -> Result<Pools, PoolRefusal>
+        ensures { Builds image.now.blocks result }
     {
         let (code, constants) = gathered(alloc, &image.blocks.0)?;
         Ok(Pools {
