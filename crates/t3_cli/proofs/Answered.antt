@@ -1,11 +1,13 @@
 -- What followed an outcome of the words answers them.
-use Rattle.std.proofs.Common.{◌≡◌, ◌≢◌, ℕ, List, [], Option, Some, None, Ok, IfSome, refl, sym, ap, subst, ◌∙◌, inl, inr}
+use Rattle.std.proofs.Common.{◌≡◌, ◌≢◌, ℕ, List, [], Option, Some, None, Ok, Err, IfSome, refl, sym, ap, subst, ◌∙◌, inl, inr}
 use Rattle.t3_io.specs.Files.{Files}
 use Rattle.t3_io.specs.Session.{Session}
-use Rattle.t3_cli.specs.declared.images.read.ReadImage.{ReadImage}
-use Rattle.t3_cli.specs.declared.images.read.ReadImage.TheVariants as read
+use Rattle.t3_io.specs.Cause.{MovesFaults}
+use Rattle.t3_io.specs.declared.refusal.DeviceRefusal.TheVariants as device
+use Rattle.t3_cli.specs.declared.images.unread.Unread.{Unread}
+use Rattle.t3_cli.specs.declared.images.unread.Unread.TheVariants as unread
 use Rattle.t3_cli.specs.declared.status.Status.{Status}
-use Rattle.t3_cli.specs.declared.status.Status.TheVariants.{Done, Usage, Absent, ImageRefused, LoadRefused, SourceRefused}
+use Rattle.t3_cli.specs.declared.status.Status.TheVariants.{Done, Usage, Absent, ImageRefused, LoadRefused, SourceRefused, DepotFault}
 use Rattle.t3_run.specs.declared.stop.Stop.{Stop}
 use Rattle.t3_run.specs.declared.stop.Stop.TheVariants.{Ends}
 use Rattle.t3_run.specs.Asking.{IsInput}
@@ -14,17 +16,17 @@ use Rattle.t3_run.proofs.Shown.{shows_nothing}
 use Rattle.t3_run.proofs.Asks.{asks-none, asks-moves}
 use Rattle.t3_interp.specs.declared.event.End.TheVariants as ends
 use Rattle.t3_cli.specs.Cause.{Cause}
-use Rattle.t3_image_read.specs.declared.reader.Totals.{Totals}
 use Rattle.t3_image_read.specs.ImageText.{ImageValue}
-use Rattle.t3_words.specs.Command.{CommandValue, Check, Rewrite}
-use Rattle.t3_cli.specs.Lines.{usage_line}
+use Rattle.t3_words.specs.Command.{CommandValue}
+use Rattle.t3_cli.specs.Lines.{usage_line, absent_line, refused_line, bad_line}
 use Rattle.t3_cli.specs.Plan.{Plan, Showing, Putting, Running, plan_of}
 use Rattle.t3_cli.specs.Outcome.{Outcome, showing, IsResult, IsPlanOutcome, status_of}
-use Rattle.t3_words.specs.Input.{input_of}
-use Rattle.t3_cli.specs.Top.{CutsShort, IsWhole, IsCut, IsShown, MovesSome, HasExactCause}
-use Rattle.t3_cli.specs.Inner.Reading.{ReadsInput}
-use Rattle.t3_cli.specs.Inner.Following.{Answers, Follows, FollowsSome, IsReadOutcome, IsCountedOutcome, IsWrittenOutcome}
-use Rattle.t3_cli.proofs.Results.{read_result}
+use Rattle.t3_words.specs.Input.{input_of, file_of}
+use Rattle.t3_cli.specs.Top.{CountsFaults, CutsShort, IsWhole, IsCut, IsShown, MovesSome, HasExactCause}
+use Rattle.t3_cli.specs.Inner.Unread.{IsUnread, device_answer}
+use Rattle.t3_cli.specs.Inner.Showing.{ShowsOrWants}
+use Rattle.t3_cli.specs.Inner.Following.{Answers, Follows, Carries, IsCommandOutcome, TellsUnread, FailsBy}
+use Rattle.t3_cli.proofs.Unreads.{absent_outcome, refused_outcome, bad_outcome, image_outcome}
 use Rattle.t3_cli.proofs.Causes.{exact_cause, result_not_cut}
 use Rattle.t3_cli.proofs.Followed.{input_in, text_follows}
 
@@ -58,32 +60,94 @@ answers_by command files left before after answer input outcome is_input result 
       }),
     )
 
--- ---- a command
-
--- what was done with what was read of the command's file
-pub read_answers : (command : CommandValue) (all left : Option Files) (before after : Option Session) (answer : Status) (found : ReadImage)
-    → ReadsInput all (input_of command) (Ok found) → FollowsSome (IsReadOutcome command found) all left before after answer
-    → IfSome all (λ files. Answers (Some command) files before answer left after)
-read_answers command None left before after answer found reads follows = tt
-read_answers command (Some files) left before after answer found reads (input, is_input, outcome, gives, follows) =
-    answers_by (Some command) files left before after answer input outcome is_input (read_result command files input found outcome reads gives) follows
-
--- nothing was done
-pub untouched_answers : (command : Option CommandValue) (all left : Option Files) (before : Option Session) (answer : Status) → left ≡ all
-    → CutsShort answer
-    → IfSome all (λ files. Answers command files before answer left before)
-untouched_answers command None left before answer same cut = tt
-untouched_answers command (Some files) left before answer same cut = inr (cut, inl (same, refl))
-
-pub follows_some : (IsOutcome : Option Files → List ℕ → Outcome → Type 0) (all left : Option Files) (before after : Option Session) (answer : Status)
-    → FollowsSome IsOutcome all left before after answer → MovesSome before after
-follows_some IsOutcome all left before after answer (input, is_input, outcome, gives, inl whole) =
-    (shown_by outcome.acts, asks-moves outcome.acts before after (shown_by outcome.acts) whole.asks)
-follows_some IsOutcome all left before after answer (input, is_input, outcome, gives, inr breaks) =
-    (breaks.said, asks-moves outcome.acts before after breaks.said breaks.asks)
-
 pub some_nothing : (before : Option Session) → MovesSome before before
 some_nothing before = ([], asks-moves [] before before [] (asks-none [] before before [] (shows_nothing before)))
+
+pub shown_some : (before after : Option Session) (text : List ℕ) (status answer : Status) → IsShown before after text status answer
+    → MovesSome before after
+shown_some before after text status answer (inl whole) = (text, asks-moves [] before after text (asks-none [] before after text whole.shows))
+shown_some before after text status answer (inr cut) = (cut.said, asks-moves [] before after cut.said (asks-none [] before after cut.said cut.shows))
+
+-- ---- a command with its image
+
+-- an outcome of a command with its image is one of the words
+command_result : (command : CommandValue) (files : Files) (input : List ℕ) (outcome : Outcome) → IsCommandOutcome command (Some files) input outcome
+    → IsResult (Some command) files input outcome
+command_result command files input outcome (image, has, gives) = image_outcome command (input_of command) files input image outcome has gives
+
+pub command_answers : (command : CommandValue) (all left : Option Files) (before after : Option Session) (answer : Status)
+    → Carries command all left before after (Ok answer) → IfSome all (λ files. Answers (Some command) files before answer left after)
+command_answers command None left before after answer carries = tt
+command_answers command (Some files) left before after answer (input, is_input, outcome, gives, follows) =
+    answers_by (Some command) files left before after answer input outcome is_input (command_result command files input outcome gives) follows
+
+pub command_moves : (command : CommandValue) (all left : Option Files) (before after : Option Session) (answer : Status)
+    → Carries command all left before after (Ok answer) → MovesSome before after
+command_moves command all left before after answer (input, is_input, outcome, gives, inl whole) =
+    (shown_by outcome.acts, asks-moves outcome.acts before after (shown_by outcome.acts) whole.asks)
+command_moves command all left before after answer (input, is_input, outcome, gives, inr breaks) =
+    (breaks.said, asks-moves outcome.acts before after breaks.said breaks.asks)
+
+-- ---- a command without one
+
+-- a line was shown, or memory was wanting for it
+line_answers : (command : CommandValue) (files : Files) (before after : Option Session) (text : List ℕ) (status answer : Status)
+    → ((input : List ℕ) → IsResult (Some command) files input (showing status text)) → ShowsOrWants before after text status answer
+    → Answers (Some command) files before answer (Some files) after
+line_answers command files before after text status answer gives shown =
+    let input = input_in before in
+    answers_by (Some command) files (Some files) before after answer input.0 (showing status text) input.1 (gives input.0)
+    (text_follows (Some files) before after text status answer shown)
+
+tells_answers : (command : CommandValue) (files : Files) (before after : Option Session) (answer : Status) (why : Unread)
+    → IsUnread (input_of command) why files → TellsUnread (file_of (input_of command)) why before after answer
+    → Answers (Some command) files before answer (Some files) after
+tells_answers command files before after answer unread.Absent is tells =
+    line_answers command files before after (absent_line (file_of (input_of command))) Absent answer
+    (λ input. absent_outcome command (input_of command) files input is) tells
+tells_answers command files before after answer (unread.Refused place why) is tells =
+    line_answers command files before after (refused_line why place) ImageRefused answer
+    (λ input. refused_outcome command (input_of command) files input place why is) tells
+tells_answers command files before after answer (unread.BadLine line why) is tells =
+    line_answers command files before after (bad_line line why) SourceRefused answer
+    (λ input. bad_outcome command (input_of command) files input line why is) tells
+tells_answers command files before after answer (unread.Failed refusal) is tells = inr (tells.0, inl (refl, tells.1))
+
+pub unread_answers : (command : CommandValue) (all left : Option Files) (before mid after : Option Session) (answer : Status) (why : Unread)
+    → Carries command all left before mid (Err why) → TellsUnread (file_of (input_of command)) why mid after answer
+    → IfSome all (λ files. Answers (Some command) files before answer left after)
+unread_answers command None left before mid after answer why carries tells = tt
+unread_answers command (Some files) left before mid after answer why carries tells =
+    subst (λ (l : Option Files). Answers (Some command) files before answer l after) (sym carries.1)
+    (tells_answers command files before after answer why carries.0
+    (subst (λ (s : Option Session). TellsUnread (file_of (input_of command)) why s after answer) carries.2 tells))
+
+shown_moves : (before after : Option Session) (text : List ℕ) (status answer : Status) → ShowsOrWants before after text status answer
+    → MovesSome before after
+shown_moves before after text status answer (inl shown) = shown_some before after text status answer shown
+shown_moves before after text status answer (inr wants) = subst (λ (s : Option Session). MovesSome before s) (sym wants.1) (some_nothing before)
+
+tells_moves : (name : List ℕ) (why : Unread) (before after : Option Session) (answer : Status) → TellsUnread name why before after answer
+    → MovesSome before after
+tells_moves name unread.Absent before after answer tells = shown_moves before after _ Absent answer tells
+tells_moves name (unread.Refused place why) before after answer tells = shown_moves before after _ ImageRefused answer tells
+tells_moves name (unread.BadLine line why) before after answer tells = shown_moves before after _ SourceRefused answer tells
+tells_moves name (unread.Failed refusal) before after answer tells =
+    subst (λ (s : Option Session). MovesSome before s) (sym tells.1) (some_nothing before)
+
+pub unread_moves : (command : CommandValue) (all left : Option Files) (before mid after : Option Session) (answer : Status) (why : Unread)
+    → Carries command all left before mid (Err why) → TellsUnread (file_of (input_of command)) why mid after answer → MovesSome before after
+unread_moves command all left before mid after answer why carries tells =
+    subst (λ (s : Option Session). MovesSome s after) carries.2 (tells_moves (file_of (input_of command)) why mid after answer tells)
+
+-- a fault of the depot was counted where it is answered
+pub counts_told : (before after : ℕ) (why : Unread) (answer : Status) → MovesFaults before after (device_answer why) → FailsBy why answer
+    → CountsFaults (answer ≡ DepotFault) before after
+counts_told before after unread.Absent answer moves fails = (λ is. absurd (fails is), inr moves)
+counts_told before after (unread.Refused place why) answer moves fails = (λ is. absurd (fails is), inr moves)
+counts_told before after (unread.BadLine line why) answer moves fails = (λ is. absurd (fails is), inr moves)
+counts_told before after (unread.Failed device.Fault) answer moves fails = (λ is. moves, inl fails)
+counts_told before after (unread.Failed device.NoMemory) answer moves fails = (λ is. absurd (fails is), inr moves)
 
 -- ---- only words that are no command end in the usage
 
@@ -109,31 +173,26 @@ plan_not_usage (Running options actions) image files input outcome (inl (why, lo
 plan_not_usage (Running options actions) image files input outcome (inr (ran, runs, is)) =
     λ same. stop_not_usage ran.stop (sym (ap (λ (o : Outcome). o.status) is) ∙ same)
 
-counted_not_usage : (command : CommandValue) (totals : Totals) (outcome : Outcome) → IsCountedOutcome command totals outcome
-    → outcome.status ≢ Usage
-counted_not_usage (Check name) totals outcome is = other_status outcome Done _ is (λ e. absurd cc)
-counted_not_usage _ totals outcome is = absurd is
+pub command_not_usage : (command : CommandValue) (all left : Option Files) (before after : Option Session) (answer : Status)
+    → Carries command all left before after (Ok answer) → answer ≢ Usage
+command_not_usage command all left before after answer (input, is_input, outcome, gives, inl whole) =
+    λ is. plan_not_usage (plan_of command gives.0) gives.0 all input outcome gives.2 (sym whole.status ∙ is)
+command_not_usage command all left before after answer (input, is_input, outcome, gives, inr breaks) = cut_not_usage answer breaks.cut
 
-written_not_usage : (command : CommandValue) (mask : Option ℕ) (written : List ℕ) (outcome : Outcome)
-    → IsWrittenOutcome command mask written outcome → outcome.status ≢ Usage
-written_not_usage (Rewrite name out under) mask written outcome is =
-    λ same. let clash : Done ≡ Usage = sym (ap (λ (o : Outcome). o.status) is) ∙ same in absurd cc
-written_not_usage _ mask written outcome is = absurd is
+line_not_usage : (before after : Option Session) (text : List ℕ) (status answer : Status) → status ≢ Usage
+    → ShowsOrWants before after text status answer → answer ≢ Usage
+line_not_usage before after text status answer other (inl (inl whole)) = λ is. other (sym whole.same ∙ is)
+line_not_usage before after text status answer other (inl (inr cut)) = cut_not_usage answer cut.cut
+line_not_usage before after text status answer other (inr wants) = cut_not_usage answer (subst CutsShort (sym wants.0) tt)
 
-read_not_usage : (command : CommandValue) (found : ReadImage) (files : Option Files) (input : List ℕ) (outcome : Outcome)
-    → IsReadOutcome command found files input outcome → outcome.status ≢ Usage
-read_not_usage command read.Absent files input outcome is = other_status outcome Absent _ is (λ e. absurd cc)
-read_not_usage command (read.Refused place why) files input outcome is = other_status outcome ImageRefused _ is (λ e. absurd cc)
-read_not_usage command (read.BadLine line why) files input outcome is = other_status outcome SourceRefused _ is (λ e. absurd cc)
-read_not_usage command (read.Counted totals) files input outcome is = counted_not_usage command totals outcome is
-read_not_usage command (read.Rewritten mask written) files input outcome is = written_not_usage command mask written.items outcome is.1
-read_not_usage command (read.Image image) files input outcome is = plan_not_usage (plan_of command image) image files input outcome is
-
-pub follows_not_usage : (command : CommandValue) (found : ReadImage) (all left : Option Files) (before after : Option Session) (answer : Status)
-    → FollowsSome (IsReadOutcome command found) all left before after answer → answer ≢ Usage
-follows_not_usage command found all left before after answer (input, is_input, outcome, gives, inl whole) =
-    λ is. read_not_usage command found all input outcome gives (sym whole.status ∙ is)
-follows_not_usage command found all left before after answer (input, is_input, outcome, gives, inr breaks) = cut_not_usage answer breaks.cut
+pub unread_not_usage : (name : List ℕ) (why : Unread) (before after : Option Session) (answer : Status) → TellsUnread name why before after answer
+    → answer ≢ Usage
+unread_not_usage name unread.Absent before after answer tells = line_not_usage before after _ Absent answer (λ e. absurd cc) tells
+unread_not_usage name (unread.Refused place why) before after answer tells =
+    line_not_usage before after _ ImageRefused answer (λ e. absurd cc) tells
+unread_not_usage name (unread.BadLine line why) before after answer tells =
+    line_not_usage before after _ SourceRefused answer (λ e. absurd cc) tells
+unread_not_usage name (unread.Failed refusal) before after answer tells = cut_not_usage answer tells.0
 
 -- ---- words that are no command
 
@@ -144,11 +203,6 @@ usage_answers (Some files) before after answer shown =
     let input = input_in before in
     answers_by None files (Some files) before after answer input.0 (showing Usage usage_line) input.1 refl
     (text_follows (Some files) before after usage_line Usage answer (inl shown))
-
-pub shown_some : (before after : Option Session) (text : List ℕ) (status answer : Status) → IsShown before after text status answer
-    → MovesSome before after
-shown_some before after text status answer (inl whole) = (text, asks-moves [] before after text (asks-none [] before after text whole.shows))
-shown_some before after text status answer (inr cut) = (cut.said, asks-moves [] before after cut.said (asks-none [] before after cut.said cut.shows))
 
 -- ---- the clauses
 

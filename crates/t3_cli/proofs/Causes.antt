@@ -13,7 +13,7 @@ use Rattle.t3_interp.specs.declared.event.End.TheVariants as ends
 use Rattle.t3_words.specs.Command.{CommandValue, RunOptions}
 use Rattle.t3_cli.specs.Lines.{absent_line, refused_line, bad_line, load_line}
 use Rattle.t3_cli.specs.Outcome.{Outcome, showing, IsResult, IsInputOutcome, IsFileOutcome, IsPlanOutcome, IsImageOutcome, IsRunOutcome, IsTextOutcome, IsSourceOutcome, assembled, ran_outcome, status_of}
-use Rattle.t3_words.specs.Input.{InputFile, ImageFile, SourceFile, MadeImage, input_of}
+use Rattle.t3_words.specs.Input.{InputFile, ImageFile, SourceFile, MadeImage, input_of, file_of}
 use Rattle.t3_files.specs.Reading.{read_bytes}
 use Rattle.t3_drill.specs.Drill.{drill_image}
 use Rattle.t3_cli.specs.Plan.{Plan, Showing, Putting, Running, plan_of}
@@ -21,6 +21,7 @@ use Rattle.t3_cli.specs.Cause.{Cause, WordsCause, CommandCause, IsAbsent, IsRefu
 use Rattle.t3_cli.specs.Top.{CutsShort, HasExactCause}
 use Rattle.t3_cli.specs.Inner.Following.{Answers}
 use Rattle.t3_cli.proofs.Results.{one_outcome}
+use Rattle.t3_cli.proofs.Unreads.{absent_outcome, refused_outcome, bad_outcome, image_outcome}
 
 -- ---- an outcome that isn't done has the cause of its status
 
@@ -142,45 +143,28 @@ of_input status command files input (outcome, result, is) = record { outcome = o
 
 absent_status : (command : CommandValue) (from : InputFile) (files : Files) (input : List ℕ) → IsAbsent from files
     → ReadsOutcome command from files input Absent
-absent_status command (ImageFile name) files input absent =
-    let P : Option (List ℕ) → Type 0 = λ o. IsFileOutcome command name o (Some files) input (showing Absent (absent_line name)) in
-    (showing Absent (absent_line name), subst P (sym absent) refl, refl)
-absent_status command (SourceFile name) files input absent =
-    let P : Option (List ℕ) → Type 0 = λ o. IsTextOutcome command name o (Some files) input (showing Absent (absent_line name)) in
-    (showing Absent (absent_line name), subst P (sym absent) refl, refl)
-absent_status command (MadeImage number) files input absent = absurd absent
+absent_status command from files input absent =
+    (showing Absent (absent_line (file_of from)), absent_outcome command from files input absent, refl)
 
 refused_status : (command : CommandValue) (from : InputFile) (files : Files) (input : List ℕ) → IsRefusedImage from files
     → ReadsOutcome command from files input ImageRefused
 refused_status command (SourceFile name) files input refused = absurd refused
 refused_status command (MadeImage number) files input refused = absurd refused
-refused_status command (ImageFile name) files input (file, there, (place, why, refused)) =
-    let outcome = showing ImageRefused (refused_line why place) in
-    let P : Option (List ℕ) → Type 0 = λ o. IsFileOutcome command name o (Some files) input outcome in
-    (outcome, subst P (sym there) (inl (record { place = place; why = why; refused = refused; is = refl })), refl)
+refused_status command (ImageFile name) files input (file, there, (place, why, refused)) = (
+  showing ImageRefused (refused_line why place),
+  refused_outcome command (ImageFile name) files input place why (file, there, refused),
+  refl,
+)
 
 bad_status : (command : CommandValue) (from : InputFile) (files : Files) (input : List ℕ) → IsRefusedSource from files
     → ReadsOutcome command from files input SourceRefused
 bad_status command (ImageFile name) files input refused = absurd refused
 bad_status command (MadeImage number) files input refused = absurd refused
-bad_status command (SourceFile name) files input (file, refused, there, says) =
-    let outcome = showing SourceRefused (bad_line refused.line refused.why) in
-    let P : Option (List ℕ) → Type 0 = λ o. IsTextOutcome command name o (Some files) input outcome in
-    let Q : Result ImageValue AsmRefusal → Type 0 = λ r. IsSourceOutcome command r (Some files) input outcome in
-    (outcome, subst P (sym there) (subst Q (sym says) refl), refl)
-
--- a command that runs an image has the outcome of that
-image_outcome : (command : CommandValue) (from : InputFile) (files : Files) (input : List ℕ) (image : ImageValue) (outcome : Outcome)
-    → HasImage from files image → IsImageOutcome command image (Some files) input outcome → IsInputOutcome command from files input outcome
-image_outcome command (ImageFile name) files input image outcome (file, there, begins) is =
-    let P : Option (List ℕ) → Type 0 = λ o. IsFileOutcome command name o (Some files) input outcome in
-    subst P (sym there) (inr (image, begins, is))
-image_outcome command (SourceFile name) files input image outcome (file, there, says) is =
-    let P : Option (List ℕ) → Type 0 = λ o. IsTextOutcome command name o (Some files) input outcome in
-    let Q : Result ImageValue AsmRefusal → Type 0 = λ r. IsSourceOutcome command r (Some files) input outcome in
-    subst P (sym there) (subst Q (sym says) is)
-image_outcome command (MadeImage number) files input image outcome same is =
-    subst (λ (i : ImageValue). IsImageOutcome command i (Some files) input outcome) same is
+bad_status command (SourceFile name) files input (file, refused, there, says) = (
+  showing SourceRefused (bad_line refused.line refused.why),
+  bad_outcome command (SourceFile name) files input refused.line refused.why (file, there, says),
+  refl,
+)
 
 runs_status : (command : CommandValue) (files : Files) (input : List ℕ) (image : ImageValue) (options : RunOptions) (outcome : Outcome)
     → (runs : RunsInput command files image options)

@@ -16,22 +16,22 @@ use Rattle.t3_run.proofs.Shown.{shows_nothing}
 use Rattle.t3_run.proofs.Asks.{asks-none, asks-more, asks-longer}
 use Rattle.t3_run.proofs.Acts.{shown_by-append, files_by-append}
 use Rattle.t3_run.proofs.Cutting.{fails_by, behind_as, stops_before, stops_more}
-use Rattle.t3_cli.specs.declared.images.read.ReadImage.{ReadImage}
-use Rattle.t3_image_read.specs.declared.reader.Totals.{Totals}
-use Rattle.t3_cli.specs.BlockLines.{totals_text}
-use Rattle.t3_words.specs.Command.{CommandValue, Check, Rewrite, RunOptions}
+use Rattle.t3_words.specs.Command.{CommandValue, RunOptions}
+use Rattle.t3_cli.specs.declared.images.unread.Unread.{Unread}
+use Rattle.t3_words.specs.Input.{MadeImage, input_of}
+use Rattle.t3_drill.specs.Drill.{drill_image}
+use Rattle.t3_cli.specs.Plan.{Plan, Running, plan_of}
 use Rattle.t3_cli.specs.Lines.{put_line, load_line, drill_line}
 use Rattle.t3_image_read.specs.ImageText.{ImageValue}
 use Rattle.t3_load.specs.declared.refusal.LoadRefusal.{LoadRefusal as LoadWhy}
 use Rattle.t3_load.specs.declared.refusal.LoadRefusal.TheVariants.{NoMemory as NoRoom}
 use Rattle.t3_load.specs.Rules.{Breaks as BreaksRule}
 use Rattle.t3_load.specs.Loading.{ProgramValue, Loads}
-use Rattle.t3_cli.specs.Outcome.{Outcome, showing, putting, acts_of, ran_outcome, status_of, IsRunOutcome, IsLoaded, fingerprint_of, run_limits}
+use Rattle.t3_cli.specs.Outcome.{Outcome, showing, putting, acts_of, ran_outcome, status_of, IsImageOutcome, IsPlanOutcome, IsRunOutcome, IsLoaded, fingerprint_of, run_limits}
 use Rattle.t3_cli.specs.Top.{CutsShort, IsShown}
 use Rattle.t3_cli.specs.Inner.Showing.{AnswersLine, ShowsOrWants}
-use Rattle.t3_cli.specs.Inner.Following.{Follows, FollowsSome, Breaks, IsProgramOutcome, IsClosed, IsReadOutcome, IsCountedOutcome, IsWrittenOutcome}
-use Rattle.t3_words.specs.Input.{out_of}
-use Rattle.t3_cli.specs.Inner.Wanted.{wanted_of, WantsCount, WantsText}
+use Rattle.t3_cli.specs.Inner.Following.{Follows, FollowsSome, Breaks, Carries, IsProgramOutcome, IsClosed}
+use Rattle.t3_cli.specs.Inner.Reading.{BeginsBy}
 use Rattle.t3_cli.proofs.Results.{some_run_outcome}
 
 -- ---- acts, and a text behind them
@@ -274,46 +274,56 @@ unloaded_follows image why options actions files before after answer (inr (broke
       text_follows files before after (load_line why) LoadRefused answer (shown known),
     )
 
--- ---- what was matched
+-- ---- a command with its image
 
--- what was done with what was read, as it was matched
-pub matched_follows : (command is : CommandValue) (found seen : ReadImage) (files left : Option Files) (before after : Option Session)
-    (answer : Status) → command ≡ is → found ≡ seen
-    → FollowsSome (IsReadOutcome is seen) files left before after answer
-    → FollowsSome (IsReadOutcome command found) files left before after answer
-matched_follows command is found seen files left before after answer same matched follows =
-    let P : CommandValue → Type 0 = λ c. FollowsSome (IsReadOutcome c seen) files left before after answer in
-    let Q : ReadImage → Type 0 = λ f. FollowsSome (IsReadOutcome command f) files left before after answer in
-    subst Q (sym matched) (subst P (sym same) follows)
-
--- it was a line
-pub line_matched : {Line Error : Type 0}
-    → (command is : CommandValue) (found seen : ReadImage) (text_of : Line → List ℕ) (files : Option Files) (before after : Option Session)
-    (line : Result Line Error) (text : List ℕ) (status answer : Status) → command ≡ is → found ≡ seen
-    → ((input : List ℕ) → IsReadOutcome is seen files input (showing status text))
-    → IfOk line (λ l. text_of l ≡ text) → AnswersLine text_of before after line status answer
-    → FollowsSome (IsReadOutcome command found) files files before after answer
-line_matched command is found seen text_of files before after line text status answer same matched gives told answers =
+-- a command that was carried out by the image that it begins with
+pub carried_by : (command : CommandValue) (image : ImageValue) (outcome : Outcome) (files left : Option Files) (before after : Option Session)
+    (answer : Status) → BeginsBy (input_of command) files image → ((input : List ℕ) → IsImageOutcome command image files input outcome)
+    → Follows outcome files left before after answer → Carries command files left before after (Ok answer)
+carried_by command image outcome files left before after answer begins gives follows =
     let input = input_in before in
-    matched_follows command is found seen files files before after answer same matched
-    (input.0, input.1, showing status text, gives input.0, line_follows text_of files before after line text status answer told answers)
+    (input.0, input.1, outcome, (image, begins, gives input.0), follows)
 
--- it was a file that is put, and a line
-pub put_matched : (command is : CommandValue) (found seen : ReadImage) (outcome : Outcome) (files left : Option Files) (before after : Option Session)
-    (answer : Status) → command ≡ is → found ≡ seen → ((input : List ℕ) → IsReadOutcome is seen files input outcome)
-    → Follows outcome files left before after answer → FollowsSome (IsReadOutcome command found) files left before after answer
-put_matched command is found seen outcome files left before after answer same matched gives follows =
-    let input = input_in before in
-    matched_follows command is found seen files left before after answer same matched (input.0, input.1, outcome, gives input.0, follows)
+-- one that shows a line of it
+pub shown_by_image : {Line Error : Type 0}
+    → (text_of : Line → List ℕ) (command : CommandValue) (image : ImageValue) (text : List ℕ) (files left : Option Files)
+    (before after : Option Session) (line : Result Line Error) (answer : Status) → BeginsBy (input_of command) files image → left ≡ files
+    → ((input : List ℕ) → IsImageOutcome command image files input (showing Done text))
+    → IfOk line (λ l. text_of l ≡ text) → AnswersLine text_of before after line Done answer
+    → Carries command files left before after (Ok answer)
+shown_by_image text_of command image text files left before after line answer begins same gives told answers =
+    carried_by command image (showing Done text) files left before after answer begins gives
+    (subst (λ (f : Option Files). Follows (showing Done text) files f before after answer) (sym same)
+    (line_follows text_of files before after line text Done answer told answers))
 
--- where that is wanted, what was counted is shown
-pub counts : (command : CommandValue) (totals : Totals) → WantsCount (wanted_of command)
-    → IsCountedOutcome command totals (showing Done (totals_text totals))
-counts (Check name) totals wants = refl
-counts _ totals wants = absurd wants
+-- one that runs it
+pub run_by_image : (command : CommandValue) (image : ImageValue) (options : RunOptions) (actions : Option ℕ) (files left : Option Files)
+    (before after : Option Session) (answer : Status) → BeginsBy (input_of command) files image → plan_of command image ≡ Running options actions
+    → FollowsSome (IsRunOutcome options actions image) files left before after answer → Carries command files left before after (Ok answer)
+run_by_image command image options actions files left before after answer begins planned (input, is_input, outcome, gives, follows) = (
+  input,
+  is_input,
+  outcome,
+  (image, begins, subst (λ (plan : Plan). IsPlanOutcome plan image files input outcome) (sym planned) gives),
+  follows,
+)
 
--- and what was written is put
-pub writes : (command : CommandValue) (mask : Option ℕ) (written : List ℕ) → WantsText mask (wanted_of command)
-    → IsWrittenOutcome command mask written (putting (out_of command) written)
-writes (Rewrite name out under) mask written wants = refl
-writes _ mask written wants = absurd wants
+-- what was put after a file was read
+pub put_by_image : (command : CommandValue) (image : ImageValue) (out bytes : List ℕ) (files read left : Option Files)
+    (before after : Option Session) (answer : Status) → BeginsBy (input_of command) files image → read ≡ files
+    → ((input : List ℕ) → IsImageOutcome command image files input (putting out bytes))
+    → Follows (putting out bytes) read left before after answer → Carries command files left before after (Ok answer)
+put_by_image command image out bytes files read left before after answer begins same gives follows =
+    carried_by command image (putting out bytes) files left before after answer begins gives
+    (subst (λ (f : Option Files). Follows (putting out bytes) f left before after answer) same follows)
+
+-- an image that was made
+pub begins_made : (number : ℕ) (files : Option Files) → BeginsBy (MadeImage number) files (drill_image number)
+begins_made number None = tt
+begins_made number (Some files) = refl
+
+-- a command as it was matched
+pub matched_carries : (command is : CommandValue) (files left : Option Files) (before after : Option Session) (answer : Result Status Unread)
+    → command ≡ is → Carries is files left before after answer → Carries command files left before after answer
+matched_carries command is files left before after answer same carries =
+    subst (λ (c : CommandValue). Carries c files left before after answer) (sym same) carries

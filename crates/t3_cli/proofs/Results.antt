@@ -12,15 +12,10 @@ use Rattle.t3_image_read.proofs.Uniqueness.{one_image, one_refusal, not_both}
 use Rattle.t3_asm.specs.declared.refusal.AsmRefusal.{AsmRefusal}
 use Rattle.t3_files.specs.Reading.{read_bytes, read_limit}
 use Rattle.t3_drill.specs.Drill.{drill_image}
-use Rattle.t3_cli.specs.Plan.{Plan, Showing, Putting, Running, plan_of, written_text}
-use Rattle.t3_cli.specs.declared.images.read.ReadImage.{ReadImage}
-use Rattle.t3_cli.specs.declared.images.read.ReadImage.TheVariants as read
+use Rattle.t3_cli.specs.Plan.{Plan, Showing, Putting, Running, plan_of}
 use Rattle.t3_cli.specs.declared.status.Status.TheVariants.{Done, Usage, Absent, ImageRefused, LoadRefused, SourceRefused}
-use Rattle.t3_image_read.specs.declared.reader.Totals.{Totals}
-use Rattle.t3_image_read.specs.Reader.{totals_of}
-use Rattle.t3_words.specs.Command.{CommandValue, Check, Rewrite, RunOptions}
+use Rattle.t3_words.specs.Command.{CommandValue, RunOptions}
 use Rattle.t3_cli.specs.Lines.{usage_line, absent_line, refused_line, bad_line, load_line}
-use Rattle.t3_cli.specs.BlockLines.{totals_text}
 use Rattle.t3_load.specs.declared.refusal.LoadRefusal.{LoadRefusal}
 use Rattle.t3_load.specs.declared.refusal.LoadRefusal.TheVariants.{NoMemory as NoRoom}
 use Rattle.t3_load.specs.Loading.{ProgramValue, Loads}
@@ -28,10 +23,7 @@ use Rattle.t3_load.proofs.OneAnswer.{one_answer}
 use Rattle.t3_load.proofs.SomeAnswer.{some_answer}
 use Rattle.t3_run.specs.Run.{Terms, begun}
 use Rattle.t3_cli.specs.Outcome.{Outcome, showing, putting, IsResult, IsInputOutcome, IsFileOutcome, IsPlanOutcome, IsImageOutcome, IsRunOutcome, IsLoaded, fingerprint_of, run_limits, IsSourceOutcome, IsTextOutcome, assembled, BeginsWith, HoldBytes, RunsProgram, ran_outcome}
-use Rattle.t3_words.specs.Input.{InputFile, ImageFile, SourceFile, MadeImage, input_of, file_of}
-use Rattle.t3_cli.specs.Inner.Reading.{ReadsBytes, ReadsText, Assembles, ReadsInput}
-use Rattle.t3_cli.specs.Inner.Following.{IsReadOutcome, IsCountedOutcome, IsWrittenOutcome}
-use Rattle.t3_cli.specs.Inner.Wanted.{wanted_of, WantsText}
+use Rattle.t3_words.specs.Input.{InputFile, ImageFile, SourceFile, MadeImage, input_of}
 use Rattle.t3_run.proofs.Runs.{one_run, some_run}
 
 -- ---- one outcome
@@ -173,67 +165,3 @@ pub some_outcome : (command : Option CommandValue) (files : Files) (input : List
     → (outcome : Outcome) × IsResult command files input outcome
 some_outcome None files input bytes = (showing Usage usage_line, refl)
 some_outcome (Some command) files input bytes = some_input_outcome command (input_of command) files input bytes
-
--- ---- what was read gives the outcome of the file
-
--- of an image that was only counted
-counted_outcome : (command : CommandValue) (totals : Totals) (image : ImageValue) (files : Option Files) (input : List ℕ) (outcome : Outcome)
-    → totals ≡ totals_of image
-    → IsCountedOutcome command totals outcome → IsImageOutcome command image files input outcome
-counted_outcome (Check name) totals image files input outcome same is = is ∙ ap (λ t. showing Done (totals_text t)) same
-counted_outcome _ totals image files input outcome same is = absurd is
-
--- of one of which only what is written of it was made
-written_outcome : (command : CommandValue) (mask : Option ℕ) (written : List ℕ) (image : ImageValue) (files : Option Files) (input : List ℕ)
-    (outcome : Outcome)
-    → written ≡ written_text mask image → WantsText mask (wanted_of command) → IsWrittenOutcome command mask written outcome
-    → IsImageOutcome command image files input outcome
-written_outcome (Rewrite name out under) mask written image files input outcome same wants is =
-    is ∙ ap (putting out) (same ∙ ap (λ m. written_text m image) wants)
-written_outcome _ mask written image files input outcome same wants is = absurd is
-
-file_outcome : (command : CommandValue) (name : List ℕ) (file : Option (List ℕ)) (found : ReadImage) (files : Option Files) (input : List ℕ)
-    (outcome : Outcome) → file_of (input_of command) ≡ name → ReadsBytes file found
-    → IsReadOutcome command found files input outcome → IsFileOutcome command name file files input outcome
-file_outcome command name None read.Absent files input outcome named reads is = is ∙ ap (λ n. showing Absent (absent_line n)) named
-file_outcome command name (Some file) (read.Refused place why) files input outcome named reads is =
-    inl (record { place = place; why = why; refused = reads; is = is })
-file_outcome command name (Some file) (read.Counted totals) files input outcome named reads is =
-    inr (reads.0, reads.1, counted_outcome command totals reads.0 files input outcome reads.2 is)
-file_outcome command name (Some file) (read.Rewritten mask written) files input outcome named reads is =
-    inr (reads.0, reads.1, written_outcome command mask written.items reads.0 files input outcome reads.2 is.0 is.1)
-file_outcome command name (Some file) (read.Image image) files input outcome named reads is = inr (image, reads, is)
-file_outcome command name file found files input outcome named reads is = absurd reads
-
--- what was read of a source's file
-assembled_outcome : (command : CommandValue) (bytes : List ℕ) (found : ReadImage) (files : Option Files) (input : List ℕ) (outcome : Outcome)
-    → Assembles bytes found
-    → IsReadOutcome command found files input outcome → IsSourceOutcome command (assembled bytes) files input outcome
-assembled_outcome command bytes (read.BadLine line why) files input outcome says is =
-    subst (λ (r : Result ImageValue AsmRefusal). IsSourceOutcome command r files input outcome) (sym says) is
-assembled_outcome command bytes (read.Image image) files input outcome says is =
-    subst (λ (r : Result ImageValue AsmRefusal). IsSourceOutcome command r files input outcome) (sym says) is
-assembled_outcome command bytes found files input outcome says is = absurd says
-
-text_outcome : (command : CommandValue) (name : List ℕ) (file : Option (List ℕ)) (found : ReadImage) (files : Option Files) (input : List ℕ)
-    (outcome : Outcome) → file_of (input_of command) ≡ name → ReadsText file found
-    → IsReadOutcome command found files input outcome → IsTextOutcome command name file files input outcome
-text_outcome command name None read.Absent files input outcome named reads is = is ∙ ap (λ n. showing Absent (absent_line n)) named
-text_outcome command name (Some file) found files input outcome named reads is =
-    assembled_outcome command (read_bytes file) found files input outcome reads is
-text_outcome command name None found files input outcome named reads is = absurd reads
-
-input_outcome : (command : CommandValue) (from : InputFile) (files : Files) (found : ReadImage) (input : List ℕ) (outcome : Outcome)
-    → input_of command ≡ from → ReadsInput (Some files) from (Ok found)
-    → IsReadOutcome command found (Some files) input outcome → IsInputOutcome command from files input outcome
-input_outcome command (ImageFile name) files found input outcome is reads gives =
-    file_outcome command name (get files name) found (Some files) input outcome (ap file_of is) reads gives
-input_outcome command (SourceFile name) files found input outcome is reads gives =
-    text_outcome command name (get files name) found (Some files) input outcome (ap file_of is) reads gives
-input_outcome command (MadeImage number) files found input outcome is reads gives =
-    subst (λ (f : ReadImage). IsReadOutcome command f (Some files) input outcome) reads gives
-
-pub read_result : (command : CommandValue) (files : Files) (input : List ℕ) (found : ReadImage) (outcome : Outcome)
-    → ReadsInput (Some files) (input_of command) (Ok found)
-    → IsReadOutcome command found (Some files) input outcome → IsResult (Some command) files input outcome
-read_result command files input found outcome reads gives = input_outcome command (input_of command) files found input outcome refl reads gives

@@ -5,4 +5,6 @@ pub(crate) mod made;
 pub(crate) mod put;
 pub(crate) mod read;
 pub(crate) mod rewrite;
+pub(crate) mod sink;
 pub(crate) mod source;
+pub(crate) mod unread;

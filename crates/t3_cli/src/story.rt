@@ -9,10 +9,10 @@ ghost use Rattle.t3_cli.specs.Inner.Showing.{ShowsOrWants};
 ghost use Rattle.t3_cli.specs.Inner.Following.{FollowsSome, IsProgramOutcome, IsClosed};
 
 use crate::console::answer;
+use crate::images::read::DigestedImage;
 use crate::lines;
 use crate::status::Status;
 use std::alloc::Global;
-use t3_image_read::Image;
 use t3_interp::End;
 use t3_io::{Console, Depot};
 use t3_load::{LoadRefusal, Program, load};
@@ -29,24 +29,23 @@ const UNITS: u32 = 4_194_304;
 /// Runs an image, and shows what it says and how it ends; of a drill of so many actions a line besides.
 pub(crate) fn launch<D: Depot, C: Console>(
     alloc: Global,
-    image: Image,
-    fingerprint: [u8; 32],
+    digested: DigestedImage,
     options: RunOptions,
     actions: Option<u32>,
     depot: &mut D,
     console: &mut C,
 ) -> Status
-    requires fingerprint { fingerprint ≡ fingerprint_of image }
+    requires fingerprint { digested.digest ≡ fingerprint_of digested.image }
     requires within { AreWithin (options_value options) }
     requires depot { D.faults depot.old < 2 ^ 64 - 1 }
     requires console { C.faults console.old < 2 ^ 64 - 1 }
-    ensures follows { FollowsSome (IsRunOutcome (options_value options) actions image)
+    ensures follows { FollowsSome (IsRunOutcome (options_value options) actions digested.image)
         (D.files depot.old) (D.files depot.new) (C.session console.old) (C.session console.new)
         result }
     ensures depot { CountsFaults (result ≡ Status.DepotFault) (D.faults depot.old) (D.faults depot.new) }
     ensures console { CountsFaults (result ≡ Status.ConsoleFault) (C.faults console.old) (C.faults console.new) }
 {
-    match program_of(alloc, image, fingerprint, options) {
+    match program_of(alloc, digested, options) {
         Ok(program) => play(alloc, program, options, actions, depot, console),
         Err(why) => unloaded(alloc, why, console),
     }
@@ -55,12 +54,11 @@ pub(crate) fn launch<D: Depot, C: Console>(
 /// The program of an image, which isn't kept while it runs.
 fn program_of(
     alloc: Global,
-    image: Image,
-    fingerprint: [u8; 32],
+    digested: DigestedImage,
     options: RunOptions,
 ) -> Result<Program, LoadRefusal>
     requires { AreWithin (options_value options) }
-    ensures { Loads image.blocks fingerprint (run_limits (options_value options)) result }
+    ensures { Loads digested.image.blocks digested.digest (run_limits (options_value options)) result }
 {
     let limits = StoreLimits {
         objects: OBJECTS,
@@ -68,7 +66,7 @@ fn program_of(
         records: options.records,
         savepoints: options.savepoints,
     };
-    load(alloc, &image, fingerprint, limits)
+    load(alloc, &digested.image, digested.digest, limits)
 }
 
 /// Shows why no program was made, unless that was for want of memory.

@@ -1,27 +1,29 @@
 -- How what a call did follows an outcome.
-use Rattle.std.specs.Prelude.{◌≡◌, ℕ, ◌⊎◌, List, ◌++◌, length, Option, Some, None, Result, Ok, Err}
+use Rattle.std.specs.Prelude.{◌≡◌, ◌≢◌, ℕ, ◌⊎◌, List, ◌++◌, length, Option, Some, None, IfSome, Result, Ok, Err}
 use Rattle.t3_io.specs.Files.{Files}
 use Rattle.t3_io.specs.Session.{Session}
 use Rattle.t3_io.specs.Putting.{PutsFile}
+use Rattle.t3_io.specs.Cause.{MovesFaults}
 use Rattle.t3_io.specs.declared.refusal.DeviceRefusal.{DeviceRefusal}
-use Rattle.t3_image_read.specs.declared.reader.Totals.{Totals}
-use Rattle.t3_cli.specs.declared.images.read.ReadImage.{ReadImage}
-use Rattle.t3_cli.specs.declared.images.read.ReadImage.TheVariants as read
+use Rattle.t3_io.specs.declared.refusal.DeviceRefusal.TheVariants as device
+use Rattle.t3_image_read.specs.ImageText.{ImageValue}
+use Rattle.t3_cli.specs.declared.images.unread.Unread.{Unread}
+use Rattle.t3_cli.specs.declared.images.unread.Unread.TheVariants as unread
 use Rattle.t3_cli.specs.declared.status.Status.{Status}
-use Rattle.t3_cli.specs.declared.status.Status.TheVariants.{Done, Absent, ImageRefused, SourceRefused, DepotFault}
+use Rattle.t3_cli.specs.declared.status.Status.TheVariants.{Absent, ImageRefused, SourceRefused, DepotFault, ConsoleFault}
 use Rattle.t3_run.specs.Act.{Act, shown_by, LeavesActs, StopsBehind}
 use Rattle.t3_run.specs.Asking.{IsInput, AsksBy}
-use Rattle.t3_cli.specs.BlockLines.{totals_text}
 use Rattle.t3_load.specs.Loading.{ProgramValue}
 use Rattle.t3_run.specs.Run.{Ran}
-use Rattle.t3_words.specs.Command.{CommandValue, Check, Rewrite, RunOptions}
+use Rattle.t3_words.specs.Command.{CommandValue, RunOptions}
 use Rattle.t3_run.specs.declared.stop.RunEnd.{RunEnd}
 use Rattle.t3_cli.specs.Lines.{absent_line, refused_line, bad_line, drill_line}
-use Rattle.t3_cli.specs.Outcome.{Outcome, showing, putting, ran_outcome, status_of, RunsProgram, IsImageOutcome}
+use Rattle.t3_cli.specs.Outcome.{Outcome, ran_outcome, status_of, RunsProgram, IsImageOutcome}
 use Rattle.t3_cli.specs.Inner.Showing.{ShowsOrWants}
-use Rattle.t3_words.specs.Input.{input_of, file_of}
-use Rattle.t3_cli.specs.Top.{CutsShort, IsWhole, IsCut}
-use Rattle.t3_cli.specs.Inner.Wanted.{wanted_of, WantsText}
+use Rattle.t3_words.specs.Input.{input_of}
+use Rattle.t3_cli.specs.Top.{CountsFaults, CutsShort, IsWhole, IsCut}
+use Rattle.t3_cli.specs.Inner.Unread.{IsUnread, device_answer}
+use Rattle.t3_cli.specs.Inner.Reading.{BeginsBy}
 
 -- all acts were done, and the status is that of the outcome
 pub record Completes (outcome : Outcome) (files left : Option Files) (before after : Option Session) (answer : Status) : Type 0 where
@@ -59,25 +61,36 @@ abbrev pub IsClosed : Option Session → Option Session → Option ℕ → RunEn
 IsClosed before after None ended answer = (answer ≡ status_of ended.stop) × (after ≡ before)
 IsClosed before after (Some actions) ended answer = ShowsOrWants before after (drill_line actions ended) (status_of ended.stop) answer
 
--- what a command gives of an image that was only counted, which is done to check it
-abbrev pub IsCountedOutcome : CommandValue → Totals → Outcome → Type 0
-IsCountedOutcome (Check name) totals outcome = outcome ≡ showing Done (totals_text totals)
-IsCountedOutcome _ totals outcome = ⊥
+-- the outcome of a command, by the image that it begins with
+abbrev pub IsCommandOutcome : CommandValue → Option Files → List ℕ → Outcome → Type 0
+IsCommandOutcome command files input outcome =
+    (image : ImageValue) × BeginsBy (input_of command) files image × IsImageOutcome command image files input outcome
 
--- and of one of which only this was written
-abbrev pub IsWrittenOutcome : CommandValue → Option ℕ → List ℕ → Outcome → Type 0
-IsWrittenOutcome (Rewrite name out mask) under written outcome = outcome ≡ putting out written
-IsWrittenOutcome _ under written outcome = ⊥
+-- a command was carried out by its image, or it has none and nothing was done
+abbrev pub Carries : CommandValue → Option Files → Option Files → Option Session → Option Session → Result Status Unread → Type 0
+Carries command files left before after (Ok answer) = FollowsSome (IsCommandOutcome command) files left before after answer
+Carries command files left before after (Err why) = IfSome files (IsUnread (input_of command) why) × (left ≡ files) × (after ≡ before)
 
--- what a command gives of what was read, of the files and of the input
-abbrev pub IsReadOutcome : CommandValue → ReadImage → Option Files → List ℕ → Outcome → Type 0
-IsReadOutcome command read.Absent files input outcome = outcome ≡ showing Absent (absent_line (file_of (input_of command)))
-IsReadOutcome command (read.Refused place why) files input outcome = outcome ≡ showing ImageRefused (refused_line why place)
-IsReadOutcome command (read.BadLine line why) files input outcome = outcome ≡ showing SourceRefused (bad_line line why)
-IsReadOutcome command (read.Counted totals) files input outcome = IsCountedOutcome command totals outcome
-IsReadOutcome command (read.Rewritten mask written) files input outcome =
-    WantsText mask (wanted_of command) × IsWrittenOutcome command mask written.items outcome
-IsReadOutcome command (read.Image image) files input outcome = IsImageOutcome command image files input outcome
+-- what is shown of a command without an image
+abbrev pub TellsUnread : List ℕ → Unread → Option Session → Option Session → Status → Type 0
+TellsUnread name unread.Absent before after answer = ShowsOrWants before after (absent_line name) Absent answer
+TellsUnread name (unread.Refused place why) before after answer = ShowsOrWants before after (refused_line why place) ImageRefused answer
+TellsUnread name (unread.BadLine line why) before after answer = ShowsOrWants before after (bad_line line why) SourceRefused answer
+TellsUnread name (unread.Failed refusal) before after answer = CutsShort answer × (after ≡ before)
+
+-- a fault of the depot is answered where it had one
+abbrev pub FailsBy : Unread → Status → Type 0
+FailsBy (unread.Failed device.Fault) answer = answer ≡ DepotFault
+FailsBy _ answer = answer ≢ DepotFault
+
+-- the faults that a command's devices counted
+abbrev pub CountsDepot : ℕ → ℕ → Result Status Unread → Type 0
+CountsDepot before after (Ok answer) = CountsFaults (answer ≡ DepotFault) before after
+CountsDepot before after (Err why) = MovesFaults before after (device_answer why)
+
+abbrev pub CountsConsole : ℕ → ℕ → Result Status Unread → Type 0
+CountsConsole before after (Ok answer) = CountsFaults (answer ≡ ConsoleFault) before after
+CountsConsole before after (Err why) = after ≡ before
 
 -- how many bytes were put, or why they weren't
 abbrev pub PutsSized : Option Files → Option Files → List ℕ → List ℕ → Result ℕ DeviceRefusal → Type 0

@@ -27,7 +27,7 @@ pub(crate) fn image_lines(alloc: Global, image: &Image) -> Result<String, AllocE
 }
 
 /// How many blocks an image has, its end among them, and how many bytes.
-pub(crate) fn totals(image: &Image) -> Totals
+fn totals(image: &Image) -> Totals
     ensures { result ≡ totals_of image.now }
 {
     Totals {

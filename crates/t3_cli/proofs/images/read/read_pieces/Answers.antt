@@ -2,14 +2,14 @@ use Rattle.std.proofs.Common.{◌≤◌, length, ap, ◌∙◌, arith, rules}
 use Rattle.t3_io.specs.declared.depot.Got.TheVariants as got
 use Rattle.t3_files.proofs.Pieces.{piece_is, count_within}
 use Rattle.t3_cli.proofs.FileRead.{begins_reading, reads_more, reads_ended, reads_limit, reads_absent}
-use Rattle.t3_cli.proofs.Digested.{digests_none}
+use Rattle.t3_cli.proofs.Digested.{holds_none}
 use Rattle.t3_cli.proofs.images.read.read_pieces.Goals as goal
 
 pub loop-at-init : goal.loop-at-init
 loop-at-init g c = record {
   near = omega arith;
-  reading = begins_reading (g.D.Depot.files c.args.depot.now) c.args.name.now c.args.reader.now c.requires.fresh;
-  digests = digests_none c.args.is_digested c.args.reader.now c.args.hasher.now c.requires.fresh c.requires.digest;
+  reading = begins_reading (g.D.Depot.files c.args.depot.now) c.args.name.now c.args.reader.now c.requires.start;
+  taken = holds_none g.P.PieceSink.has_taken c.args.reader.now c.args.sink.now c.requires.start c.requires.fresh;
   files = search rules;
   faults = search rules;
 }
@@ -30,7 +30,7 @@ loop-at-preserved g c =
       near = omega (arith, c.min-want.ensures);
       reading =
           reads_more (g.D.Depot.files c.args.depot.now) c.args.name.now c.read_piece.new.buf c.loop-at.reader c.feed.new.reader c.loop-at.at c.min-want.result count c.loop-at.invariant.reading piece there (omega (arith, c.min-want.ensures)) c.feed.ensures.fed;
-      digests = c.feed.ensures.digest c.loop-at.invariant.digests;
+      taken = c.feed.ensures.taken c.loop-at.invariant.taken;
       files = c.read_piece.ensures.files ∙ c.loop-at.invariant.files;
       faults = c.in_ok-read_piece.ensures.cause ∙ c.loop-at.invariant.faults;
     }
