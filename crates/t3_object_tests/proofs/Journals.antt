@@ -1,5 +1,5 @@
 -- What stays true of a journal's newest savepoint, for tests.
-use Rattle.std.proofs.Common.{◌≡◌, refl, List, [], ◌∷◌, drop, Option, None, Some}
+use Rattle.std.proofs.Common.{◌≡◌, refl, List, [], ◌∷◌, drop, None}
 use Rattle.t3_undo.specs.Objects.{OldPart, Segment}
 use Rattle.t3_undo.specs.Journal.{first, newest_record, but_newest_record}
 

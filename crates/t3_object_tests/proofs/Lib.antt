@@ -1,3 +1,4 @@
 pub mod OrderRising
 pub mod Places
 pub mod Journals
+pub mod WholeVectors

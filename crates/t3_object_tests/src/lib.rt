@@ -11,10 +11,16 @@ mod kinds;
 #[cfg(test)]
 mod orders;
 #[cfg(test)]
+mod plain_cells;
+#[cfg(test)]
 mod plain_journal;
+#[cfg(test)]
+mod plain_places;
 #[cfg(test)]
 mod tables;
 #[cfg(test)]
 mod tads_objects;
+#[cfg(test)]
+mod tried;
 #[cfg(test)]
 mod vectors;

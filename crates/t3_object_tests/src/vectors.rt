@@ -24,9 +24,7 @@ impl Row {
     /// All elements are missing.
     fn with_places(alloc: Global, count: u32) -> Result<Row, NoMemory> {
         let mut vector = Vector::new(alloc);
-        for index in 0..count {
-            vector.make_place(Cell::Elem(index + 1))?;
-        }
+        make_places(&mut vector, count)?;
         Ok(Row { vector, count })
     }
 
@@ -59,6 +57,16 @@ impl Row {
         vector.purge(oldest);
         vector
     }
+}
+
+/// Makes a place for each of the first elements that has none.
+pub(crate) fn make_places(vector: &mut Vector, count: u32) -> Result<(), NoMemory>
+    ensures { OnOk result (HasPlacesTo (places_of vector.new) count) }
+{
+    for index in 0..count {
+        vector.make_place(Cell::Elem(index + 1))?;
+    }
+    Ok(())
 }
 
 fn content(value: Option<i32>) -> Content
@@ -164,6 +172,24 @@ fn missing_elements_lose_their_places_from_the_end(rt: HostRuntime) -> Result<()
     vector.purge(6);
     assert_eq!(rt; (vector.places(), vector.present()), (1, 1));
     assert_eq!(rt; vector.get(&Cell::Elem(1)), Content::Held(Holder::Int(1)));
+    Ok(())
+}
+
+#[test]
+fn a_hole_stays_only_below_an_element(rt: HostRuntime) -> Result<(), Fail> {
+    let mut row = Row::with_places(rt.alloc(), 4)?;
+    let _missing = row.set(3, Some(3));
+    let vector = row.purged(u64::MAX);
+    assert_eq!(rt;
+        (vector.places(), vector.present()),
+        (3, 1),
+        "below the third"
+    );
+    let mut row = Row::with_places(rt.alloc(), 4)?;
+    let _missing = row.set(3, Some(3));
+    let _three = row.set(3, None);
+    let vector = row.purged(1);
+    assert_eq!(rt; (vector.places(), vector.present()), (0, 0));
     Ok(())
 }
 

@@ -1,7 +1,7 @@
 use Rattle.std.proofs.Common.{arith}
 use Rattle.t3_lists.specs.Vector.{places_of}
 use Rattle.t3_object_tests.proofs.Places.{more-places}
-use Rattle.t3_object_tests.proofs.vectors.Row.with_places.Goals as goal
+use Rattle.t3_object_tests.proofs.vectors.make_places.Goals as goal
 
 pub loop-index-init : goal.loop-index-init
 loop-index-init c number least most = absurd (omega arith)
