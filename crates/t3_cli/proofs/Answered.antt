@@ -65,21 +65,25 @@ some_nothing before = ([], asks-moves [] before before [] (asks-none [] before b
 
 pub shown_some : (before after : Option Session) (text : List ℕ) (status answer : Status) → IsShown before after text status answer
     → MovesSome before after
-shown_some before after text status answer (inl whole) = (text, asks-moves [] before after text (asks-none [] before after text whole.shows))
-shown_some before after text status answer (inr cut) = (cut.said, asks-moves [] before after cut.said (asks-none [] before after cut.said cut.shows))
+shown_some before after text status answer (inl whole) =
+    (text, asks-moves [] before after text (asks-none [] before after text whole.shows))
+shown_some before after text status answer (inr cut) =
+    (cut.said, asks-moves [] before after cut.said (asks-none [] before after cut.said cut.shows))
 
 -- ---- a command with its image
 
 -- an outcome of a command with its image is one of the words
-command_result : (command : CommandValue) (files : Files) (input : List ℕ) (outcome : Outcome) → IsCommandOutcome command (Some files) input outcome
-    → IsResult (Some command) files input outcome
-command_result command files input outcome (image, has, gives) = image_outcome command (input_of command) files input image outcome has gives
+command_result : (command : CommandValue) (files : Files) (input : List ℕ) (outcome : Outcome)
+    → IsCommandOutcome command (Some files) input outcome → IsResult (Some command) files input outcome
+command_result command files input outcome (image, has, gives) =
+    image_outcome command (input_of command) files input image outcome has gives
 
 pub command_answers : (command : CommandValue) (all left : Option Files) (before after : Option Session) (answer : Status)
     → Carries command all left before after (Ok answer) → IfSome all (λ files. Answers (Some command) files before answer left after)
 command_answers command None left before after answer carries = tt
 command_answers command (Some files) left before after answer (input, is_input, outcome, gives, follows) =
-    answers_by (Some command) files left before after answer input outcome is_input (command_result command files input outcome gives) follows
+    answers_by (Some command) files left before after answer input outcome is_input
+    (command_result command files input outcome gives) follows
 
 pub command_moves : (command : CommandValue) (all left : Option Files) (before after : Option Session) (answer : Status)
     → Carries command all left before after (Ok answer) → MovesSome before after
@@ -125,7 +129,8 @@ unread_answers command (Some files) left before mid after answer why carries tel
 shown_moves : (before after : Option Session) (text : List ℕ) (status answer : Status) → ShowsOrWants before after text status answer
     → MovesSome before after
 shown_moves before after text status answer (inl shown) = shown_some before after text status answer shown
-shown_moves before after text status answer (inr wants) = subst (λ (s : Option Session). MovesSome before s) (sym wants.1) (some_nothing before)
+shown_moves before after text status answer (inr wants) =
+    subst (λ (s : Option Session). MovesSome before s) (sym wants.1) (some_nothing before)
 
 tells_moves : (name : List ℕ) (why : Unread) (before after : Option Session) (answer : Status) → TellsUnread name why before after answer
     → MovesSome before after
@@ -185,7 +190,8 @@ line_not_usage before after text status answer other (inl (inl whole)) = λ is. 
 line_not_usage before after text status answer other (inl (inr cut)) = cut_not_usage answer cut.cut
 line_not_usage before after text status answer other (inr wants) = cut_not_usage answer (subst CutsShort (sym wants.0) tt)
 
-pub unread_not_usage : (name : List ℕ) (why : Unread) (before after : Option Session) (answer : Status) → TellsUnread name why before after answer
+pub unread_not_usage : (name : List ℕ) (why : Unread) (before after : Option Session) (answer : Status)
+    → TellsUnread name why before after answer
     → answer ≢ Usage
 unread_not_usage name unread.Absent before after answer tells = line_not_usage before after _ Absent answer (λ e. absurd cc) tells
 unread_not_usage name (unread.Refused place why) before after answer tells =

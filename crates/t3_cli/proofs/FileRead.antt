@@ -79,7 +79,8 @@ told None Told so = tt
 told (Some files) Told so = so files refl
 
 -- of a device that failed nothing is known
-pub nothing_known : (files : Option Files) (from : InputFile) (refusal : DeviceRefusal) → IfSome files (IsUnread from (unread.Failed refusal))
+pub nothing_known : (files : Option Files) (from : InputFile) (refusal : DeviceRefusal)
+    → IfSome files (IsUnread from (unread.Failed refusal))
 nothing_known None from refusal = tt
 nothing_known (Some files) from refusal = tt
 
@@ -155,7 +156,8 @@ tells_image told_of files name (Ended image) value reads finishes = (image, read
 tells_image told_of files name (Failed refusal) value reads finishes = absurd (let clash = finishes in cc)
 
 -- and why there is none
-pub tells_refusal : {V : Type 0} (told_of : ImageValue → V) (files : Option Files) (name : List ℕ) (reader : Reading) (refusal : ReadRefusal)
+pub tells_refusal : {V : Type 0} (told_of : ImageValue → V) (files : Option Files) (name : List ℕ) (reader : Reading)
+    (refusal : ReadRefusal)
     → ReadsPieces files name reader (Ok tt) → FinishesAs told_of reader (Err refusal)
     → IfSome files (IsUnread (ImageFile name) (unread_of refusal))
 tells_refusal told_of files name (Taking taken) refusal reads finishes =
@@ -195,7 +197,8 @@ pub refuses_parts : (mask : Option ℕ) (files : Option Files) (name : List ℕ)
 refuses_parts mask files name reader refusal reads finishes =
     tells_refusal (λ (image : ImageValue). image) files name reader refusal reads (as_refusal reader finishes)
   where
-    as_refusal : (reader : Reading) → FinishesParts (HasRewritten mask) reader (Err refusal) → FinishesAs (λ (image : ImageValue). image) reader (Err refusal)
+    as_refusal : (reader : Reading) → FinishesParts (HasRewritten mask) reader (Err refusal)
+        → FinishesAs (λ (image : ImageValue). image) reader (Err refusal)
     as_refusal (Taking taken) finishes =
         let same : refusal ≡ At finishes.0 Truncated = let e = finishes.1 in cc in
         (finishes.0, ap Err same, finishes.2)
@@ -204,7 +207,8 @@ refuses_parts mask files name reader refusal reads finishes =
 
 -- ---- why nothing was read, as it is handed on
 
-pub reads_err : {T : Type 0} (IsMade : ImageValue → T → Type 0) (from : InputFile) (files : Option Files) (answer : Result T Unread) (why : Unread)
+pub reads_err : {T : Type 0} (IsMade : ImageValue → T → Type 0) (from : InputFile) (files : Option Files) (answer : Result T Unread)
+    (why : Unread)
     → IsErr answer × IsErrAnd answer (λ e. e ≡ why) → IfSome files (IsUnread from why) → Reads IsMade from files answer
 reads_err IsMade from files (Ok made) why gives unread = absurd gives.1
 reads_err IsMade from files (Err e) why gives unread = subst (λ (w : Unread). IfSome files (IsUnread from w)) (sym gives.1) unread

@@ -277,7 +277,8 @@ unloaded_follows image why options actions files before after answer (inr (broke
 -- ---- a command with its image
 
 -- a command that was carried out by the image that it begins with
-pub carried_by : (command : CommandValue) (image : ImageValue) (outcome : Outcome) (files left : Option Files) (before after : Option Session)
+pub carried_by : (command : CommandValue) (image : ImageValue) (outcome : Outcome) (files left : Option Files)
+    (before after : Option Session)
     (answer : Status) → BeginsBy (input_of command) files image → ((input : List ℕ) → IsImageOutcome command image files input outcome)
     → Follows outcome files left before after answer → Carries command files left before after (Ok answer)
 carried_by command image outcome files left before after answer begins gives follows =
@@ -298,7 +299,8 @@ shown_by_image text_of command image text files left before after line answer be
 
 -- one that runs it
 pub run_by_image : (command : CommandValue) (image : ImageValue) (options : RunOptions) (actions : Option ℕ) (files left : Option Files)
-    (before after : Option Session) (answer : Status) → BeginsBy (input_of command) files image → plan_of command image ≡ Running options actions
+    (before after : Option Session) (answer : Status) → BeginsBy (input_of command) files image
+    → plan_of command image ≡ Running options actions
     → FollowsSome (IsRunOutcome options actions image) files left before after answer → Carries command files left before after (Ok answer)
 run_by_image command image options actions files left before after answer begins planned (input, is_input, outcome, gives, follows) = (
   input,
@@ -323,7 +325,8 @@ begins_made number None = tt
 begins_made number (Some files) = refl
 
 -- a command as it was matched
-pub matched_carries : (command is : CommandValue) (files left : Option Files) (before after : Option Session) (answer : Result Status Unread)
+pub matched_carries : (command is : CommandValue) (files left : Option Files) (before after : Option Session)
+    (answer : Result Status Unread)
     → command ≡ is → Carries is files left before after answer → Carries command files left before after answer
 matched_carries command is files left before after answer same carries =
     subst (λ (c : CommandValue). Carries c files left before after answer) (sym same) carries

@@ -28,7 +28,8 @@ pub refused_outcome : (command : CommandValue) (from : InputFile) (files : Files
 refused_outcome command (SourceFile name) files input place why refused = absurd refused
 refused_outcome command (MadeImage number) files input place why refused = absurd refused
 refused_outcome command (ImageFile name) files input place why (file, there, refused) =
-    let P : Option (List ℕ) → Type 0 = λ o. IsFileOutcome command name o (Some files) input (showing ImageRefused (refused_line why place)) in
+    let P : Option (List ℕ) → Type 0 = λ o. IsFileOutcome command name o (Some files) input
+    (showing ImageRefused (refused_line why place)) in
     subst P (sym there) (inl (record { place = place; why = why; refused = refused; is = refl }))
 
 pub bad_outcome : (command : CommandValue) (from : InputFile) (files : Files) (input : List ℕ) (line : ℕ) (why : AsmWhy)

@@ -15,22 +15,26 @@ returns-in-Show-clause-carries g c =
 
 pub returns-in-Run-clause-carries : goal.returns-in-Run-clause-carries
 returns-in-Run-clause-carries g c =
-    matched_carries (command_value c.args.command) (Run c.in-Run.image.now (options_value c.in-Run.options)) _ _ _ _ c.run_image.result (ap command_value c.in-Run.is)
+    matched_carries (command_value c.args.command) (Run c.in-Run.image.now (options_value c.in-Run.options)) _ _ _ _ c.run_image.result
+    (ap command_value c.in-Run.is)
     c.run_image.ensures.carries
 
 pub returns-in-Rewrite-clause-carries : goal.returns-in-Rewrite-clause-carries
 returns-in-Rewrite-clause-carries g c =
-    matched_carries (command_value c.args.command) (Rewrite c.in-Rewrite.image.now c.in-Rewrite.out.now c.in-Rewrite.mask) _ _ _ _ c.rewrite.result (ap command_value c.in-Rewrite.is)
+    matched_carries (command_value c.args.command)
+    (Rewrite c.in-Rewrite.image.now c.in-Rewrite.out.now c.in-Rewrite.mask) _ _ _ _ c.rewrite.result (ap command_value c.in-Rewrite.is)
     c.rewrite.ensures.carries
 
 pub returns-in-List-clause-carries : goal.returns-in-List-clause-carries
 returns-in-List-clause-carries g c =
-    matched_carries (command_value c.args.command) (Listing c.in-List.image.now c.in-List.out.now) _ _ _ _ c.list_image.result (ap command_value c.in-List.is)
+    matched_carries (command_value c.args.command) (Listing c.in-List.image.now c.in-List.out.now) _ _ _ _ c.list_image.result
+    (ap command_value c.in-List.is)
     c.list_image.ensures.carries
 
 pub returns-in-Asm-clause-carries : goal.returns-in-Asm-clause-carries
 returns-in-Asm-clause-carries g c =
-    matched_carries (command_value c.args.command) (Asm c.in-Asm.source.now c.in-Asm.out.now) _ _ _ _ c.assemble_source.result (ap command_value c.in-Asm.is)
+    matched_carries (command_value c.args.command) (Asm c.in-Asm.source.now c.in-Asm.out.now) _ _ _ _ c.assemble_source.result
+    (ap command_value c.in-Asm.is)
     c.assemble_source.ensures.carries
 
 pub returns-in-Drill-clause-carries : goal.returns-in-Drill-clause-carries

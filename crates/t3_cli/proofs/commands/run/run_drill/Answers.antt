@@ -15,11 +15,14 @@ returns-clause-carries g c =
     let after = g.C.Console.session c.launch.new.console in
     let image = drill_image c.args.number in
     let actions = drill_actions c.args.number in
-    let of_image = subst (λ (i : ImageValue). FollowsSome (IsRunOutcome (options_value c.defaults.result) (Some c.drill_actions.result) i) files left before after
+    let of_image = subst (λ (i : ImageValue). FollowsSome (IsRunOutcome (options_value c.defaults.result)
+    (Some c.drill_actions.result) i) files left before after
     c.launch.result) c.in_ok-made.ensures.is c.launch.ensures.follows in
-    let by_actions = subst (λ (n : ℕ). FollowsSome (IsRunOutcome (options_value c.defaults.result) (Some n) image) files left before after c.launch.result)
+    let by_actions = subst (λ (n : ℕ). FollowsSome (IsRunOutcome (options_value c.defaults.result)
+    (Some n) image) files left before after c.launch.result)
     c.drill_actions.ensures of_image in
-    let follows = subst (λ (options : RunOptions). FollowsSome (IsRunOutcome options (Some actions) image) files left before after c.launch.result)
+    let follows = subst (λ (options : RunOptions). FollowsSome (IsRunOutcome options
+    (Some actions) image) files left before after c.launch.result)
     c.defaults.ensures.options by_actions in
     run_by_image (Drill c.args.number) image default_options (Some actions) files left before after c.launch.result
     (begins_made c.args.number files) refl follows

@@ -18,7 +18,8 @@ returns-clause-carries g c =
     let options = options_value c.args.options in
     let read = c.in_ok-read.ensures.read in
     let begins = subst (λ (name : List ℕ). BeginsBy (ImageFile name) files read.0) c.as_bytes.ensures.value read.1 in
-    let of_image = subst (λ (image : ImageValue). FollowsSome (IsRunOutcome options None image) (g.D.Depot.files c.read_digested.new.depot) left before after
+    let of_image = subst (λ (image : ImageValue). FollowsSome (IsRunOutcome options None image)
+    (g.D.Depot.files c.read_digested.new.depot) left before after
     c.launch.result) read.2.is c.launch.ensures.follows in
     let follows = subst (λ (f : Option Files). FollowsSome (IsRunOutcome options None read.0) f left before after c.launch.result)
     c.in_ok-read.ensures.files of_image in

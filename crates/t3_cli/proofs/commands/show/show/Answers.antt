@@ -13,6 +13,7 @@ returns-clause-carries g c =
     let files = g.D.Depot.files c.args.depot.now in
     let read = c.in_ok-read.ensures.read in
     let begins = subst (λ (name : List ℕ). BeginsBy (ImageFile name) files read.0) c.as_bytes.ensures.value read.1 in
-    let line = subst (λ (image : ImageValue). IfOk c.image_lines.result (λ l. string_bytes l ≡ show_text image)) read.2 c.image_lines.ensures in
+    let line = subst (λ (image : ImageValue). IfOk c.image_lines.result
+    (λ l. string_bytes l ≡ show_text image)) read.2 c.image_lines.ensures in
     shown_by_image string_bytes (Show c.args.image.now) read.0 (show_text read.0) files (g.D.Depot.files c.read_image.new.depot) _ _
     c.image_lines.result c.answer.result begins c.in_ok-read.ensures.files (λ input. refl) line c.answer.ensures.shown

@@ -12,6 +12,7 @@ returns-clause-carries g c =
     let files = g.D.Depot.files c.args.depot.now in
     let read = c.in_ok-image.ensures.read in
     let begins = subst (λ (name : List ℕ). BeginsBy (SourceFile name) files read.0) c.as_bytes.ensures.value read.1 in
-    let written = subst (λ (image : ImageValue). IfOk c.write_image-text.result (λ (b : Vec ℕ). b.items ≡ text image)) read.2 c.write_image-text.ensures in
+    let written = subst (λ (image : ImageValue). IfOk c.write_image-text.result
+    (λ (b : Vec ℕ). b.items ≡ text image)) read.2 c.write_image-text.ensures in
     put_by_image (Asm c.args.source.now c.args.out.now) read.0 c.args.out.now (text read.0) files _ _ _ _ c.put_and_show.result begins
     c.in_ok-image.ensures.files (λ input. refl) (c.put_and_show.ensures.follows (text read.0) written)

@@ -14,4 +14,5 @@ returns-in-Ok-clause-follows g c bytes is =
 pub returns-in-Err-clause-follows : goal.returns-in-Err-clause-follows
 returns-in-Err-clause-follows g c bytes is =
     put_cut (g.D.Depot.files c.args.depot.now) (g.D.Depot.files c.put_text.new.depot) c.args.out.now bytes
-    (g.C.Console.session c.args.console.now) c.in-Err.refusal c.depot_status.result c.depot_status.ensures.fault (c.in-Err.ensures.puts bytes is) c.depot_status.ensures.cut
+    (g.C.Console.session c.args.console.now) c.in-Err.refusal c.depot_status.result c.depot_status.ensures.fault
+    (c.in-Err.ensures.puts bytes is) c.depot_status.ensures.cut

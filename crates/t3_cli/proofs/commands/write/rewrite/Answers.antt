@@ -12,5 +12,6 @@ returns-clause-carries g c =
     let read = c.in_ok-text.ensures.read in
     let begins = subst (λ (name : List ℕ). BeginsBy (ImageFile name) files read.0) c.as_bytes.ensures.value read.1 in
     let written = written_text c.args.mask read.0 in
-    put_by_image (Rewrite c.args.image.now c.args.out.now c.args.mask) read.0 c.args.out.now written files _ _ _ _ c.put_and_show.result begins
+    put_by_image (Rewrite c.args.image.now c.args.out.now c.args.mask) read.0 c.args.out.now written files _ _ _ _ c.put_and_show.result
+    begins
     c.in_ok-text.ensures.files (λ input. refl) (c.put_and_show.ensures.follows written read.2)

@@ -15,10 +15,12 @@ returns-in_err-finish-clause-read g c =
 
 pub returns-clause-read : goal.returns-clause-read
 returns-clause-read g c =
-    tells_image (λ (image : ImageValue). image) (g.D.Depot.files c.args.depot.now) c.args.name.now c.read_pieces.new.reader c.in_ok-finish.field-0
+    tells_image (λ (image : ImageValue). image)
+    (g.D.Depot.files c.args.depot.now) c.args.name.now c.read_pieces.new.reader c.in_ok-finish.field-0
     c.in_ok-read_pieces.ensures.read c.in_ok-finish.ensures.finishes
 
 pub returns-clause-taken : goal.returns-clause-taken
 returns-clause-taken g c =
-    holds_image g.P.PieceSink.has_taken c.read_pieces.new.reader c.read_pieces.new.sink c.in_ok-finish.field-0 c.in_ok-read_pieces.ensures.taken
+    holds_image g.P.PieceSink.has_taken c.read_pieces.new.reader c.read_pieces.new.sink c.in_ok-finish.field-0
+    c.in_ok-read_pieces.ensures.taken
     c.in_ok-finish.ensures.finishes
