@@ -4,8 +4,8 @@ use Rattle.t3_io.specs.Files.{Files}
 use Rattle.t3_io.specs.Session.{Session}
 use Rattle.t3_io.specs.Cause.{MovesFaults}
 use Rattle.t3_io.specs.declared.refusal.DeviceRefusal.TheVariants as device
-use Rattle.t3_cli.specs.declared.images.unread.Unread.{Unread}
-use Rattle.t3_cli.specs.declared.images.unread.Unread.TheVariants as unread
+use Rattle.t3_cli.specs.declared.images.no_image.NoImage.{NoImage}
+use Rattle.t3_cli.specs.declared.images.no_image.NoImage.TheVariants as none
 use Rattle.t3_cli.specs.declared.status.Status.{Status}
 use Rattle.t3_cli.specs.declared.status.Status.TheVariants.{Done, Usage, Absent, ImageRefused, LoadRefused, SourceRefused, DepotFault}
 use Rattle.t3_run.specs.declared.stop.Stop.{Stop}
@@ -21,12 +21,14 @@ use Rattle.t3_words.specs.Command.{CommandValue}
 use Rattle.t3_cli.specs.Lines.{usage_line, absent_line, refused_line, bad_line}
 use Rattle.t3_cli.specs.Plan.{Plan, Showing, Putting, Running, plan_of}
 use Rattle.t3_cli.specs.Outcome.{Outcome, showing, IsResult, IsPlanOutcome, status_of}
-use Rattle.t3_words.specs.Input.{input_of, file_of}
+use Rattle.t3_words.specs.Input.{InputFile, ImageFile, SourceFile, MadeImage, input_of, file_of}
+use Rattle.t3_cli.specs.Cause.{HasImage}
+use Rattle.t3_cli.specs.Inner.Reading.{BeginsBy}
 use Rattle.t3_cli.specs.Top.{CountsFaults, CutsShort, IsWhole, IsCut, IsShown, MovesSome, HasExactCause}
-use Rattle.t3_cli.specs.Inner.Unread.{IsUnread, device_answer}
+use Rattle.t3_cli.specs.Inner.NoImage.{HasNoImage, device_answer}
 use Rattle.t3_cli.specs.Inner.Showing.{ShowsOrWants}
-use Rattle.t3_cli.specs.Inner.Following.{Answers, Follows, Carries, IsCommandOutcome, TellsUnread, FailsBy}
-use Rattle.t3_cli.proofs.Unreads.{absent_outcome, refused_outcome, bad_outcome, image_outcome}
+use Rattle.t3_cli.specs.Inner.Following.{Answers, Follows, CarriesOutCommand, IsCommandOutcome, ShowsNoImage, FailsBy}
+use Rattle.t3_cli.proofs.InputOutcomes.{absent_outcome, refused_outcome, bad_outcome, image_outcome}
 use Rattle.t3_cli.proofs.Causes.{exact_cause, result_not_cut}
 use Rattle.t3_cli.proofs.Followed.{input_in, text_follows}
 
@@ -72,21 +74,27 @@ shown_some before after text status answer (inr cut) =
 
 -- ---- a command with its image
 
+begins_has : (from : InputFile) (files : Files) (image : ImageValue) → BeginsBy from (Some files) image → HasImage from files image
+begins_has (ImageFile name) files image begins = begins
+begins_has (SourceFile name) files image begins = begins
+begins_has (MadeImage number) files image begins = begins
+
 -- an outcome of a command with its image is one of the words
 command_result : (command : CommandValue) (files : Files) (input : List ℕ) (outcome : Outcome)
     → IsCommandOutcome command (Some files) input outcome → IsResult (Some command) files input outcome
 command_result command files input outcome (image, has, gives) =
-    image_outcome command (input_of command) files input image outcome has gives
+    image_outcome command (input_of command) files input image outcome (begins_has (input_of command) files image has) gives
 
 pub command_answers : (command : CommandValue) (all left : Option Files) (before after : Option Session) (answer : Status)
-    → Carries command all left before after (Ok answer) → IfSome all (λ files. Answers (Some command) files before answer left after)
+    → CarriesOutCommand command all left before after (Ok answer)
+    → IfSome all (λ files. Answers (Some command) files before answer left after)
 command_answers command None left before after answer carries = tt
 command_answers command (Some files) left before after answer (input, is_input, outcome, gives, follows) =
     answers_by (Some command) files left before after answer input outcome is_input
     (command_result command files input outcome gives) follows
 
 pub command_moves : (command : CommandValue) (all left : Option Files) (before after : Option Session) (answer : Status)
-    → Carries command all left before after (Ok answer) → MovesSome before after
+    → CarriesOutCommand command all left before after (Ok answer) → MovesSome before after
 command_moves command all left before after answer (input, is_input, outcome, gives, inl whole) =
     (shown_by outcome.acts, asks-moves outcome.acts before after (shown_by outcome.acts) whole.asks)
 command_moves command all left before after answer (input, is_input, outcome, gives, inr breaks) =
@@ -103,28 +111,29 @@ line_answers command files before after text status answer gives shown =
     answers_by (Some command) files (Some files) before after answer input.0 (showing status text) input.1 (gives input.0)
     (text_follows (Some files) before after text status answer shown)
 
-tells_answers : (command : CommandValue) (files : Files) (before after : Option Session) (answer : Status) (why : Unread)
-    → IsUnread (input_of command) why files → TellsUnread (file_of (input_of command)) why before after answer
+shown_answers : (command : CommandValue) (files : Files) (before after : Option Session) (answer : Status) (why : NoImage)
+    → HasNoImage (input_of command) why files → ShowsNoImage (file_of (input_of command)) why before after answer
     → Answers (Some command) files before answer (Some files) after
-tells_answers command files before after answer unread.Absent is tells =
+shown_answers command files before after answer none.Absent is tells =
     line_answers command files before after (absent_line (file_of (input_of command))) Absent answer
     (λ input. absent_outcome command (input_of command) files input is) tells
-tells_answers command files before after answer (unread.Refused place why) is tells =
+shown_answers command files before after answer (none.Refused place why) is tells =
     line_answers command files before after (refused_line why place) ImageRefused answer
     (λ input. refused_outcome command (input_of command) files input place why is) tells
-tells_answers command files before after answer (unread.BadLine line why) is tells =
+shown_answers command files before after answer (none.BadLine line why) is tells =
     line_answers command files before after (bad_line line why) SourceRefused answer
     (λ input. bad_outcome command (input_of command) files input line why is) tells
-tells_answers command files before after answer (unread.Failed refusal) is tells = inr (tells.0, inl (refl, tells.1))
+shown_answers command files before after answer (none.Failed refusal) is tells = inr (tells.0, inl (refl, tells.1))
 
-pub unread_answers : (command : CommandValue) (all left : Option Files) (before mid after : Option Session) (answer : Status) (why : Unread)
-    → Carries command all left before mid (Err why) → TellsUnread (file_of (input_of command)) why mid after answer
+pub no_image_answers : (command : CommandValue) (all left : Option Files) (before mid after : Option Session) (answer : Status)
+    (why : NoImage)
+    → CarriesOutCommand command all left before mid (Err why) → ShowsNoImage (file_of (input_of command)) why mid after answer
     → IfSome all (λ files. Answers (Some command) files before answer left after)
-unread_answers command None left before mid after answer why carries tells = tt
-unread_answers command (Some files) left before mid after answer why carries tells =
+no_image_answers command None left before mid after answer why carries tells = tt
+no_image_answers command (Some files) left before mid after answer why carries tells =
     subst (λ (l : Option Files). Answers (Some command) files before answer l after) (sym carries.1)
-    (tells_answers command files before after answer why carries.0
-    (subst (λ (s : Option Session). TellsUnread (file_of (input_of command)) why s after answer) carries.2 tells))
+    (shown_answers command files before after answer why carries.0
+    (subst (λ (s : Option Session). ShowsNoImage (file_of (input_of command)) why s after answer) carries.2 tells))
 
 shown_moves : (before after : Option Session) (text : List ℕ) (status answer : Status) → ShowsOrWants before after text status answer
     → MovesSome before after
@@ -132,27 +141,29 @@ shown_moves before after text status answer (inl shown) = shown_some before afte
 shown_moves before after text status answer (inr wants) =
     subst (λ (s : Option Session). MovesSome before s) (sym wants.1) (some_nothing before)
 
-tells_moves : (name : List ℕ) (why : Unread) (before after : Option Session) (answer : Status) → TellsUnread name why before after answer
+line_moves : (name : List ℕ) (why : NoImage) (before after : Option Session) (answer : Status) → ShowsNoImage name why before after answer
     → MovesSome before after
-tells_moves name unread.Absent before after answer tells = shown_moves before after _ Absent answer tells
-tells_moves name (unread.Refused place why) before after answer tells = shown_moves before after _ ImageRefused answer tells
-tells_moves name (unread.BadLine line why) before after answer tells = shown_moves before after _ SourceRefused answer tells
-tells_moves name (unread.Failed refusal) before after answer tells =
+line_moves name none.Absent before after answer tells = shown_moves before after _ Absent answer tells
+line_moves name (none.Refused place why) before after answer tells = shown_moves before after _ ImageRefused answer tells
+line_moves name (none.BadLine line why) before after answer tells = shown_moves before after _ SourceRefused answer tells
+line_moves name (none.Failed refusal) before after answer tells =
     subst (λ (s : Option Session). MovesSome before s) (sym tells.1) (some_nothing before)
 
-pub unread_moves : (command : CommandValue) (all left : Option Files) (before mid after : Option Session) (answer : Status) (why : Unread)
-    → Carries command all left before mid (Err why) → TellsUnread (file_of (input_of command)) why mid after answer → MovesSome before after
-unread_moves command all left before mid after answer why carries tells =
-    subst (λ (s : Option Session). MovesSome s after) carries.2 (tells_moves (file_of (input_of command)) why mid after answer tells)
+pub no_image_moves : (command : CommandValue) (all left : Option Files) (before mid after : Option Session) (answer : Status)
+    (why : NoImage)
+    → CarriesOutCommand command all left before mid (Err why) → ShowsNoImage (file_of (input_of command)) why mid after answer
+    → MovesSome before after
+no_image_moves command all left before mid after answer why carries tells =
+    subst (λ (s : Option Session). MovesSome s after) carries.2 (line_moves (file_of (input_of command)) why mid after answer tells)
 
 -- a fault of the depot was counted where it is answered
-pub counts_told : (before after : ℕ) (why : Unread) (answer : Status) → MovesFaults before after (device_answer why) → FailsBy why answer
+pub counts_told : (before after : ℕ) (why : NoImage) (answer : Status) → MovesFaults before after (device_answer why) → FailsBy why answer
     → CountsFaults (answer ≡ DepotFault) before after
-counts_told before after unread.Absent answer moves fails = (λ is. absurd (fails is), inr moves)
-counts_told before after (unread.Refused place why) answer moves fails = (λ is. absurd (fails is), inr moves)
-counts_told before after (unread.BadLine line why) answer moves fails = (λ is. absurd (fails is), inr moves)
-counts_told before after (unread.Failed device.Fault) answer moves fails = (λ is. moves, inl fails)
-counts_told before after (unread.Failed device.NoMemory) answer moves fails = (λ is. absurd (fails is), inr moves)
+counts_told before after none.Absent answer moves fails = (λ is. absurd (fails is), inr moves)
+counts_told before after (none.Refused place why) answer moves fails = (λ is. absurd (fails is), inr moves)
+counts_told before after (none.BadLine line why) answer moves fails = (λ is. absurd (fails is), inr moves)
+counts_told before after (none.Failed device.Fault) answer moves fails = (λ is. moves, inl fails)
+counts_told before after (none.Failed device.NoMemory) answer moves fails = (λ is. absurd (fails is), inr moves)
 
 -- ---- only words that are no command end in the usage
 
@@ -179,7 +190,7 @@ plan_not_usage (Running options actions) image files input outcome (inr (ran, ru
     λ same. stop_not_usage ran.stop (sym (ap (λ (o : Outcome). o.status) is) ∙ same)
 
 pub command_not_usage : (command : CommandValue) (all left : Option Files) (before after : Option Session) (answer : Status)
-    → Carries command all left before after (Ok answer) → answer ≢ Usage
+    → CarriesOutCommand command all left before after (Ok answer) → answer ≢ Usage
 command_not_usage command all left before after answer (input, is_input, outcome, gives, inl whole) =
     λ is. plan_not_usage (plan_of command gives.0) gives.0 all input outcome gives.2 (sym whole.status ∙ is)
 command_not_usage command all left before after answer (input, is_input, outcome, gives, inr breaks) = cut_not_usage answer breaks.cut
@@ -190,15 +201,15 @@ line_not_usage before after text status answer other (inl (inl whole)) = λ is. 
 line_not_usage before after text status answer other (inl (inr cut)) = cut_not_usage answer cut.cut
 line_not_usage before after text status answer other (inr wants) = cut_not_usage answer (subst CutsShort (sym wants.0) tt)
 
-pub unread_not_usage : (name : List ℕ) (why : Unread) (before after : Option Session) (answer : Status)
-    → TellsUnread name why before after answer
+pub no_image_not_usage : (name : List ℕ) (why : NoImage) (before after : Option Session) (answer : Status)
+    → ShowsNoImage name why before after answer
     → answer ≢ Usage
-unread_not_usage name unread.Absent before after answer tells = line_not_usage before after _ Absent answer (λ e. absurd cc) tells
-unread_not_usage name (unread.Refused place why) before after answer tells =
+no_image_not_usage name none.Absent before after answer tells = line_not_usage before after _ Absent answer (λ e. absurd cc) tells
+no_image_not_usage name (none.Refused place why) before after answer tells =
     line_not_usage before after _ ImageRefused answer (λ e. absurd cc) tells
-unread_not_usage name (unread.BadLine line why) before after answer tells =
+no_image_not_usage name (none.BadLine line why) before after answer tells =
     line_not_usage before after _ SourceRefused answer (λ e. absurd cc) tells
-unread_not_usage name (unread.Failed refusal) before after answer tells = cut_not_usage answer tells.0
+no_image_not_usage name (none.Failed refusal) before after answer tells = cut_not_usage answer tells.0
 
 -- ---- words that are no command
 

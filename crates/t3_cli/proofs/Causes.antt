@@ -21,7 +21,7 @@ use Rattle.t3_cli.specs.Cause.{Cause, WordsCause, CommandCause, IsAbsent, IsRefu
 use Rattle.t3_cli.specs.Top.{CutsShort, HasExactCause}
 use Rattle.t3_cli.specs.Inner.Following.{Answers}
 use Rattle.t3_cli.proofs.Results.{one_outcome}
-use Rattle.t3_cli.proofs.Unreads.{absent_outcome, refused_outcome, bad_outcome, image_outcome}
+use Rattle.t3_cli.proofs.InputOutcomes.{absent_outcome, refused_outcome, bad_outcome, image_outcome}
 
 -- ---- an outcome that isn't done has the cause of its status
 

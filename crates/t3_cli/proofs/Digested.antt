@@ -5,7 +5,7 @@ use Rattle.t3_image_read.specs.ImageText.{ImageValue, text}
 use Rattle.t3_image_read.specs.Reader.{Reading, Taking, Ended, Failed, Finishes}
 use Rattle.t3_words.specs.Input.{InputFile}
 use Rattle.t3_cli.specs.Outcome.{fingerprint_of}
-use Rattle.t3_cli.specs.Inner.Reading.{Reads, IsImage, IsDigested, HoldsRead}
+use Rattle.t3_cli.specs.Inner.Reading.{ReadsImage, IsImage, IsDigested, HoldsRead}
 
 -- a fresh one, before anything was read
 pub holds_none : {P : Type 0} (HasTaken : P → List ℕ → Type 0) (reading : Reading) (sink : P) → reading ≡ Taking [] → HasTaken sink []
@@ -22,6 +22,7 @@ holds_image HasTaken (Ended ended) sink image holds finishes =
 holds_image HasTaken (Failed refusal) sink image holds finishes = absurd (let clash = finishes in cc)
 
 -- an image that was read, with its fingerprint
-pub digests_image : (from : InputFile) (files : Option Files) (image : ImageValue) (digest : List ℕ) → Reads IsImage from files (Ok image)
-    → digest ≡ fingerprint_of image → Reads IsDigested from files (Ok (record { image = image; digest = digest }))
+pub digests_image : (from : InputFile) (files : Option Files) (image : ImageValue) (digest : List ℕ)
+    → ReadsImage IsImage from files (Ok image)
+    → digest ≡ fingerprint_of image → ReadsImage IsDigested from files (Ok (record { image = image; digest = digest }))
 digests_image from files image digest reads same = (reads.0, reads.1, record { is = reads.2; digest = same })

@@ -28,10 +28,10 @@ use Rattle.t3_cli.specs.Outcome.{assembled, BeginsWith}
 use Rattle.t3_cli.specs.Cause.{HasImage}
 use Rattle.std.specs.Option.{option_map}
 use Rattle.std.specs.Result.{IsErr, IsErrAnd}
-use Rattle.t3_cli.specs.declared.images.unread.Unread.{Unread}
-use Rattle.t3_cli.specs.declared.images.unread.Unread.TheVariants as unread
-use Rattle.t3_cli.specs.Inner.Unread.{IsUnread, unread_of}
-use Rattle.t3_cli.specs.Inner.Reading.{Reads, ReadsPieces, HasRead, IsFed, IsImage, IsWritten, IsAssembled}
+use Rattle.t3_cli.specs.declared.images.no_image.NoImage.{NoImage}
+use Rattle.t3_cli.specs.declared.images.no_image.NoImage.TheVariants as none
+use Rattle.t3_cli.specs.Inner.NoImage.{HasNoImage, no_image_of}
+use Rattle.t3_cli.specs.Inner.Reading.{ReadsImage, ReadsPieces, HasRead, IsFed, IsImage, IsRewritten, IsAssembled}
 
 -- ---- the file of a name, if there is one
 
@@ -78,9 +78,9 @@ told : (files : Option Files) (Told : Files → Type 0) → ((all : Files) → f
 told None Told so = tt
 told (Some files) Told so = so files refl
 
--- of a device that failed nothing is known
+-- of a failing device and of want of memory nothing is known
 pub nothing_known : (files : Option Files) (from : InputFile) (refusal : DeviceRefusal)
-    → IfSome files (IsUnread from (unread.Failed refusal))
+    → IfSome files (HasNoImage from (none.Failed refusal))
 nothing_known None from refusal = tt
 nothing_known (Some files) from refusal = tt
 
@@ -98,7 +98,7 @@ taking_more files name taken buffer after at want count (Ok (Done used)) long so
     )
 taking_more files name taken buffer after at want count (Err (At place why)) long so_far piece there near took =
     subst (λ r. HasRead files name r (at + count)) (sym took.0) (
-    told files (IsUnread (ImageFile name) (unread.Refused place why)) (λ all e.
+    told files (HasNoImage (ImageFile name) (none.Refused place why)) (λ all e.
     refused_of (get all name) taken buffer at want count place why (subst (λ f. TakesSoFar f name taken at) e so_far) (subst (λ f. GivesPiece f name at want buffer (Ok (got.Count count))) e piece) near took.1)
     )
 taking_more files name taken buffer after at want count (Err NoMemory) long so_far piece there near took =
@@ -129,7 +129,7 @@ absent_of None buffer at want piece = refl
 absent_of (Some file) buffer at want piece = absurd piece
 
 pub reads_absent : (files : Option Files) (name buffer : List ℕ) (at want : ℕ) → GivesPiece files name at want buffer (Ok got.Absent)
-    → IfSome files (IsUnread (ImageFile name) unread.Absent)
+    → IfSome files (HasNoImage (ImageFile name) none.Absent)
 reads_absent None name buffer at want piece = tt
 reads_absent (Some files) name buffer at want piece = absent_of (get files name) buffer at want piece
 
@@ -142,15 +142,15 @@ cut_of (Some file) taken at place so_far ended refused = (file, refl, subst (λ 
 
 -- a reader that had taken all refuses the file for being cut
 cut_at : (files : Option Files) (name taken : List ℕ) (at place : ℕ) → TakesSoFar files name taken at → IsEnd files name at
-    → Refused taken place Truncated → IfSome files (IsUnread (ImageFile name) (unread.Refused place Truncated))
+    → Refused taken place Truncated → IfSome files (HasNoImage (ImageFile name) (none.Refused place Truncated))
 cut_at files name taken at place so_far ended refused =
-    told files (IsUnread (ImageFile name) (unread.Refused place Truncated)) (λ all e.
+    told files (HasNoImage (ImageFile name) (none.Refused place Truncated)) (λ all e.
     cut_of (get all name) taken at place (subst (λ f. TakesSoFar f name taken at) e so_far) (subst (λ f. IsEnd f name at) e ended) refused)
 
 -- what is told of the image of a file
 pub tells_image : {V : Type 0} (told_of : ImageValue → V) (files : Option Files) (name : List ℕ) (reader : Reading) (value : V)
     → ReadsPieces files name reader (Ok tt) → FinishesAs told_of reader (Ok value)
-    → Reads (λ image made. made ≡ told_of image) (ImageFile name) files (Ok value)
+    → ReadsImage (λ image made. made ≡ told_of image) (ImageFile name) files (Ok value)
 tells_image told_of files name (Taking taken) value reads finishes = absurd (let clash = finishes.1 in cc)
 tells_image told_of files name (Ended image) value reads finishes = (image, reads.1, let is : value ≡ told_of image = cc in is)
 tells_image told_of files name (Failed refusal) value reads finishes = absurd (let clash = finishes in cc)
@@ -159,15 +159,15 @@ tells_image told_of files name (Failed refusal) value reads finishes = absurd (l
 pub tells_refusal : {V : Type 0} (told_of : ImageValue → V) (files : Option Files) (name : List ℕ) (reader : Reading)
     (refusal : ReadRefusal)
     → ReadsPieces files name reader (Ok tt) → FinishesAs told_of reader (Err refusal)
-    → IfSome files (IsUnread (ImageFile name) (unread_of refusal))
+    → IfSome files (HasNoImage (ImageFile name) (no_image_of refusal))
 tells_refusal told_of files name (Taking taken) refusal reads finishes =
     let same : At finishes.0 Truncated ≡ refusal = let e = finishes.1 in cc in
-    subst (λ (r : ReadRefusal). IfSome files (IsUnread (ImageFile name) (unread_of r))) same
+    subst (λ (r : ReadRefusal). IfSome files (HasNoImage (ImageFile name) (no_image_of r))) same
     (cut_at files name taken reads.0 finishes.0 reads.1.1 reads.2 finishes.2)
 tells_refusal told_of files name (Ended image) refusal reads finishes = absurd (let clash = finishes in cc)
 tells_refusal told_of files name (Failed other) refusal reads finishes =
     let same : other ≡ refusal = let e = finishes in cc in
-    subst (λ (r : ReadRefusal). IfSome files (IsUnread (ImageFile name) (unread_of r))) same reads.1
+    subst (λ (r : ReadRefusal). IfSome files (HasNoImage (ImageFile name) (no_image_of r))) same reads.1
 
 -- ---- what is written of the image of a file
 
@@ -184,7 +184,7 @@ parts_are mask (Failed refusal) parts finishes = absurd (let clash = finishes in
 pub writes_text : (under mask : Option ℕ) (files : Option Files) (name : List ℕ) (reader : Reading) (parts : ImageParts (List ℕ))
     (written : Vec ℕ) → under ≡ mask → ReadsPieces files name reader (Ok tt) → FinishesParts (HasRewritten mask) reader (Ok parts)
     → ((image : ImageValue) → AreParts (HasRewritten mask) image parts → written.items ≡ text (masked_image mask image))
-    → Reads (IsWritten under) (ImageFile name) files (Ok written)
+    → ReadsImage (IsRewritten under) (ImageFile name) files (Ok written)
 writes_text under mask files name reader parts written same reads finishes is =
     let are = parts_are mask reader parts finishes in
     let ended = subst (λ r. ReadsPieces files name r (Ok tt)) are.1 reads in
@@ -193,7 +193,7 @@ writes_text under mask files name reader parts written same reads finishes is =
 -- a reader that wrote refuses as every other does
 pub refuses_parts : (mask : Option ℕ) (files : Option Files) (name : List ℕ) (reader : Reading) (refusal : ReadRefusal)
     → ReadsPieces files name reader (Ok tt) → FinishesParts (HasRewritten mask) reader (Err refusal)
-    → IfSome files (IsUnread (ImageFile name) (unread_of refusal))
+    → IfSome files (HasNoImage (ImageFile name) (no_image_of refusal))
 refuses_parts mask files name reader refusal reads finishes =
     tells_refusal (λ (image : ImageValue). image) files name reader refusal reads (as_refusal reader finishes)
   where
@@ -207,11 +207,11 @@ refuses_parts mask files name reader refusal reads finishes =
 
 -- ---- why nothing was read, as it is handed on
 
-pub reads_err : {T : Type 0} (IsMade : ImageValue → T → Type 0) (from : InputFile) (files : Option Files) (answer : Result T Unread)
-    (why : Unread)
-    → IsErr answer × IsErrAnd answer (λ e. e ≡ why) → IfSome files (IsUnread from why) → Reads IsMade from files answer
+pub reads_err : {T : Type 0} (IsMade : ImageValue → T → Type 0) (from : InputFile) (files : Option Files) (answer : Result T NoImage)
+    (why : NoImage)
+    → IsErr answer × IsErrAnd answer (λ e. e ≡ why) → IfSome files (HasNoImage from why) → ReadsImage IsMade from files answer
 reads_err IsMade from files (Ok made) why gives unread = absurd gives.1
-reads_err IsMade from files (Err e) why gives unread = subst (λ (w : Unread). IfSome files (IsUnread from w)) (sym gives.1) unread
+reads_err IsMade from files (Err e) why gives unread = subst (λ (w : NoImage). IfSome files (HasNoImage from w)) (sym gives.1) unread
 
 -- ---- a source's file
 
@@ -220,16 +220,16 @@ file_there : (o : Option (List ℕ)) (bytes : List ℕ) → Some bytes ≡ optio
 file_there None bytes is = absurd cc
 file_there (Some file) bytes is = (file, refl, let same : bytes ≡ read_bytes file = cc in same)
 
-pub reads_assembled : (files : Option Files) (name : List ℕ) (source : Vec ℕ) (answer : Result ImageValue Unread)
-    → ReadsFile files name (Ok (Some source)) → IsAssembled source.items answer → Reads IsImage (SourceFile name) files answer
+pub reads_assembled : (files : Option Files) (name : List ℕ) (source : Vec ℕ) (answer : Result ImageValue NoImage)
+    → ReadsFile files name (Ok (Some source)) → IsAssembled source.items answer → ReadsImage IsImage (SourceFile name) files answer
 reads_assembled None name source (Ok image) reads says = (image, tt, refl)
 reads_assembled (Some files) name source (Ok image) reads says =
     let there = file_there (get files name) source.items reads in
     (image, (there.0, there.1, subst (λ (bytes : List ℕ). assembled bytes ≡ Ok image) there.2 says), refl)
-reads_assembled None name source (Err (unread.BadLine line why)) reads says = tt
-reads_assembled (Some files) name source (Err (unread.BadLine line why)) reads says =
+reads_assembled None name source (Err (none.BadLine line why)) reads says = tt
+reads_assembled (Some files) name source (Err (none.BadLine line why)) reads says =
     let there = file_there (get files name) source.items reads in
     (there.0, there.1, subst (λ (bytes : List ℕ). assembled bytes ≡ Err (refusal line why)) there.2 says)
-reads_assembled files name source (Err (unread.Failed refusal)) reads says = nothing_known files (SourceFile name) refusal
-reads_assembled files name source (Err unread.Absent) reads says = absurd says
-reads_assembled files name source (Err (unread.Refused place why)) reads says = absurd says
+reads_assembled files name source (Err (none.Failed refusal)) reads says = nothing_known files (SourceFile name) refusal
+reads_assembled files name source (Err none.Absent) reads says = absurd says
+reads_assembled files name source (Err (none.Refused place why)) reads says = absurd says

@@ -17,9 +17,8 @@ use Rattle.t3_run.proofs.Asks.{asks-none, asks-more, asks-longer}
 use Rattle.t3_run.proofs.Acts.{shown_by-append, files_by-append}
 use Rattle.t3_run.proofs.Cutting.{fails_by, behind_as, stops_before, stops_more}
 use Rattle.t3_words.specs.Command.{CommandValue, RunOptions}
-use Rattle.t3_cli.specs.declared.images.unread.Unread.{Unread}
-use Rattle.t3_words.specs.Input.{MadeImage, input_of}
-use Rattle.t3_drill.specs.Drill.{drill_image}
+use Rattle.t3_cli.specs.declared.images.no_image.NoImage.{NoImage}
+use Rattle.t3_words.specs.Input.{input_of}
 use Rattle.t3_cli.specs.Plan.{Plan, Running, plan_of}
 use Rattle.t3_cli.specs.Lines.{put_line, load_line, drill_line}
 use Rattle.t3_image_read.specs.ImageText.{ImageValue}
@@ -30,7 +29,7 @@ use Rattle.t3_load.specs.Loading.{ProgramValue, Loads}
 use Rattle.t3_cli.specs.Outcome.{Outcome, showing, putting, acts_of, ran_outcome, status_of, IsImageOutcome, IsPlanOutcome, IsRunOutcome, IsLoaded, fingerprint_of, run_limits}
 use Rattle.t3_cli.specs.Top.{CutsShort, IsShown}
 use Rattle.t3_cli.specs.Inner.Showing.{AnswersLine, ShowsOrWants}
-use Rattle.t3_cli.specs.Inner.Following.{Follows, FollowsSome, Breaks, Carries, IsProgramOutcome, IsClosed}
+use Rattle.t3_cli.specs.Inner.Following.{Follows, FollowsSome, Breaks, CarriesOutCommand, IsProgramOutcome, IsClosed}
 use Rattle.t3_cli.specs.Inner.Reading.{BeginsBy}
 use Rattle.t3_cli.proofs.Results.{some_run_outcome}
 
@@ -280,7 +279,7 @@ unloaded_follows image why options actions files before after answer (inr (broke
 pub carried_by : (command : CommandValue) (image : ImageValue) (outcome : Outcome) (files left : Option Files)
     (before after : Option Session)
     (answer : Status) → BeginsBy (input_of command) files image → ((input : List ℕ) → IsImageOutcome command image files input outcome)
-    → Follows outcome files left before after answer → Carries command files left before after (Ok answer)
+    → Follows outcome files left before after answer → CarriesOutCommand command files left before after (Ok answer)
 carried_by command image outcome files left before after answer begins gives follows =
     let input = input_in before in
     (input.0, input.1, outcome, (image, begins, gives input.0), follows)
@@ -291,7 +290,7 @@ pub shown_by_image : {Line Error : Type 0}
     (before after : Option Session) (line : Result Line Error) (answer : Status) → BeginsBy (input_of command) files image → left ≡ files
     → ((input : List ℕ) → IsImageOutcome command image files input (showing Done text))
     → IfOk line (λ l. text_of l ≡ text) → AnswersLine text_of before after line Done answer
-    → Carries command files left before after (Ok answer)
+    → CarriesOutCommand command files left before after (Ok answer)
 shown_by_image text_of command image text files left before after line answer begins same gives told answers =
     carried_by command image (showing Done text) files left before after answer begins gives
     (subst (λ (f : Option Files). Follows (showing Done text) files f before after answer) (sym same)
@@ -301,7 +300,8 @@ shown_by_image text_of command image text files left before after line answer be
 pub run_by_image : (command : CommandValue) (image : ImageValue) (options : RunOptions) (actions : Option ℕ) (files left : Option Files)
     (before after : Option Session) (answer : Status) → BeginsBy (input_of command) files image
     → plan_of command image ≡ Running options actions
-    → FollowsSome (IsRunOutcome options actions image) files left before after answer → Carries command files left before after (Ok answer)
+    → FollowsSome (IsRunOutcome options actions image) files left before after answer
+    → CarriesOutCommand command files left before after (Ok answer)
 run_by_image command image options actions files left before after answer begins planned (input, is_input, outcome, gives, follows) = (
   input,
   is_input,
@@ -314,19 +314,14 @@ run_by_image command image options actions files left before after answer begins
 pub put_by_image : (command : CommandValue) (image : ImageValue) (out bytes : List ℕ) (files read left : Option Files)
     (before after : Option Session) (answer : Status) → BeginsBy (input_of command) files image → read ≡ files
     → ((input : List ℕ) → IsImageOutcome command image files input (putting out bytes))
-    → Follows (putting out bytes) read left before after answer → Carries command files left before after (Ok answer)
+    → Follows (putting out bytes) read left before after answer → CarriesOutCommand command files left before after (Ok answer)
 put_by_image command image out bytes files read left before after answer begins same gives follows =
     carried_by command image (putting out bytes) files left before after answer begins gives
     (subst (λ (f : Option Files). Follows (putting out bytes) f left before after answer) same follows)
 
--- an image that was made
-pub begins_made : (number : ℕ) (files : Option Files) → BeginsBy (MadeImage number) files (drill_image number)
-begins_made number None = tt
-begins_made number (Some files) = refl
-
 -- a command as it was matched
-pub matched_carries : (command is : CommandValue) (files left : Option Files) (before after : Option Session)
-    (answer : Result Status Unread)
-    → command ≡ is → Carries is files left before after answer → Carries command files left before after answer
-matched_carries command is files left before after answer same carries =
-    subst (λ (c : CommandValue). Carries c files left before after answer) (sym same) carries
+pub matched_command : (command is : CommandValue) (files left : Option Files) (before after : Option Session)
+    (answer : Result Status NoImage)
+    → command ≡ is → CarriesOutCommand is files left before after answer → CarriesOutCommand command files left before after answer
+matched_command command is files left before after answer same carries =
+    subst (λ (c : CommandValue). CarriesOutCommand c files left before after answer) (sym same) carries

@@ -1,7 +1,7 @@
 pub mod Lining
 pub mod FileRead
 pub mod Results
-mod Unreads
+mod InputOutcomes
 pub mod Followed
 pub mod Answered
 pub mod Causes

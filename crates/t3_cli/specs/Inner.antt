@@ -1,5 +1,5 @@
 -- What only the contracts of private functions cite.
-pub mod Unread
+pub mod NoImage
 pub mod Reading
 pub mod Showing
 pub mod Following

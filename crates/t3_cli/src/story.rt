@@ -1,4 +1,4 @@
-//! Carries out the story that an image is.
+//! CarriesOutCommand out the story that an image is.
 ghost use Rattle.std.specs.Prelude.{◌≡◌, ◌≢◌, ◌<◌, ◌-◌, ◌^◌};
 ghost use Rattle.t3_load.specs.Loading.{Loads};
 ghost use Rattle.t3_cli.specs.Outcome.{IsRunOutcome, fingerprint_of, run_limits, status_of as status_by};
@@ -42,8 +42,10 @@ pub(crate) fn launch<D: Depot, C: Console>(
     ensures follows { FollowsSome (IsRunOutcome (options_value options) actions digested.image)
         (D.files depot.old) (D.files depot.new) (C.session console.old) (C.session console.new)
         result }
-    ensures depot { CountsFaults (result ≡ Status.DepotFault) (D.faults depot.old) (D.faults depot.new) }
-    ensures console { CountsFaults (result ≡ Status.ConsoleFault) (C.faults console.old) (C.faults console.new) }
+    ensures depot { CountsFaults (result ≡ Status.DepotFault)
+        (D.faults depot.old) (D.faults depot.new) }
+    ensures console { CountsFaults (result ≡ Status.ConsoleFault)
+        (C.faults console.old) (C.faults console.new) }
 {
     match program_of(alloc, digested, options) {
         Ok(program) => play(alloc, program, options, actions, depot, console),
@@ -58,7 +60,8 @@ fn program_of(
     options: RunOptions,
 ) -> Result<Program, LoadRefusal>
     requires { AreWithin (options_value options) }
-    ensures { Loads digested.image.blocks digested.digest (run_limits (options_value options)) result }
+    ensures { Loads digested.image.blocks digested.digest (run_limits (options_value options))
+        result }
 {
     let limits = StoreLimits {
         objects: OBJECTS,
@@ -76,7 +79,8 @@ fn unloaded<C: Console>(alloc: Global, why: LoadRefusal, console: &mut C) -> Sta
         → (result ≡ Status.NoMemory) × (C.session console.new ≡ C.session console.old) }
     ensures shown { why ≢ LoadRefusal.NoMemory → ShowsOrWants (C.session console.old)
         (C.session console.new) (load_line why) Status.LoadRefused result }
-    ensures console { CountsFaults (result ≡ Status.ConsoleFault) (C.faults console.old) (C.faults console.new) }
+    ensures console { CountsFaults (result ≡ Status.ConsoleFault)
+        (C.faults console.old) (C.faults console.new) }
     ensures no_depot { result ≢ Status.DepotFault }
 {
     match why {
@@ -104,8 +108,10 @@ fn play<D: Depot, C: Console>(
     ensures follows { FollowsSome (IsProgramOutcome program (options_value options) actions)
         (D.files depot.old) (D.files depot.new) (C.session console.old) (C.session console.new)
         result }
-    ensures depot { CountsFaults (result ≡ Status.DepotFault) (D.faults depot.old) (D.faults depot.new) }
-    ensures console { CountsFaults (result ≡ Status.ConsoleFault) (C.faults console.old) (C.faults console.new) }
+    ensures depot { CountsFaults (result ≡ Status.DepotFault)
+        (D.faults depot.old) (D.faults depot.new) }
+    ensures console { CountsFaults (result ≡ Status.ConsoleFault)
+        (C.faults console.old) (C.faults console.new) }
 {
     match run(alloc, program, options.steps, options.width, depot, console) {
         Ok(end) => closed(alloc, end, actions, console),
@@ -119,7 +125,8 @@ fn play<D: Depot, C: Console>(
 fn closed<C: Console>(alloc: Global, end: RunEnd, actions: Option<u32>, console: &mut C) -> Status
     requires { C.faults console.old < 2 ^ 64 - 1 }
     ensures closed { IsClosed (C.session console.old) (C.session console.new) actions end result }
-    ensures console { CountsFaults (result ≡ Status.ConsoleFault) (C.faults console.old) (C.faults console.new) }
+    ensures console { CountsFaults (result ≡ Status.ConsoleFault)
+        (C.faults console.old) (C.faults console.new) }
     ensures no_depot { result ≢ Status.DepotFault }
 {
     let status = status_of(end.stop);

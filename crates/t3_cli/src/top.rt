@@ -76,8 +76,10 @@ pub fn t3_main<D: Depot, C: Console>(
     ensures moved { MovesSome (C.session console.old) (C.session console.new) }
 
     // A fault is answered exactly where one was counted.
-    ensures depot { CountsFaults (result ≡ Status.DepotFault) (D.faults depot.old) (D.faults depot.new) }
-    ensures console { CountsFaults (result ≡ Status.ConsoleFault) (C.faults console.old) (C.faults console.new) }
+    ensures depot { CountsFaults (result ≡ Status.DepotFault)
+        (D.faults depot.old) (D.faults depot.new) }
+    ensures console { CountsFaults (result ≡ Status.ConsoleFault)
+        (C.faults console.old) (C.faults console.new) }
 {
     match Command::parse(words) {
         None => end_with(console, lines::USAGE, Status::Usage),

@@ -7,8 +7,8 @@ use Rattle.t3_io.specs.Cause.{MovesFaults}
 use Rattle.t3_io.specs.declared.refusal.DeviceRefusal.{DeviceRefusal}
 use Rattle.t3_io.specs.declared.refusal.DeviceRefusal.TheVariants as device
 use Rattle.t3_image_read.specs.ImageText.{ImageValue}
-use Rattle.t3_cli.specs.declared.images.unread.Unread.{Unread}
-use Rattle.t3_cli.specs.declared.images.unread.Unread.TheVariants as unread
+use Rattle.t3_cli.specs.declared.images.no_image.NoImage.{NoImage}
+use Rattle.t3_cli.specs.declared.images.no_image.NoImage.TheVariants as none
 use Rattle.t3_cli.specs.declared.status.Status.{Status}
 use Rattle.t3_cli.specs.declared.status.Status.TheVariants.{Absent, ImageRefused, SourceRefused, DepotFault, ConsoleFault}
 use Rattle.t3_run.specs.Act.{Act, shown_by, LeavesActs, StopsBehind}
@@ -22,7 +22,7 @@ use Rattle.t3_cli.specs.Outcome.{Outcome, ran_outcome, status_of, RunsProgram, I
 use Rattle.t3_cli.specs.Inner.Showing.{ShowsOrWants}
 use Rattle.t3_words.specs.Input.{input_of}
 use Rattle.t3_cli.specs.Top.{CountsFaults, CutsShort, IsWhole, IsCut}
-use Rattle.t3_cli.specs.Inner.Unread.{IsUnread, device_answer}
+use Rattle.t3_cli.specs.Inner.NoImage.{HasNoImage, device_answer}
 use Rattle.t3_cli.specs.Inner.Reading.{BeginsBy}
 
 -- all acts were done, and the status is that of the outcome
@@ -67,28 +67,29 @@ IsCommandOutcome command files input outcome =
     (image : ImageValue) × BeginsBy (input_of command) files image × IsImageOutcome command image files input outcome
 
 -- a command was carried out by its image, or it has none and nothing was done
-abbrev pub Carries : CommandValue → Option Files → Option Files → Option Session → Option Session → Result Status Unread → Type 0
-Carries command files left before after (Ok answer) = FollowsSome (IsCommandOutcome command) files left before after answer
-Carries command files left before after (Err why) = IfSome files (IsUnread (input_of command) why) × (left ≡ files) × (after ≡ before)
+abbrev pub CarriesOutCommand : CommandValue → Option Files → Option Files → Option Session → Option Session → Result Status NoImage → Type 0
+CarriesOutCommand command files left before after (Ok answer) = FollowsSome (IsCommandOutcome command) files left before after answer
+CarriesOutCommand command files left before after (Err why) = IfSome files (HasNoImage (input_of command) why) × (left ≡ files) × (after ≡ before)
 
 -- what is shown of a command without an image
-abbrev pub TellsUnread : List ℕ → Unread → Option Session → Option Session → Status → Type 0
-TellsUnread name unread.Absent before after answer = ShowsOrWants before after (absent_line name) Absent answer
-TellsUnread name (unread.Refused place why) before after answer = ShowsOrWants before after (refused_line why place) ImageRefused answer
-TellsUnread name (unread.BadLine line why) before after answer = ShowsOrWants before after (bad_line line why) SourceRefused answer
-TellsUnread name (unread.Failed refusal) before after answer = CutsShort answer × (after ≡ before)
+abbrev pub ShowsNoImage : List ℕ → NoImage → Option Session → Option Session → Status → Type 0
+ShowsNoImage name none.Absent before after answer = ShowsOrWants before after (absent_line name) Absent answer
+ShowsNoImage name (none.Refused place why) before after answer = ShowsOrWants before after (refused_line why place) ImageRefused answer
+ShowsNoImage name (none.BadLine line why) before after answer = ShowsOrWants before after (bad_line line why) SourceRefused answer
+ShowsNoImage name (none.Failed refusal) before after answer = CutsShort answer × (after ≡ before)
 
--- a fault of the depot is answered where it had one
-abbrev pub FailsBy : Unread → Status → Type 0
-FailsBy (unread.Failed device.Fault) answer = answer ≡ DepotFault
+-- the depot's fault is answered exactly where the depot failed
+abbrev pub FailsBy : NoImage → Status → Type 0
+FailsBy (none.Failed device.Fault) answer = answer ≡ DepotFault
 FailsBy _ answer = answer ≢ DepotFault
 
--- the faults that a command's devices counted
-abbrev pub CountsDepot : ℕ → ℕ → Result Status Unread → Type 0
+-- how a command moves the depot's count of faults
+abbrev pub CountsDepot : ℕ → ℕ → Result Status NoImage → Type 0
 CountsDepot before after (Ok answer) = CountsFaults (answer ≡ DepotFault) before after
 CountsDepot before after (Err why) = MovesFaults before after (device_answer why)
 
-abbrev pub CountsConsole : ℕ → ℕ → Result Status Unread → Type 0
+-- and the console's, which shows nothing where there is no image
+abbrev pub CountsConsole : ℕ → ℕ → Result Status NoImage → Type 0
 CountsConsole before after (Ok answer) = CountsFaults (answer ≡ ConsoleFault) before after
 CountsConsole before after (Err why) = after ≡ before
 

@@ -2,11 +2,11 @@
 ghost use Rattle.std.specs.Prelude.{◌<◌, ◌≤◌, ◌-◌, ◌^◌};
 ghost use Rattle.t3_holder.specs.FileName.{IsFileName};
 ghost use Rattle.t3_words.specs.Command.{AreWithin, Drill as DrillOf, Run as RunOf, options_value};
-ghost use Rattle.t3_cli.specs.Inner.Following.{Carries, CountsConsole, CountsDepot};
+ghost use Rattle.t3_cli.specs.Inner.Following.{CarriesOutCommand, CountsConsole, CountsDepot};
 
 use crate::images::made::made_image;
+use crate::images::no_image::NoImage;
 use crate::images::read::read_digested;
-use crate::images::unread::Unread;
 use crate::status::Status;
 use crate::story::launch;
 use std::alloc::Global;
@@ -21,13 +21,14 @@ pub(super) fn run_image<D: Depot, C: Console>(
     options: RunOptions,
     depot: &mut D,
     console: &mut C,
-) -> Result<Status, Unread>
+) -> Result<Status, NoImage>
     requires name { IsFileName image.now }
     requires within { AreWithin (options_value options) }
     requires depot { D.faults depot.old < 2 ^ 64 - 1 }
     requires console { C.faults console.old < 2 ^ 64 - 1 }
-    ensures carries { Carries (RunOf image.now (options_value options)) (D.files depot.old) (D.files depot.new)
-        (C.session console.old) (C.session console.new) result }
+    ensures carries { CarriesOutCommand (RunOf image.now (options_value options))
+        (D.files depot.old) (D.files depot.new) (C.session console.old) (C.session console.new)
+        result }
     ensures depot { CountsDepot (D.faults depot.old) (D.faults depot.new) result }
     ensures console { CountsConsole (C.faults console.old) (C.faults console.new) result }
 {
@@ -41,12 +42,13 @@ pub(super) fn run_drill<D: Depot, C: Console>(
     number: u8,
     depot: &mut D,
     console: &mut C,
-) -> Result<Status, Unread>
+) -> Result<Status, NoImage>
     requires number { number ≤ 200 }
     requires depot { D.faults depot.old < 2 ^ 64 - 1 }
     requires console { C.faults console.old < 2 ^ 64 - 1 }
-    ensures carries { Carries (DrillOf number) (D.files depot.old) (D.files depot.new)
-        (C.session console.old) (C.session console.new) result }
+    ensures carries { CarriesOutCommand (DrillOf number)
+        (D.files depot.old) (D.files depot.new) (C.session console.old) (C.session console.new)
+        result }
     ensures depot { CountsDepot (D.faults depot.old) (D.faults depot.new) result }
     ensures console { CountsConsole (C.faults console.old) (C.faults console.new) result }
 {

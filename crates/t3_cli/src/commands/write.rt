@@ -4,15 +4,15 @@ ghost use Rattle.t3_holder.specs.FileName.{IsFileName};
 ghost use Rattle.t3_words.specs.Command.{Asm as Assembling, Listing as ListingImage, Rewrite as Rewriting};
 ghost use Rattle.t3_cli.specs.Outcome.{putting};
 ghost use Rattle.t3_cli.specs.Top.{CountsFaults};
-ghost use Rattle.t3_cli.specs.Inner.Following.{Carries, CountsConsole, CountsDepot, Follows};
+ghost use Rattle.t3_cli.specs.Inner.Following.{CarriesOutCommand, CountsConsole, CountsDepot, Follows};
 
 use crate::commands::carry::depot_status;
 use crate::console::answer;
+use crate::images::no_image::NoImage;
 use crate::images::put::put_text;
 use crate::images::read::read_image;
 use crate::images::rewrite::rewrite_image;
 use crate::images::source::read_source;
-use crate::images::unread::Unread;
 use crate::lines;
 use crate::status::Status;
 use std::alloc::Global;
@@ -29,13 +29,14 @@ pub(super) fn rewrite<D: Depot, C: Console>(
     mask: Option<u8>,
     depot: &mut D,
     console: &mut C,
-) -> Result<Status, Unread>
+) -> Result<Status, NoImage>
     requires name { IsFileName image.now }
     requires out { IsFileName out.now }
     requires depot { D.faults depot.old < 2 ^ 64 - 1 }
     requires console { C.faults console.old < 2 ^ 64 - 1 }
-    ensures carries { Carries (Rewriting image.now out.now mask) (D.files depot.old) (D.files depot.new)
-        (C.session console.old) (C.session console.new) result }
+    ensures carries { CarriesOutCommand (Rewriting image.now out.now mask)
+        (D.files depot.old) (D.files depot.new) (C.session console.old) (C.session console.new)
+        result }
     ensures depot { CountsDepot (D.faults depot.old) (D.faults depot.new) result }
     ensures console { CountsConsole (C.faults console.old) (C.faults console.new) result }
 {
@@ -50,13 +51,14 @@ pub(super) fn list_image<D: Depot, C: Console>(
     out: &str,
     depot: &mut D,
     console: &mut C,
-) -> Result<Status, Unread>
+) -> Result<Status, NoImage>
     requires name { IsFileName image.now }
     requires out { IsFileName out.now }
     requires depot { D.faults depot.old < 2 ^ 64 - 1 }
     requires console { C.faults console.old < 2 ^ 64 - 1 }
-    ensures carries { Carries (ListingImage image.now out.now) (D.files depot.old) (D.files depot.new)
-        (C.session console.old) (C.session console.new) result }
+    ensures carries { CarriesOutCommand (ListingImage image.now out.now)
+        (D.files depot.old) (D.files depot.new) (C.session console.old) (C.session console.new)
+        result }
     ensures depot { CountsDepot (D.faults depot.old) (D.faults depot.new) result }
     ensures console { CountsConsole (C.faults console.old) (C.faults console.new) result }
 {
@@ -72,13 +74,14 @@ pub(super) fn assemble_source<D: Depot, C: Console>(
     out: &str,
     depot: &mut D,
     console: &mut C,
-) -> Result<Status, Unread>
+) -> Result<Status, NoImage>
     requires name { IsFileName source.now }
     requires out { IsFileName out.now }
     requires depot { D.faults depot.old < 2 ^ 64 - 1 }
     requires console { C.faults console.old < 2 ^ 64 - 1 }
-    ensures carries { Carries (Assembling source.now out.now) (D.files depot.old) (D.files depot.new)
-        (C.session console.old) (C.session console.new) result }
+    ensures carries { CarriesOutCommand (Assembling source.now out.now)
+        (D.files depot.old) (D.files depot.new) (C.session console.old) (C.session console.new)
+        result }
     ensures depot { CountsDepot (D.faults depot.old) (D.faults depot.new) result }
     ensures console { CountsConsole (C.faults console.old) (C.faults console.new) result }
 {
@@ -101,8 +104,10 @@ fn put_and_show<D: Depot, C: Console>(
     ensures follows { (bytes : List ℕ) → IfOk text (λ t. t.items ≡ bytes)
         → Follows (putting out.now bytes) (D.files depot.old) (D.files depot.new)
         (C.session console.old) (C.session console.new) result }
-    ensures depot { CountsFaults (result ≡ Status.DepotFault) (D.faults depot.old) (D.faults depot.new) }
-    ensures console { CountsFaults (result ≡ Status.ConsoleFault) (C.faults console.old) (C.faults console.new) }
+    ensures depot { CountsFaults (result ≡ Status.DepotFault)
+        (D.faults depot.old) (D.faults depot.new) }
+    ensures console { CountsFaults (result ≡ Status.ConsoleFault)
+        (C.faults console.old) (C.faults console.new) }
 {
     match put_text(out, text, depot) {
         Ok(size) => answer(console, lines::put(alloc, size), Status::Done),

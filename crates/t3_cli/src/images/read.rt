@@ -2,13 +2,13 @@
 ghost use Rattle.std.specs.Prelude.{◌≡◌, ◌<◌, ◌-◌, ◌^◌, [], length, IfOk};
 ghost use Rattle.t3_holder.specs.FileName.{IsFileName};
 ghost use Rattle.t3_image_read.specs.ImageText.{text};
-ghost use Rattle.t3_image_read.specs.Reader.{Taking, totals_of};
+ghost use Rattle.t3_image_read.specs.Reader.{Taking};
 ghost use Rattle.t3_words.specs.Input.{ImageFile};
-ghost use Rattle.t3_cli.specs.Inner.Unread.{CountsUnread};
-ghost use Rattle.t3_cli.specs.Inner.Reading.{Reads, ReadsPieces, IsImage, IsDigested, IsCounted, IsFed, HoldsRead, taken_of};
+ghost use Rattle.t3_cli.specs.Inner.NoImage.{CountsReading};
+ghost use Rattle.t3_cli.specs.Inner.Reading.{ReadsImage, ReadsPieces, IsImage, IsDigested, HasTotals, IsFed, HoldsRead, taken_of};
 
+use crate::images::no_image::NoImage;
 use crate::images::sink::{NoDigest, PieceSink};
-use crate::images::unread::Unread;
 use sha2::{Digest, Sha256};
 use std::alloc::Global;
 use t3_files::{PIECE, READ_LIMIT, read_piece, zeroed};
@@ -29,12 +29,12 @@ pub(crate) fn read_image<D: Depot>(
     alloc: Global,
     name: &[u8],
     depot: &mut D,
-) -> Result<Image, Unread>
+) -> Result<Image, NoImage>
     requires name { IsFileName name.now }
     requires faults { D.faults depot.old < 2 ^ 64 - 1 }
-    ensures read { Reads IsImage (ImageFile name.now) (D.files depot.old) result }
+    ensures read { ReadsImage IsImage (ImageFile name.now) (D.files depot.old) result }
     ensures files { D.files depot.new ≡ D.files depot.old }
-    ensures cause { CountsUnread (D.faults depot.old) (D.faults depot.new) result }
+    ensures cause { CountsReading (D.faults depot.old) (D.faults depot.new) result }
 {
     read_whole(alloc, name, depot, &mut NoDigest)
 }
@@ -44,12 +44,12 @@ pub(crate) fn read_digested<D: Depot>(
     alloc: Global,
     name: &[u8],
     depot: &mut D,
-) -> Result<DigestedImage, Unread>
+) -> Result<DigestedImage, NoImage>
     requires name { IsFileName name.now }
     requires faults { D.faults depot.old < 2 ^ 64 - 1 }
-    ensures read { Reads IsDigested (ImageFile name.now) (D.files depot.old) result }
+    ensures read { ReadsImage IsDigested (ImageFile name.now) (D.files depot.old) result }
     ensures files { D.files depot.new ≡ D.files depot.old }
-    ensures cause { CountsUnread (D.faults depot.old) (D.faults depot.new) result }
+    ensures cause { CountsReading (D.faults depot.old) (D.faults depot.new) result }
 {
     let mut hasher = Sha256::new();
     let image = read_whole(alloc, name, depot, &mut hasher)?;
@@ -64,12 +64,12 @@ pub(crate) fn count_image<D: Depot>(
     alloc: Global,
     name: &[u8],
     depot: &mut D,
-) -> Result<Totals, Unread>
+) -> Result<Totals, NoImage>
     requires name { IsFileName name.now }
     requires faults { D.faults depot.old < 2 ^ 64 - 1 }
-    ensures read { Reads IsCounted (ImageFile name.now) (D.files depot.old) result }
+    ensures read { ReadsImage HasTotals (ImageFile name.now) (D.files depot.old) result }
     ensures files { D.files depot.new ≡ D.files depot.old }
-    ensures cause { CountsUnread (D.faults depot.old) (D.faults depot.new) result }
+    ensures cause { CountsReading (D.faults depot.old) (D.faults depot.new) result }
 {
     let mut reader = ImageChecker::new(alloc);
     let mut buf = zeroed(alloc, PIECE)?;
@@ -83,14 +83,14 @@ fn read_whole<D: Depot, P: PieceSink>(
     name: &[u8],
     depot: &mut D,
     sink: &mut P,
-) -> Result<Image, Unread>
+) -> Result<Image, NoImage>
     requires name { IsFileName name.now }
     requires faults { D.faults depot.old < 2 ^ 64 - 1 }
     requires fresh { P.has_taken sink.old [] }
-    ensures read { Reads IsImage (ImageFile name.now) (D.files depot.old) result }
+    ensures read { ReadsImage IsImage (ImageFile name.now) (D.files depot.old) result }
     ensures taken { IfOk result (λ image. P.has_taken sink.new (text image)) }
     ensures files { D.files depot.new ≡ D.files depot.old }
-    ensures cause { CountsUnread (D.faults depot.old) (D.faults depot.new) result }
+    ensures cause { CountsReading (D.faults depot.old) (D.faults depot.new) result }
 {
     let mut reader = ImageReader::new(alloc);
     let mut buf = zeroed(alloc, PIECE)?;
@@ -106,7 +106,7 @@ pub(super) fn read_pieces<D: Depot, S: BlockSink, P: PieceSink>(
     reader: &mut Reader<S>,
     sink: &mut P,
     buf: &mut [u8],
-) -> Result<(), Unread>
+) -> Result<(), NoImage>
     requires name { IsFileName name.now }
     requires faults { D.faults depot.old < 2 ^ 64 - 1 }
     requires start { reader.old ≡ Taking [] }
@@ -115,13 +115,13 @@ pub(super) fn read_pieces<D: Depot, S: BlockSink, P: PieceSink>(
     ensures read { ReadsPieces (D.files depot.old) name.now reader.new result }
     ensures taken { IfOk result (λ _. HoldsRead P.has_taken reader.new sink.new) }
     ensures files { D.files depot.new ≡ D.files depot.old }
-    ensures cause { CountsUnread (D.faults depot.old) (D.faults depot.new) result }
+    ensures cause { CountsReading (D.faults depot.old) (D.faults depot.new) result }
 {
     let mut at = 0;
     while at < READ_LIMIT {
         let want = buf.len().min((READ_LIMIT - at) as usize);
         match read_piece(depot, name, at, buf, want)? {
-            Got::Absent => return Err(Unread::Absent),
+            Got::Absent => return Err(NoImage::Absent),
             Got::Count(0) => return Ok(()),
             Got::Count(count) => {
                 feed(reader, sink, &buf[..count]);

@@ -2,12 +2,12 @@
 ghost use Rattle.std.specs.Prelude.{◌≡◌, ◌<◌, ◌-◌, ◌^◌};
 ghost use Rattle.t3_holder.specs.FileName.{IsFileName};
 ghost use Rattle.t3_words.specs.Input.{ImageFile};
-ghost use Rattle.t3_cli.specs.Inner.Unread.{CountsUnread};
-ghost use Rattle.t3_cli.specs.Inner.Reading.{Reads, IsWritten};
+ghost use Rattle.t3_cli.specs.Inner.NoImage.{CountsReading};
+ghost use Rattle.t3_cli.specs.Inner.Reading.{ReadsImage, IsRewritten};
 
+use crate::images::no_image::NoImage;
 use crate::images::read::read_pieces;
 use crate::images::sink::NoDigest;
-use crate::images::unread::Unread;
 use std::alloc::Global;
 use std::marker::Brand;
 use t3_files::{PIECE, zeroed};
@@ -22,12 +22,12 @@ pub(crate) fn rewrite_image<D: Depot>(
     name: &[u8],
     depot: &mut D,
     mask: Option<u8>,
-) -> Result<Vec<u8>, Unread>
+) -> Result<Vec<u8>, NoImage>
     requires name { IsFileName name.now }
     requires faults { D.faults depot.old < 2 ^ 64 - 1 }
-    ensures read { Reads (IsWritten mask) (ImageFile name.now) (D.files depot.old) result }
+    ensures read { ReadsImage (IsRewritten mask) (ImageFile name.now) (D.files depot.old) result }
     ensures files { D.files depot.new ≡ D.files depot.old }
-    ensures cause { CountsUnread (D.faults depot.old) (D.faults depot.new) result }
+    ensures cause { CountsReading (D.faults depot.old) (D.faults depot.new) result }
 {
     rewrite_under::<D, Brand>(alloc, name, depot, mask)
 }
@@ -37,13 +37,13 @@ fn rewrite_under<D: Depot, M: Masking>(
     name: &[u8],
     depot: &mut D,
     mask: Option<u8>,
-) -> Result<Vec<u8>, Unread>
+) -> Result<Vec<u8>, NoImage>
     requires mask { mask ≡ M.mask }
     requires name { IsFileName name.now }
     requires faults { D.faults depot.old < 2 ^ 64 - 1 }
-    ensures read { Reads (IsWritten mask) (ImageFile name.now) (D.files depot.old) result }
+    ensures read { ReadsImage (IsRewritten mask) (ImageFile name.now) (D.files depot.old) result }
     ensures files { D.files depot.new ≡ D.files depot.old }
-    ensures cause { CountsUnread (D.faults depot.old) (D.faults depot.new) result }
+    ensures cause { CountsReading (D.faults depot.old) (D.faults depot.new) result }
 {
     let mut reader = Reader::with_sink(alloc, Rewriter::<M>::new(alloc, mask)?);
     let mut buf = zeroed(alloc, PIECE)?;

@@ -2,10 +2,10 @@
 ghost use Rattle.std.specs.Prelude.{◌≡◌, ◌<◌, ◌-◌, ◌^◌};
 ghost use Rattle.t3_holder.specs.FileName.{IsFileName};
 ghost use Rattle.t3_words.specs.Input.{SourceFile};
-ghost use Rattle.t3_cli.specs.Inner.Unread.{CountsUnread};
-ghost use Rattle.t3_cli.specs.Inner.Reading.{Reads, IsImage, IsAssembled};
+ghost use Rattle.t3_cli.specs.Inner.NoImage.{CountsReading};
+ghost use Rattle.t3_cli.specs.Inner.Reading.{ReadsImage, IsImage, IsAssembled};
 
-use crate::images::unread::Unread;
+use crate::images::no_image::NoImage;
 use std::alloc::Global;
 use t3_asm::{AsmRefusal, AsmWhy, assemble};
 use t3_asm_line::lines_few;
@@ -21,25 +21,25 @@ pub(crate) fn read_source<D: Depot>(
     alloc: Global,
     name: &[u8],
     depot: &mut D,
-) -> Result<Image, Unread>
+) -> Result<Image, NoImage>
     requires name { IsFileName name.now }
     requires faults { D.faults depot.old < 2 ^ 64 - 1 }
-    ensures read { Reads IsImage (SourceFile name.now) (D.files depot.old) result }
+    ensures read { ReadsImage IsImage (SourceFile name.now) (D.files depot.old) result }
     ensures files { D.files depot.new ≡ D.files depot.old }
-    ensures cause { CountsUnread (D.faults depot.old) (D.faults depot.new) result }
+    ensures cause { CountsReading (D.faults depot.old) (D.faults depot.new) result }
 {
     match read_file(alloc, name, depot)? {
         Some(text) => assembled(alloc, &text),
-        None => Err(Unread::Absent),
+        None => Err(NoImage::Absent),
     }
 }
 
 /// The image that bytes say as a source, or their bad line.
-fn assembled(alloc: Global, text: &[u8]) -> Result<Image, Unread>
+fn assembled(alloc: Global, text: &[u8]) -> Result<Image, NoImage>
     ensures { IsAssembled text.now result }
 {
     if text.len() > SOURCE_LIMIT {
-        return Err(Unread::BadLine {
+        return Err(NoImage::BadLine {
             line: 0,
             why: AsmWhy::TooLong,
         });
@@ -52,7 +52,7 @@ fn assembled(alloc: Global, text: &[u8]) -> Result<Image, Unread>
                 why: AsmWhy::NoMemory,
                 ..
             },
-        ) => Err(Unread::Failed(DeviceRefusal::NoMemory)),
-        Err(AsmRefusal { line, why }) => Err(Unread::BadLine { line, why }),
+        ) => Err(NoImage::Failed(DeviceRefusal::NoMemory)),
+        Err(AsmRefusal { line, why }) => Err(NoImage::BadLine { line, why }),
     }
 }

@@ -4,7 +4,7 @@ use Rattle.t3_image_read.specs.ImageText.{ImageValue}
 use Rattle.t3_words.specs.Command.{Drill, RunOptions, default_options, options_value}
 use Rattle.t3_cli.specs.Outcome.{IsRunOutcome}
 use Rattle.t3_cli.specs.Inner.Following.{FollowsSome}
-use Rattle.t3_cli.proofs.Followed.{begins_made, run_by_image}
+use Rattle.t3_cli.proofs.Followed.{run_by_image}
 use Rattle.t3_cli.proofs.commands.run.run_drill.Goals as goal
 
 pub returns-clause-carries : goal.returns-clause-carries
@@ -25,4 +25,4 @@ returns-clause-carries g c =
     (Some actions) image) files left before after c.launch.result)
     c.defaults.ensures.options by_actions in
     run_by_image (Drill c.args.number) image default_options (Some actions) files left before after c.launch.result
-    (begins_made c.args.number files) refl follows
+    refl refl follows

@@ -11,7 +11,7 @@ use Rattle.t3_cli.specs.declared.status.Status.TheVariants.{Absent, ImageRefused
 use Rattle.t3_cli.specs.Lines.{absent_line, refused_line, bad_line}
 use Rattle.t3_cli.specs.Outcome.{Outcome, showing, IsInputOutcome, IsFileOutcome, IsTextOutcome, IsSourceOutcome, IsImageOutcome}
 use Rattle.t3_cli.specs.Cause.{IsAbsent, HasImage}
-use Rattle.t3_cli.specs.Inner.Unread.{IsRefusedAt, IsBadAt}
+use Rattle.t3_cli.specs.Inner.NoImage.{IsRefusedAt, IsBadAt}
 
 pub absent_outcome : (command : CommandValue) (from : InputFile) (files : Files) (input : List ℕ) → IsAbsent from files
     → IsInputOutcome command from files input (showing Absent (absent_line (file_of from)))

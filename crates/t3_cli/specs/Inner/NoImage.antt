@@ -15,8 +15,8 @@ use Rattle.t3_files.specs.Reading.{read_bytes}
 use Rattle.t3_words.specs.Input.{InputFile, ImageFile, SourceFile, MadeImage}
 use Rattle.t3_cli.specs.Outcome.{assembled}
 use Rattle.t3_cli.specs.Cause.{IsAbsent}
-use Rattle.t3_cli.specs.declared.images.unread.Unread.{Unread}
-use Rattle.t3_cli.specs.declared.images.unread.Unread.TheVariants as unread
+use Rattle.t3_cli.specs.declared.images.no_image.NoImage.{NoImage}
+use Rattle.t3_cli.specs.declared.images.no_image.NoImage.TheVariants as none
 
 -- the file is to be an image, and its bytes are refused by this rule at this place
 abbrev pub IsRefusedAt : InputFile → Files → ℕ → ReadWhy → Type 0
@@ -31,24 +31,24 @@ IsBadAt (MadeImage number) files line why = ⊥
 IsBadAt (SourceFile name) files line why =
     (file : List ℕ) × (get files name ≡ Some file) × (assembled (read_bytes file) ≡ Err (refusal line why))
 
--- why no image was read, assembled or made; of a device that failed no more is known
-abbrev pub IsUnread : InputFile → Unread → Files → Type 0
-IsUnread from unread.Absent files = IsAbsent from files
-IsUnread from (unread.Refused place why) files = IsRefusedAt from files place why
-IsUnread from (unread.BadLine line why) files = IsBadAt from files line why
-IsUnread from (unread.Failed refusal) files = Unit {0}
+-- why no image was read, assembled or made; of a failing device and of want of memory no more is known
+abbrev pub HasNoImage : InputFile → NoImage → Files → Type 0
+HasNoImage from none.Absent files = IsAbsent from files
+HasNoImage from (none.Refused place why) files = IsRefusedAt from files place why
+HasNoImage from (none.BadLine line why) files = IsBadAt from files line why
+HasNoImage from (none.Failed refusal) files = Unit {0}
 
 -- what a reader's refusal is told as
-abbrev pub unread_of : ReadRefusal → Unread
-unread_of (refusals.At place why) = unread.Refused place why
-unread_of refusals.NoMemory = unread.Failed device.NoMemory
+abbrev pub no_image_of : ReadRefusal → NoImage
+no_image_of (refusals.At place why) = none.Refused place why
+no_image_of refusals.NoMemory = none.Failed device.NoMemory
 
--- what the depot answered last
-abbrev pub device_answer : Unread → Result (Unit {0}) DeviceRefusal
-device_answer (unread.Failed refusal) = Err refusal
+-- a failure, as a device answers one
+abbrev pub device_answer : NoImage → Result (Unit {0}) DeviceRefusal
+device_answer (none.Failed refusal) = Err refusal
 device_answer _ = Ok tt
 
 -- a fault raises the depot's count, and every other answer leaves it
-abbrev pub CountsUnread : {T : Type 0} → ℕ → ℕ → Result T Unread → Type 0
-CountsUnread before after (Ok _) = after ≡ before
-CountsUnread before after (Err why) = MovesFaults before after (device_answer why)
+abbrev pub CountsReading : {T : Type 0} → ℕ → ℕ → Result T NoImage → Type 0
+CountsReading before after (Ok _) = after ≡ before
+CountsReading before after (Err why) = MovesFaults before after (device_answer why)

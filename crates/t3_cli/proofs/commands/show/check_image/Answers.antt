@@ -6,7 +6,7 @@ use Rattle.t3_words.specs.Input.{ImageFile}
 use Rattle.t3_cli.specs.BlockLines.{check_text, totals_text}
 use Rattle.t3_cli.specs.Inner.Reading.{BeginsBy}
 use Rattle.t3_cli.proofs.Followed.{shown_by_image}
-use Rattle.t3_cli.proofs.commands.show.check.Goals as goal
+use Rattle.t3_cli.proofs.commands.show.check_image.Goals as goal
 
 pub returns-clause-carries : goal.returns-clause-carries
 returns-clause-carries g c =

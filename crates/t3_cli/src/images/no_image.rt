@@ -1,7 +1,7 @@
 //! Why a command has no image.
 ghost use Rattle.std.specs.Prelude.{◌≡◌};
-ghost use Rattle.t3_cli.specs.Inner.Unread.{unread_of};
-ghost use Rattle.t3_cli.specs.declared.images.unread.Unread.TheVariants.{Failed};
+ghost use Rattle.t3_cli.specs.Inner.NoImage.{no_image_of};
+ghost use Rattle.t3_cli.specs.declared.images.no_image.NoImage.TheVariants.{Failed};
 ghost use Rattle.t3_io.specs.declared.refusal.DeviceRefusal.TheVariants.{NoMemory as Wanting};
 
 use std::alloc::AllocError;
@@ -12,7 +12,7 @@ use t3_io::DeviceRefusal;
 
 /// Why no image was read, assembled or made.
 #[derive(Debug, Drop)]
-pub(crate) enum Unread {
+pub(crate) enum NoImage {
     /// There is no such file.
     Absent,
     /// The file is no image, by this rule and at this place.
@@ -23,37 +23,37 @@ pub(crate) enum Unread {
     Failed(DeviceRefusal),
 }
 
-impl From<DeviceRefusal> for Unread {
+impl From<DeviceRefusal> for NoImage {
     ghost from_gives = { λ refusal e. e ≡ Failed refusal };
 
-    fn from(refusal: DeviceRefusal) -> Unread {
-        Unread::Failed(refusal)
+    fn from(refusal: DeviceRefusal) -> NoImage {
+        NoImage::Failed(refusal)
     }
 }
 
-impl From<ReadRefusal> for Unread {
-    ghost from_gives = { λ refusal e. e ≡ unread_of refusal };
+impl From<ReadRefusal> for NoImage {
+    ghost from_gives = { λ refusal e. e ≡ no_image_of refusal };
 
-    fn from(refusal: ReadRefusal) -> Unread {
+    fn from(refusal: ReadRefusal) -> NoImage {
         match refusal {
-            ReadRefusal::At { place, why } => Unread::Refused { place, why },
-            ReadRefusal::NoMemory => Unread::Failed(DeviceRefusal::NoMemory),
+            ReadRefusal::At { place, why } => NoImage::Refused { place, why },
+            ReadRefusal::NoMemory => NoImage::Failed(DeviceRefusal::NoMemory),
         }
     }
 }
 
-impl From<NoMemory> for Unread {
+impl From<NoMemory> for NoImage {
     ghost from_gives = { λ _ e. e ≡ Failed Wanting };
 
-    fn from(_error: NoMemory) -> Unread {
-        Unread::Failed(DeviceRefusal::NoMemory)
+    fn from(_error: NoMemory) -> NoImage {
+        NoImage::Failed(DeviceRefusal::NoMemory)
     }
 }
 
-impl From<AllocError> for Unread {
+impl From<AllocError> for NoImage {
     ghost from_gives = { λ _ e. e ≡ Failed Wanting };
 
-    fn from(_error: AllocError) -> Unread {
-        Unread::Failed(DeviceRefusal::NoMemory)
+    fn from(_error: AllocError) -> NoImage {
+        NoImage::Failed(DeviceRefusal::NoMemory)
     }
 }
