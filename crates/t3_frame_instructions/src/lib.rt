@@ -30,7 +30,7 @@ pub use context::Core;
 pub use effect::{CodeWhy, Quiet};
 pub use jumping::{jump, target_from};
 pub use moving::stack;
-pub use pushing::{push, push_value};
+pub use pushing::{push, push_value, pushed_value};
 pub use relation::{Relation, TURN_LIMIT, related_numbers};
 pub use variables::{
     add_number, add_popped, set_local, subtract_popped, take_argument, take_local,

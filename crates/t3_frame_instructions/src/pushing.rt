@@ -1,6 +1,7 @@
 //! Pushing values.
+ghost use Rattle.std.specs.Prelude.{◌≡◌};
 ghost use Rattle.t3_frame_instructions.specs.Context.{pushes};
-ghost use Rattle.t3_frame_instructions.specs.Pushing.{push_action};
+ghost use Rattle.t3_frame_instructions.specs.Pushing.{pushed_value, push_action};
 ghost use Rattle.t3_frame_instructions.specs.Acting.{HasDone};
 
 use crate::context::Core;
@@ -14,19 +15,26 @@ use t3_ops::Fault;
 pub fn push(core: &mut Core, code: PushCode) -> Quiet
     ensures { HasDone (push_action code) core.old result core.new }
 {
+    push_value(core, pushed_value(code))
+}
+
+/// The value that an instruction pushes.
+pub fn pushed_value(code: PushCode) -> Holder
+    ensures { result ≡ pushed_value code }
+{
     match code {
-        PushCode::Push0 => push_value(core, Holder::Int(0)),
-        PushCode::Push1 => push_value(core, Holder::Int(1)),
-        PushCode::Pushint8(number) => push_value(core, Holder::Int(i32::from(number))),
-        PushCode::Pushint(number) => push_value(core, Holder::Int(number)),
-        PushCode::Pushstr(address) => push_value(core, Holder::Text(address)),
-        PushCode::Pushlst(address) => push_value(core, Holder::List(address)),
-        PushCode::Pushobj(number) => push_value(core, Holder::Obj(number)),
-        PushCode::Pushnil => push_value(core, Holder::Nil),
-        PushCode::Pushtrue => push_value(core, Holder::True),
-        PushCode::Pushpropid(number) => push_value(core, Holder::Prop(number)),
-        PushCode::Pushfnptr(address) => push_value(core, Holder::Func(address)),
-        PushCode::Pushenum(number) => push_value(core, Holder::Enum(number)),
+        PushCode::Push0 => Holder::Int(0),
+        PushCode::Push1 => Holder::Int(1),
+        PushCode::Pushint8(number) => Holder::Int(i32::from(number)),
+        PushCode::Pushint(number) => Holder::Int(number),
+        PushCode::Pushstr(address) => Holder::Text(address),
+        PushCode::Pushlst(address) => Holder::List(address),
+        PushCode::Pushobj(number) => Holder::Obj(number),
+        PushCode::Pushnil => Holder::Nil,
+        PushCode::Pushtrue => Holder::True,
+        PushCode::Pushpropid(number) => Holder::Prop(number),
+        PushCode::Pushfnptr(address) => Holder::Func(address),
+        PushCode::Pushenum(number) => Holder::Enum(number),
     }
 }
 

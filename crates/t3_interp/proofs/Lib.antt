@@ -1,5 +1,6 @@
 mod Caching
 mod Stepping
+mod Lacking
 mod Joining
 mod Going
 mod Keeping

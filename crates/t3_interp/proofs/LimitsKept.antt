@@ -1,16 +1,15 @@
 -- No step, and no input that finishes an instruction, changes the limits of the objects.
-use Rattle.std.proofs.Common.{◌≡◌, ℕ, zero, suc, ◌||◌, Bool, true, false, if◌then◌else◌, List, [], ◌∷◌, refl, sym, ap, subst, is_some, ◌∙◌}
+use Rattle.std.proofs.Common.{◌≡◌, ℕ, zero, suc, Bool, true, false, if◌then◌else◌, List, [], ◌∷◌, refl, sym, ap, is_some, ◌∙◌}
 use Rattle.t3_undo.specs.Objects.{adjust}
 use Rattle.t3_undo.specs.declared.cell.Cell.{Cell}
 use Rattle.t3_holder.specs.declared.holder.Holder.{Holder}
 use Rattle.t3_store.specs.Value.{Value, holder_at, without_cell}
-use Rattle.t3_store.specs.Store.{StoreValue, value_at, is_persistent, changed_in, noted, with_object, with_value, set_cell, taken, saved, undone}
+use Rattle.t3_store.specs.Store.{StoreValue, value_at, is_persistent, changed_in, noted, with_object, with_value, set_cell, taken}
 use Rattle.t3_store.specs.declared.limits.StoreLimits.{StoreLimits}
 use Rattle.t3_methods.specs.declared.instr.Instr.{Instr}
 use Rattle.t3_methods.specs.declared.instr.Instr.TheVariants as of
 use Rattle.t3_methods.specs.declared.instr.MakeCode.{MakeCode}
 use Rattle.t3_frames.specs.Frame.{FrameValue}
-use Rattle.t3_frame_instructions.specs.Context.{Context}
 use Rattle.t3_load.specs.Loading.{ProgramValue}
 use Rattle.t3_object_instructions.specs.Savepoints.{savepoint_function, undo_function}
 use Rattle.t3_object_instructions.specs.Steady.{calls_bare}

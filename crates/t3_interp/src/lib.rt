@@ -24,6 +24,7 @@ mod laws;
 mod machine;
 #[cfg(test)]
 mod machine_tests;
+mod quick;
 mod running;
 mod saving;
 mod settle;

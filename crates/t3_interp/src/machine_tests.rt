@@ -2,13 +2,15 @@
 ghost use Rattle.std.specs.Prelude.{◌≤◌};
 
 use super::*;
-use crate::superinstruction::superinstruction_at;
+use crate::quick::{Quick, Returned, quick_at};
+use crate::superinstruction::{Pushed, superinstruction_at};
 use std::alloc::Global;
 use std::test::Fail;
+use t3_holder::Holder;
 use t3_image_read::ImageReader;
 use t3_load::{Program, load};
 use t3_methods::instr_at;
-use t3_ops::Fault;
+use t3_ops::{ArithOp, Fault};
 use t3_store::StoreLimits;
 
 /// The entry at address 0, a page of code, and the function set for input and output. The method says 42 and
@@ -44,6 +46,16 @@ const COUNTS: &[u8] =
                         CPPG\x21\x00\x00\x00\x01\x00\x01\x00\x00\x00\x00\x00\x00\
                         \x00\x00\x01\x00\x02\x00\x00\x00\x00\x00\xD6\x00\x80\x00\x02\x22\xE0\x00\
                         \x80\x00\x03\x02\x98\xF5\xFF\x51\
+                        EOF \x00\x00\x00\x00\x00\x00";
+
+/// The entry, and a page of code: eight instructions that come often, and what pushes an integer and the local, adds
+/// them and returns the sum. The call is that of the method itself.
+const FORMS: &[u8] =
+    b"ENTP\x10\x00\x00\x00\x01\x00\x00\x00\x00\x00\x0A\x00\x0A\x00\x00\x00\x00\x00\x00\x00\x00\x00\
+                        CPDF\x0A\x00\x00\x00\x01\x00\x01\x00\x01\x00\x00\x00\x40\x00\x00\x00\
+                        CPPG\x2A\x00\x00\x00\x01\x00\x01\x00\x00\x00\x00\x00\x00\
+                        \x00\x00\x01\x00\x02\x00\x00\x00\x00\x00\x03\x2A\x89\x80\x00\xE0\x00\x8B\x89\
+                        \x91\x02\x00\x58\x00\x00\x00\x00\x00\x51\x03\x05\x80\x00\x22\x50\
                         EOF \x00\x00\x00\x00\x00\x00";
 
 /// The program of an image of these blocks, with room for so many objects.
@@ -134,6 +146,49 @@ fn goes_to_a_text_and_no_further_than_it_may(rt: HostRuntime) -> Result<(), Fail
     let (machine, made, event) = went(machine, 9)?;
     assert!(rt; made == 3 && matches!(event, Event::Ended(_)));
     assert!(rt; machine.wants() == Want::Nothing && machine.steps() == 6);
+    Ok(())
+}
+
+/// The quick form of what stands at an address.
+fn form_at(program: &Program, address: u32) -> Result<Quick, Fail> {
+    match instr_at(&program.pools, address) {
+        Ok((instr, size)) => Ok(quick_at(&program.pools, address, instr, size)),
+        Err(_) => Err(Fail::from("no instruction")),
+    }
+}
+
+#[test]
+fn instructions_that_come_often_have_quick_forms(rt: HostRuntime) -> Result<(), Fail> {
+    let program = program(rt.alloc(), FORMS, 10)?;
+    let form = form_at(&program, 10)?;
+    assert!(rt; matches!(form, Quick::Constant(Holder::Int(42), 12)));
+    assert!(rt; matches!(form_at(&program, 12)?, Quick::Drop(13)));
+    let form = form_at(&program, 13)?;
+    assert!(rt; matches!(form, Quick::Push(Pushed::Local(0), 15)));
+    assert!(rt; matches!(form_at(&program, 15)?, Quick::SetLocal(0, 17)));
+    let form = form_at(&program, 17)?;
+    assert!(rt; matches!(form, Quick::Push(Pushed::Register, 18)));
+    // Two bytes further than where its operand stands.
+    assert!(rt; matches!(form_at(&program, 19)?, Quick::Jump(22)));
+    let form = form_at(&program, 28)?;
+    assert!(rt; matches!(form, Quick::Return(Returned::Value(Holder::Nil))));
+    let form = form_at(&program, 34)?;
+    assert!(rt; matches!(form, Quick::Return(Returned::Top)));
+    // A sum that begins with an integer, and the sum alone.
+    let form = form_at(&program, 29)?;
+    assert!(rt; matches!(form, Quick::Compute(ArithOp::Add, _)));
+    assert!(rt; matches!(form_at(&program, 33)?, Quick::ByCode));
+    Ok(())
+}
+
+#[test]
+fn a_call_has_what_its_header_says(rt: HostRuntime) -> Result<(), Fail> {
+    let program = program(rt.alloc(), FORMS, 10)?;
+    let Quick::Call(call) = form_at(&program, 22)? else {
+        return Err(Fail::from("a call"));
+    };
+    assert_eq!(rt; (call.method, call.count, call.size), (0, 0, 6));
+    assert_eq!(rt; (call.missing, call.locals), (0, 1));
     Ok(())
 }
 
