@@ -143,6 +143,9 @@ fn a_copy_has_new_ticks(rt: HostRuntime) -> Result<(), Fail> {
 fn check_new(rt: &impl Abort, alloc: Global) -> Result<(), Fail> {
     let mut table = Table::new(alloc);
     assert_eq!(rt; (table.next_tick(), table.places()), (1, 1));
+    // The default's place is there from the start, and no tick goes with it.
+    table.make_place(Cell::Default)?;
+    assert_eq!(rt; (table.next_tick(), table.places()), (1, 1));
     let old = set_default(&mut table, 7);
     assert_eq!(rt; old, Content::Held(Holder::Nil));
     Ok(())

@@ -11,7 +11,7 @@ use Rattle.std.proofs.lemmas.Map.Made.{is_some-lookup}
 use Rattle.t3_undo.specs.Cell.{cell_cmp, cell_cmp_total, cell_cmp-IsAntisymmetric}
 use Rattle.t3_undo.specs.Content.{Present, Parts, Places, shown, is_form, with_place, places_for}
 use Rattle.t3_undo.specs.Objects.{set_at}
-use Rattle.t3_undo.specs.Slots.{parts_of, places_of, unstamped, AreFormed}
+use Rattle.t3_undo.specs.Slots.{parts_of, places_of, unstamped, AreFormed, AreSlots}
 use Rattle.t3_undo.specs.declared.cell.Cell.{Cell}
 use Rattle.t3_undo.specs.declared.content.Content.{Content}
 use Rattle.t3_undo.specs.declared.content.Content.TheVariants.{Absent}
@@ -51,6 +51,12 @@ stamped place = option_map (λ p. p.stamp) place
 stamped-cond : (b : Bool) (place : Place) (o : Option Place) → cond b (Some place.stamp) (stamped o) ≡ stamped (cond b (Some place) o)
 stamped-cond true place o = refl
 stamped-cond false place o = refl
+
+-- a map without entries is no slots
+pub no_slots : (slots : Entries) → slots ≡ [] → AreSlots slots 0
+unfolding parts_of
+no_slots slots none =
+    subst (λ (s : Entries). AreSlots s 0) (sym none) (record { formed = tt; counted = sym (len-empty cell_cmp Present) })
 
 pub get-parts_of : (slots : Entries) (cell : Cell) → get (parts_of slots) cell ≡ seen (lookup (same cell) slots)
 unfolding parts_of

@@ -76,6 +76,16 @@ impl Slots {
         }
     }
 
+    /// No slots, with room for so many, so that they come without taking memory again and again.
+    fn with_capacity(alloc: Global, capacity: usize) -> Result<Slots, NoMemory>
+        ensures { IfOk result (λ slots. slots ≡ []) }
+    {
+        Ok(Slots {
+            cells: IndexMap::with_capacity_and_hasher(alloc, capacity, FixedKey)?,
+            present: 0,
+        })
+    }
+
     /// What stands in the cell.
     pub fn get(&self, cell: &Cell) -> Content
         ensures content { shown result ≡ get (parts_of self.now) cell.now }
@@ -138,7 +148,7 @@ impl Slots {
         ensures parts { IfOk result (λ copy. parts_of copy ≡ parts_of self.now) }
         ensures places { IfOk result (λ copy. places_of copy ≡ places_for (parts_of self.now)) }
     {
-        let mut copy = Slots::new(alloc);
+        let mut copy = Slots::with_capacity(alloc, self.present as usize)?;
         for index in 0..self.cells.len() {
             let (cell, place) = self.cells.get_index(index).unwrap();
             copy.add_present(alloc, cell, place)?;

@@ -9,9 +9,9 @@ use Rattle.t3_undo.specs.Slots.{parts_of, places_of, unstamped, is_present}
 use Rattle.t3_undo.proofs.SlotLists.{same}
 use Rattle.t3_undo.proofs.SlotCopies.{afresh, formed-at, new-at, afresh-at, keys_of-afresh, parts_of-afresh, parts_of-filter, places_of-filter}
 use Rattle.t3_undo.proofs.slots.Slots.copy.Goals as goal
-use Rattle.t3_undo.proofs.slots.Slots.copy.Goals.{After-copy-1, After-loop-index}
+use Rattle.t3_undo.proofs.slots.Slots.copy.Goals.{After-copy-in-loop-index-1, After-loop-index}
 
-stands : (c : After-copy-1) → slice_get c.self.inside.cells.entries c.loop-index.index
+stands : (c : After-copy-in-loop-index-1) → slice_get c.self.inside.cells.entries c.loop-index.index
     ≡ Some (c.unwrap.result.0.now, c.unwrap.result.1.now)
 stands c = sym c.get_index.ensures.entry ∙ ap (option_map deref_pair) c.unwrap.ensures
 
