@@ -1,5 +1,7 @@
 mod Caching
 mod Stepping
+mod Computing
+mod Calling
 mod Lacking
 mod Joining
 mod Going

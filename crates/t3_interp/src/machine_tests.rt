@@ -10,7 +10,7 @@ use t3_holder::Holder;
 use t3_image_read::ImageReader;
 use t3_load::{Program, load};
 use t3_methods::instr_at;
-use t3_ops::{ArithOp, Fault};
+use t3_ops::Fault;
 use t3_store::StoreLimits;
 
 /// The entry at address 0, a page of code, and the function set for input and output. The method says 42 and
@@ -157,27 +157,47 @@ fn form_at(program: &Program, address: u32) -> Result<Quick, Fail> {
     }
 }
 
+/// What a quick form is called, with the number that tells most of it.
+fn named(form: Quick) -> (&'static str, u32) {
+    match form {
+        Quick::Push(Pushed::Local(n), _) => ("local", u32::from(n)),
+        Quick::Push(_, behind) => ("push", behind),
+        Quick::Constant(_, behind) => ("constant", behind),
+        Quick::Drop(behind) => ("drop", behind),
+        Quick::SetLocal(_, behind) => ("set", behind),
+        Quick::Jump(target) => ("jump", target),
+        Quick::Call(call) => ("call", call.size),
+        Quick::Return(Returned::Value(Holder::Nil)) => ("nil", 0),
+        Quick::Return(_) => ("return", 0),
+        Quick::Compute(_, pair) => ("compute", pair.behind),
+        Quick::ComputeLocal(_, n, _) => ("computes a local", u32::from(n)),
+        Quick::Compare(_, _, target) => ("compare", target),
+        Quick::ByCode => ("by code", 0),
+    }
+}
+
+/// Where an instruction of the image of forms stands, and what its form is called.
+const CALLED: [(u32, (&str, u32)); 10] = [
+    (10, ("constant", 12)),
+    (12, ("drop", 13)),
+    (13, ("local", 0)),
+    (15, ("set", 17)),
+    (17, ("push", 18)),
+    // Two bytes further than where its operand stands.
+    (19, ("jump", 22)),
+    (28, ("nil", 0)),
+    // A sum that begins with an integer, and the sum alone.
+    (29, ("compute", 34)),
+    (33, ("by code", 0)),
+    (34, ("return", 0)),
+];
+
 #[test]
 fn instructions_that_come_often_have_quick_forms(rt: HostRuntime) -> Result<(), Fail> {
     let program = program(rt.alloc(), FORMS, 10)?;
-    let form = form_at(&program, 10)?;
-    assert!(rt; matches!(form, Quick::Constant(Holder::Int(42), 12)));
-    assert!(rt; matches!(form_at(&program, 12)?, Quick::Drop(13)));
-    let form = form_at(&program, 13)?;
-    assert!(rt; matches!(form, Quick::Push(Pushed::Local(0), 15)));
-    assert!(rt; matches!(form_at(&program, 15)?, Quick::SetLocal(0, 17)));
-    let form = form_at(&program, 17)?;
-    assert!(rt; matches!(form, Quick::Push(Pushed::Register, 18)));
-    // Two bytes further than where its operand stands.
-    assert!(rt; matches!(form_at(&program, 19)?, Quick::Jump(22)));
-    let form = form_at(&program, 28)?;
-    assert!(rt; matches!(form, Quick::Return(Returned::Value(Holder::Nil))));
-    let form = form_at(&program, 34)?;
-    assert!(rt; matches!(form, Quick::Return(Returned::Top)));
-    // A sum that begins with an integer, and the sum alone.
-    let form = form_at(&program, 29)?;
-    assert!(rt; matches!(form, Quick::Compute(ArithOp::Add, _)));
-    assert!(rt; matches!(form_at(&program, 33)?, Quick::ByCode));
+    for (address, called) in CALLED {
+        assert_eq!(rt; named(form_at(&program, address)?), called);
+    }
     Ok(())
 }
 

@@ -29,6 +29,7 @@ pub enum ArithOp {
 ///
 /// `Overflow` where a sum, a difference, a product or a quotient doesn't fit 32 bits, `DivideByZero` where
 /// the right integer of a division is 0, and `IndexRange` where that of a shift isn't from 0 to 31.
+#[inline(always)]
 pub fn arith(op: ArithOp, left: i32, right: i32) -> Result<i32, Fault>
     ensures { result ≡ arith_of op left right }
 {
@@ -48,6 +49,7 @@ pub fn arith(op: ArithOp, left: i32, right: i32) -> Result<i32, Fault>
 }
 
 /// What an integer is divided by.
+#[inline(always)]
 fn divisor(right: i32) -> Result<i32, Fault>
     ensures { result ≡ divisor_of right }
 {
@@ -59,6 +61,7 @@ fn divisor(right: i32) -> Result<i32, Fault>
 }
 
 /// By how many bits a shift goes.
+#[inline(always)]
 fn distance(right: i32) -> Result<u32, Fault>
     ensures { result ≡ distance_of right }
 {
