@@ -6,19 +6,20 @@ use Rattle.t3_undo.specs.declared.cell.Cell.{Cell}
 use Rattle.t3_undo.proofs.Maps.{get-adjust}
 use Rattle.std.specs.Cmp.{nat_cmp_total}
 use Rattle.t3_store.specs.Value.{Value, units_in, units_of, cell_units, is_past}
-use Rattle.t3_store.specs.Inner.Shapes.{Shape, Stored, values, value_of, risen, AreWithin}
-use Rattle.t3_store.specs.Inner.Store.{IsPersistent, IsWritten}
+use Rattle.t3_store.specs.Inner.Shapes.{Shape, Stored, values, value_of, risen, AreWithin, HasZeroStamps, HaveZeroStamps}
+use Rattle.t3_store.specs.Inner.Store.{IsPersistent, IsWritten, KeepStamps}
 use Rattle.t3_store.proofs.MapValues.{len-adjust, units_in-new, values-insert}
 use Rattle.t3_store.proofs.Ticks.{risen-most, within-more, within-insert}
 use Rattle.t3_store.proofs.Keeping.{none-set}
 use Rattle.t3_store.proofs.Creating.{not-full, len-new, none-inserted, value-none}
 use Rattle.t3_store.proofs.Rows.{same}
+use Rattle.t3_store.proofs.ZeroStamps.{all-zero-insert, all-zero-kept}
 
 -- an object more
 pub added-kept : (old new : Stored) (n : ℕ) (thing : Shape × Parts) (own : Places) (tick : ℕ) → IsPersistent old → get old.objects n ≡ None
-    → 0 < n → n < 2 ^ 31 → is_past (values old.objects) (units_of (value_of thing)) ≡ false → tick ≤ 1
+    → 0 < n → n < 2 ^ 31 → is_past (values old.objects) (units_of (value_of thing)) ≡ false → tick ≤ 1 → HasZeroStamps own
     → new ≡ record { objects = insert old.objects n thing; places = insert old.places n own; ticks = insert old.ticks n tick } → IsPersistent new
-added-kept old new n thing own tick is none high low room young changed =
+added-kept old new n thing own tick is none high low room young fresh changed =
     subst IsPersistent (sym changed) (record {
       from_one = (λ i. get (more i) 0) ∙ none-inserted (values old.objects) n 0 (value_of thing) (λ e. omega arith) ∙ is.from_one;
       numbered = λ q h. (λ i. get (more i) q) ∙ none-inserted (values old.objects) n q (value_of thing) (λ e. omega arith) ∙ is.numbered q h;
@@ -26,6 +27,7 @@ added-kept old new n thing own tick is none high low room young changed =
       few_units = (let fits = little.1 in omega (arith, sum));
       ticks = within-insert _ old.ticks n tick (within-more (units_in (values old.objects) + 1) _ old.ticks (omega (arith, sum)) is.ticks)
           (omega arith);
+      zero_stamps = all-zero-insert old.places n own is.zero_stamps fresh;
     })
   where
     more : values (insert old.objects n thing) ≡ insert (values old.objects) n (value_of thing)
@@ -47,13 +49,14 @@ none-adjusted old new n c g was q w none =
 
 -- a cell set anew
 pub overwritten-kept : (old new : Stored) (n : ℕ) (c : Cell) (g : Value → Value) (was : Option Present) → IsPersistent old → IsWritten old new n c g was
-    → units_in (values new.objects) ≡ units_in (values old.objects) → IsSome was → IsPersistent new
-overwritten-kept old new n c g was is w same some = record {
+    → units_in (values new.objects) ≡ units_in (values old.objects) → IsSome was → new.places ≡ old.places → IsPersistent new
+overwritten-kept old new n c g was is w same some places = record {
   from_one = none-adjusted old new n c g was 0 w is.from_one;
   numbered = λ q h. none-adjusted old new n c g was q w (is.numbered q h);
   few = (let size = ap len w.values ∙ len-adjust (values old.objects) n g in let fits = is.few in omega arith);
   few_units = (let fits = is.few_units in omega arith);
   ticks = subst (λ (k : ℕ). AreWithin (k + 1) new.ticks) (sym same) (stood was some (w.ticks (units_in (values old.objects) + 1) is.ticks).1);
+  zero_stamps = subst HaveZeroStamps (sym places) is.zero_stamps;
 }
   where
     stood : (o : Option Present) → IsSome o → AreWithin (risen (units_in (values old.objects) + 1) o) new.ticks
@@ -64,14 +67,15 @@ overwritten-kept old new n c g was is w same some = record {
 -- an entry more
 pub paired-kept : (old new : Stored) (n : ℕ) (c : Cell) (g : Value → Value) (was : Option Present) → IsPersistent old → IsWritten old new n c g was
     → units_in (values new.objects) ≡ units_in (values old.objects) + cell_units c → 1 ≤ cell_units c
-    → units_in (values old.objects) + cell_units c ≤ 4194304 → IsPersistent new
-paired-kept old new n c g was is w sum one few = record {
+    → units_in (values old.objects) + cell_units c ≤ 4194304 → KeepStamps old.places new.places → IsPersistent new
+paired-kept old new n c g was is w sum one few theirs = record {
   from_one = none-adjusted old new n c g was 0 w is.from_one;
   numbered = λ q h. none-adjusted old new n c g was q w (is.numbered q h);
   few = (let size = ap len w.values ∙ len-adjust (values old.objects) n g in let fits = is.few in omega arith);
   few_units = omega arith;
   ticks = within-more (risen (units_in (values old.objects) + 1) was) _ new.ticks
       (let most = risen-most (units_in (values old.objects) + 1) was in omega arith) (w.ticks (units_in (values old.objects) + 1) is.ticks).1;
+  zero_stamps = all-zero-kept old.places new.places theirs is.zero_stamps;
 }
 
 -- of two that aren't both true, the first of which is, the second is false

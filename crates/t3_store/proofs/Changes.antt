@@ -9,15 +9,17 @@ use Rattle.t3_undo.specs.declared.cell.Cell.{Cell}
 use Rattle.t3_holder.specs.declared.holder.Holder.{Holder}
 use Rattle.t3_store.specs.Value.{Value, units_in, cell_units, holder_at, can_have_at, can_lose_at, with_cell, without_cell}
 use Rattle.t3_store.specs.Store.{StoreValue, value_at, either, is_persistent, noted, with_value, changed_in, taken, written, set_cell, is_full_with, objects_in, store_units}
-use Rattle.t3_store.specs.Inner.Shapes.{Shape, Stored, values, AreWithin}
-use Rattle.t3_store.specs.Inner.Store.{marks_of, store_of, IsWritten, IsStore, AreNumbered, saved_units, IsFront}
+use Rattle.t3_store.specs.Inner.Shapes.{Shape, Stored, values, stamp_at, HaveZeroStamps, AreWithin}
+use Rattle.t3_store.specs.Inner.Store.{marks_of, store_of, record_of, IsWritten, NotesChange, IsStore, AreNumbered, saved_units, IsFront}
+use Rattle.t3_undo.specs.Stamps.{AreStamped}
 use Rattle.t3_store.specs.declared.limits.StoreLimits.{StoreLimits}
 use Rattle.t3_store.proofs.MapValues.{some-values, len-adjust, units_in-with, units_in-without, present-can_at}
-use Rattle.t3_store.proofs.Marks.{record_of, marks-changed}
+use Rattle.t3_store.proofs.Marks.{marks-changed}
 use Rattle.t3_store.specs.Inner.Whole.{supers_from, supers_of_both, AreWhole}
 use Rattle.t3_store.proofs.KindsKept.{kinds-persistent, kinds-transient, kinds-more}
 use Rattle.t3_store.proofs.Ticks.{within-more}
 use Rattle.t3_store.proofs.Creating.{not-full}
+use Rattle.t3_store.proofs.Stamped.{written-noted}
 use Rattle.t3_store.proofs.WholeWritten.{whole-persistent, whole-transient}
 use Rattle.t3_store.proofs.Keeping.{front-of, front-changed, sound-keep, sound-noted, numbered-persistent, numbered-transient}
 
@@ -35,25 +37,26 @@ with-transient s n c g e =
     ap (λ b. with_value n g (if b then record s { marks = changed_in s.limits.records n c s.marks } else s)) e
     ∙ ap (λ b. if b then record s { persistent = adjust s.persistent n g } else record s { transient = adjust s.transient n g }) e
 
-marks-written : (limit : ℕ) (ss : List Segment) (old new : Stored) (n : ℕ) (c : Cell) (g : Value → Value) (was : Option Present)
-    → IsWritten old new n c g was → marks_of new.objects (note_in limit (record_of n c was) ss) ≡ changed_in limit n c (marks_of old.objects ss)
-marks-written limit ss old new n c g was w =
-    (λ i. marks_of (w.objects i) (note_in limit (record_of n c (w.stood i)) ss)) ∙ marks-changed limit ss old.objects n c w.content
+marks-written : (limit : ℕ) (ss : List Segment) (old new : Stored) (n : ℕ) (c : Cell) (g : Value → Value) (was : Option Present) (stamp : ℕ)
+    → IsWritten old new n c g was
+    → marks_of new.objects (note_in limit (record_of n c was stamp) ss) ≡ changed_in limit n c (marks_of old.objects ss)
+marks-written limit ss old new n c g was stamp w =
+    (λ i. marks_of (w.objects i) (note_in limit (record_of n c (w.stood i) stamp) ss)) ∙ marks-changed limit ss old.objects n c w.content stamp
 
 -- the store with a persistent object changed
 pub persistent-changed : (old new : Stored) (t : Objects Shape) (next next_transient : ℕ) (limits : StoreLimits) (ss : List Segment) (limit n : ℕ)
-    (c : Cell) (g : Value → Value) (was : Option Present) → IsWritten old new n c g was → limit ≡ limits.records
+    (c : Cell) (g : Value → Value) (was : Option Present) (stamp : ℕ) → IsWritten old new n c g was → limit ≡ limits.records
     → is_some (get old.objects n) ≡ true
-    → store_of new.objects t next next_transient limits (note_in limit (record_of n c was) ss)
+    → store_of new.objects t next next_transient limits (note_in limit (record_of n c was stamp) ss)
     ≡ with_value n g (noted n c (store_of old.objects t next next_transient limits ss))
-persistent-changed old new t next next_transient limits ss limit n c g was w same there =
+persistent-changed old new t next next_transient limits ss limit n c g was stamp w same there =
     (λ i. record {
       persistent = w.values i;
       transient = values t;
       next = next;
       next_transient = next_transient;
       limits = limits;
-      marks = (marks-written limit ss old new n c g was w ∙ ap (λ l. changed_in l n c (marks_of old.objects ss)) same) i;
+      marks = (marks-written limit ss old new n c g was stamp w ∙ ap (λ l. changed_in l n c (marks_of old.objects ss)) same) i;
     })
     ∙ sym (with-persistent (store_of old.objects t next next_transient limits ss) n c g (some-values old.objects n ∙ there))
 
@@ -73,15 +76,19 @@ transient-changed old new p next next_transient limits ss n c g was w gone =
 
 -- what stays true
 pub persistent-kept : (old new t : Stored) (next next_transient : ℕ) (limits : StoreLimits) (j : Held) (units : List ℕ) (room writes n : ℕ)
-    (c : Cell) (g : Value → Value) (was : Option Present) → IsStore old t next next_transient limits j units room writes
+    (c : Cell) (g : Value → Value) (was : Option Present) (stamp : ℕ) → IsStore old t next next_transient limits j units room writes
     → IsWritten old new n c g was → units_in (values new.objects) ≤ limits.units → writes + 1 ≤ 2 ^ 63
-    → IsStore new t next next_transient limits (record j { segments = note_in j.record_limit (record_of n c was) j.segments }) units room (writes + 1)
-persistent-kept old new t next next_transient limits j units room writes n c g was is w few more = record {
+    → AreStamped j.marks (stamp_at new.places) (note_in j.record_limit (record_of n c was stamp) j.segments)
+    → IsStore new t next next_transient limits (record j { segments = note_in j.record_limit (record_of n c was stamp) j.segments }) units room
+    (writes + 1)
+persistent-kept old new t next next_transient limits j units room writes n c g was stamp is w few more stamped = record {
   bounded = is.bounded;
   records = is.records;
   savepoints = is.savepoints;
   numbered = subst (λ o. AreNumbered o t.objects next next_transient) (sym w.objects) (numbered-persistent old.objects t.objects next next_transient n c w.content is.numbered);
-  sound = sound-noted new.places next j.record_limit j.segments (record_of n c was) (record { placed = w.placed; formed = w.formed })
+  stamped = stamped;
+  transient_stamps = is.transient_stamps;
+  sound = sound-noted new.places next j.record_limit j.segments (record_of n c was stamp) (record { placed = w.placed; formed = w.formed })
       (sound-keep old.places new.places next next j.segments w.kept (omega arith) is.sound);
   counted = record {
     objects = subst (λ k. k + len (values t.objects) ≤ limits.objects)
@@ -90,7 +97,7 @@ persistent-kept old new t next next_transient limits j units room writes n c g w
     transient_units = is.counted.transient_units;
     copies = front-of _ _ _
         (subst (λ ms. IsFront (saved_units ms) (saved_units (marks_of old.objects j.segments)))
-        (sym (marks-written j.record_limit j.segments old new n c g was w)) (front-changed j.record_limit n c (marks_of old.objects j.segments)))
+        (sym (marks-written j.record_limit j.segments old new n c g was stamp w)) (front-changed j.record_limit n c (marks_of old.objects j.segments)))
         is.counted.copies;
     each = is.counted.each;
     few = is.counted.few;
@@ -98,22 +105,47 @@ persistent-kept old new t next next_transient limits j units room writes n c g w
   };
   few_writes = more;
   whole = subst (λ o. AreWhole (supers_from o) (supers_of_both o t.objects) next next_transient
-      (note_in j.record_limit (record_of n c was) j.segments)) (sym w.objects)
-      (whole-persistent old.objects t.objects next next_transient j.record_limit n j.segments c w.content (record_of n c was) is.whole);
-  kinds = kinds-persistent old new t j.segments j.record_limit n writes c g was is.kinds w;
+      (note_in j.record_limit (record_of n c was stamp) j.segments)) (sym w.objects)
+      (whole-persistent old.objects t.objects next next_transient j.record_limit n j.segments c w.content (record_of n c was stamp) is.whole);
+  kinds = kinds-persistent old new t j.segments j.record_limit n stamp writes c g was is.kinds w;
 }
+
+-- the same once what stood there is noted
+pub noted-changed : (old mid new : Stored) (t : Objects Shape) (next next_transient : ℕ) (limits : StoreLimits) (j after : Held) (n : ℕ)
+    (c : Cell) (g : Value → Value) (was : Option Present) → IsWritten old mid n c g was → NotesChange mid new j after n c was
+    → j.record_limit ≡ limits.records → is_some (get old.objects n) ≡ true
+    → store_of new.objects t next next_transient limits after.segments
+    ≡ with_value n g (noted n c (store_of old.objects t next next_transient limits j.segments))
+noted-changed old mid new t next next_transient limits j after n c g was w is same there =
+    (λ i. store_of new.objects t next next_transient limits (is.recorded i).segments)
+    ∙ persistent-changed old new t next next_transient limits j.segments j.record_limit n c g was is.stamp
+    (written-noted old mid new j after n c g was w is) same there
+
+pub noted-kept : (old mid new t : Stored) (next next_transient : ℕ) (limits : StoreLimits) (j after : Held) (units : List ℕ)
+    (room writes n : ℕ) (c : Cell) (g : Value → Value) (was : Option Present) → IsStore old t next next_transient limits j units room writes
+    → IsWritten old mid n c g was → NotesChange mid new j after n c was → units_in (values mid.objects) ≤ limits.units → writes + 1 ≤ 2 ^ 63
+    → IsStore new t next next_transient limits after units room (writes + 1)
+noted-kept old mid new t next next_transient limits j after units room writes n c g was is w noted few more =
+    subst (λ (h : Held). IsStore new t next next_transient limits h units room (writes + 1)) (sym noted.recorded)
+    (persistent-kept old new t next next_transient limits j units room writes n c g was noted.stamp is
+    (written-noted old mid new j after n c g was w noted)
+    (subst (λ o. units_in (values o) ≤ limits.units) (sym noted.objects) few) more
+    (subst (λ (h : Held). AreStamped h.marks (stamp_at new.places) h.segments) noted.recorded noted.stamped))
 
 pub transient-kept : (p old new : Stored) (next next_transient : ℕ) (limits : StoreLimits) (j : Held) (units : List ℕ) (room writes n : ℕ)
     (c : Cell) (g : Value → Value) (was : Option Present) → IsStore p old next next_transient limits j units room writes
     → IsWritten old new n c g was → units_in (values new.objects) ≤ limits.units → writes + 1 ≤ 2 ^ 63
+    → HaveZeroStamps new.places
     → IsStore p new next next_transient limits j units room (writes + 1)
-transient-kept p old new next next_transient limits j units room writes n c g was is w few more = record {
+transient-kept p old new next next_transient limits j units room writes n c g was is w few more zeros = record {
   bounded = is.bounded;
   records = is.records;
   savepoints = is.savepoints;
   numbered = subst (λ o. AreNumbered p.objects o next next_transient) (sym w.objects)
       (numbered-transient p.objects old.objects next next_transient n c w.content is.numbered);
   sound = is.sound;
+  stamped = is.stamped;
+  transient_stamps = zeros;
   counted = record {
     objects = subst (λ k. len (values p.objects) + k ≤ limits.objects)
         (sym (ap len w.values ∙ len-adjust (values old.objects) n g)) is.counted.objects;
@@ -140,6 +172,8 @@ writes-kept p t next next_transient limits j units room writes is more = record 
   savepoints = is.savepoints;
   numbered = is.numbered;
   sound = is.sound;
+  stamped = is.stamped;
+  transient_stamps = is.transient_stamps;
   counted = is.counted;
   few_writes = more;
   whole = is.whole;

@@ -9,7 +9,9 @@ use Rattle.t3_undo.specs.Objects.{Objects, Segment}
 use Rattle.t3_undo.specs.Journal.{Held}
 use Rattle.t3_undo.specs.declared.cell.Cell.{Cell}
 use Rattle.t3_store.specs.Value.{Value, units_in, units_of}
-use Rattle.t3_store.specs.Inner.Shapes.{Shape, Stored, values, value_of, has_place, has_place_in}
+use Rattle.t3_store.specs.Inner.Shapes.{Shape, Stored, values, value_of, has_place, has_place_in, HasZeroStamps}
+use Rattle.t3_store.proofs.Stamped.{stamped-created}
+use Rattle.t3_store.proofs.ZeroStamps.{all-zero-insert}
 use Rattle.t3_store.specs.Inner.Store.{marks_of, IsSound, IsFront, saved_units, IsStore}
 use Rattle.t3_store.specs.Inner.Whole.{supers_from, supers_of_both}
 use Rattle.t3_store.specs.declared.limits.StoreLimits.{StoreLimits}
@@ -55,10 +57,10 @@ pub persistent-created : (p t new : Stored) (next next_transient : ℕ) (limits 
     → len (values p.objects) + len (values t.objects) + 1 ≤ limits.objects
     → units_in (values p.objects) + units_in (values t.objects) + units_of (value_of thing) ≤ limits.units
     → HasSupers (supers_from p.objects) thing
-    → tick ≤ 1
+    → tick ≤ 1 → HasZeroStamps own
     → new ≡ record { objects = insert p.objects next thing; places = insert p.places next own; ticks = insert p.ticks next tick }
     → IsStore new t (next + 1) next_transient limits j units room writes
-persistent-created p t new next next_transient limits j units room writes thing own tick is low few little has young changed =
+persistent-created p t new next next_transient limits j units room writes thing own tick is low few little has young zeros changed =
     subst (λ (s : Stored). IsStore s t (next + 1) next_transient limits j units room writes) (sym changed) (record {
       bounded = is.bounded;
       records = is.records;
@@ -76,6 +78,8 @@ persistent-created p t new next next_transient limits j units room writes thing 
         distinct = λ q h. distinct q h (same q next) refl;
       };
       sound = sound-below p.places (insert p.places next own) next (next + 1) j.segments (kept-inserted p.places next own) (omega arith) is.sound;
+      stamped = stamped-created j.marks next p.places own j.segments is.sound zeros is.stamped;
+      transient_stamps = is.transient_stamps;
       counted = record {
         objects = omega (arith, objects);
         persistent_units = omega (arith, sum);
@@ -110,14 +114,14 @@ pub transient-created : (p t new : Stored) (next next_transient : ℕ) (limits :
     → len (values p.objects) + len (values t.objects) + 1 ≤ limits.objects
     → units_in (values p.objects) + units_in (values t.objects) + units_of (value_of thing) ≤ limits.units
     → HasSupers (supers_of_both p.objects t.objects) thing
-    → tick ≤ 1
+    → tick ≤ 1 → HasZeroStamps own
     → new ≡ record {
       objects = insert t.objects next_transient thing;
       places = insert t.places next_transient own;
       ticks = insert t.ticks next_transient tick;
     }
     → IsStore p new next (next_transient + 1) limits j units room writes
-transient-created p t new next next_transient limits j units room writes thing own tick is low few little has young changed =
+transient-created p t new next next_transient limits j units room writes thing own tick is low few little has young zeros changed =
     subst (λ (s : Stored). IsStore p s next (next_transient + 1) limits j units room writes) (sym changed) (record {
       bounded = is.bounded;
       records = is.records;
@@ -137,6 +141,8 @@ transient-created p t new next next_transient limits j units room writes thing o
         distinct = λ q h. none-inserted t.objects next_transient q thing (λ e. high q h e) ∙ is.numbered.distinct q h;
       };
       sound = is.sound;
+      stamped = is.stamped;
+      transient_stamps = all-zero-insert t.places next_transient own is.transient_stamps zeros;
       counted = record {
         objects = omega (arith, objects);
         persistent_units = is.counted.persistent_units;

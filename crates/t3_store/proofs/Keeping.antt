@@ -68,7 +68,7 @@ front-changed limit n c ms = by (is_change_due n c ms)
     by false = front-itself (saved_units ms)
 
 -- what can be put back, where places are kept
-put-keep : (old new : FinMap nat_cmp Places) (parts : List OldPart) → AreKept old new → CanAllBePut old parts → CanAllBePut new parts
+pub put-keep : (old new : FinMap nat_cmp Places) (parts : List OldPart) → AreKept old new → CanAllBePut old parts → CanAllBePut new parts
 put-keep old new [] kept can = tt
 put-keep old new (part ∷ parts) kept can =
     (record { placed = kept part.number part.cell can.0.placed; formed = can.0.formed }, put-keep old new parts kept can.1)

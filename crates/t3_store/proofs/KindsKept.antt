@@ -10,23 +10,23 @@ use Rattle.t3_undo.specs.declared.cell.Cell.{Cell}
 use Rattle.t3_store.specs.Value.{Value}
 use Rattle.t3_store.specs.Inner.Shapes.{Shape, Stored, AreWithin}
 use Rattle.t3_store.specs.Inner.Valid.{AreValid, AreValidBefore}
-use Rattle.t3_store.specs.Inner.Store.{IsWritten, AreKindsKept, AreRecordsWithin}
-use Rattle.t3_store.proofs.Marks.{record_of}
+use Rattle.t3_store.specs.Inner.Store.{IsWritten, AreKindsKept, AreRecordsWithin, record_of}
 use Rattle.t3_store.proofs.Ticks.{risen-most, within-more, within-insert, records-more, records-noted, records-take, records-drop}
 use Rattle.t3_store.proofs.Validity.{back-noted, back-made, back-take, back-saved, back-undone}
 
 -- a write
-pub kinds-persistent : (old new t : Stored) (ss : List Segment) (limit n writes : ℕ) (c : Cell) (g : Value → Value) (was : Option Present)
-    → AreKindsKept old t ss writes → IsWritten old new n c g was → AreKindsKept new t (note_in limit (record_of n c was) ss) (writes + 1)
-kinds-persistent old new t ss limit n writes c g was kinds w =
+pub kinds-persistent : (old new t : Stored) (ss : List Segment) (limit n stamp writes : ℕ) (c : Cell) (g : Value → Value)
+    (was : Option Present) → AreKindsKept old t ss writes → IsWritten old new n c g was
+    → AreKindsKept new t (note_in limit (record_of n c was stamp) ss) (writes + 1)
+kinds-persistent old new t ss limit n stamp writes c g was kinds w =
     let up = w.ticks (writes + 1) kinds.persistent_ticks in
     record {
-      valid = subst (λ m. AreValidBefore m (note_in limit (record_of n c was) ss)) (sym w.objects)
-          (subst (λ o. AreValidBefore (journaled.set_cell old.objects n c w.content) (note_in limit (record_of n c o) ss)) (sym w.stood)
-          (back-noted limit ss old.objects n c w.content kinds.valid));
+      valid = subst (λ m. AreValidBefore m (note_in limit (record_of n c was stamp) ss)) (sym w.objects)
+          (subst (λ o. AreValidBefore (journaled.set_cell old.objects n c w.content) (note_in limit (record_of n c o stamp) ss)) (sym w.stood)
+          (back-noted limit ss old.objects n c w.content stamp kinds.valid));
       persistent_ticks = within-more _ (writes + 1 + 1) new.ticks (risen-most (writes + 1) was) up.1;
       transient_ticks = within-more (writes + 1) (writes + 1 + 1) t.ticks (omega arith) kinds.transient_ticks;
-      records = records-noted (writes + 1 + 1) limit (record_of n c was) ss (omega (arith, up.0))
+      records = records-noted (writes + 1 + 1) limit (record_of n c was stamp) ss (omega (arith, up.0))
           (records-more (writes + 1) (writes + 1 + 1) ss (omega arith) kinds.records);
     }
 

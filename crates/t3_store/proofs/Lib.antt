@@ -8,9 +8,11 @@ pub mod RowEdits
 pub mod FirstFrom
 pub mod MapValues
 pub mod Outcomes
+pub mod ZeroStamps
 pub mod Replacing
 pub mod Counting
 pub mod Places
+pub mod Stamped
 pub mod Marks
 pub mod Keeping
 pub mod Changes

@@ -20,12 +20,13 @@ use Rattle.t3_tadsobj.specs.Object as Tadsobject
 use Rattle.t3_tadsobj.specs.Object.{props_of, prop_in, bare}
 use Rattle.t3_undo.specs.Cell.{cell_cmp}
 use Rattle.t3_tadsobj.specs.declared.props.PropValue.{PropValue}
-use Rattle.t3_store.specs.Inner.Shapes.{Shape, thing_of, value_of, values, IsWithProp}
+use Rattle.t3_store.specs.Inner.Shapes.{Shape, thing_of, value_of, values, HasZeroStamps, IsWithProp}
 use Rattle.t3_store.specs.Inner.Valid.{AreProps, AreValid}
 use Rattle.t3_store.specs.Inner.Entries.{IsRising, by_number, object_at, things_of, IsFirstFrom}
 use Rattle.t3_store.specs.declared.entries.Entry.{Entry}
 use Rattle.t3_store.specs.Inner.Store.{IsPersistent}
 use Rattle.t3_store.proofs.TadsValues.{props-set}
+use Rattle.t3_store.proofs.ZeroStamps.{zero-none, zero-insert, all-zero-none}
 use Rattle.t3_store.proofs.KindValues.{HasApartKeys, apart-keys, held-value, value-without, present-can, units_of-with, units_of-without}
 use Rattle.t3_store.proofs.Rows.{same, same-is, differs, get-by_number, len-by_number}
 
@@ -304,13 +305,14 @@ next-above things n least (Some next) e first = (
   λ q h l. none-value things q (first.2 q (omega arith) l),
 )
 
--- a tads-object with the properties from an index on
+-- a tads-object with the properties from an index on, each in a place with stamp 0
 pub record IsMade (object : Tadsobject.Tads) (supers : List ℕ) (class : Bool) (items : List PropValue) (left : ℕ) : Type 0 where
   pub made : props_of object.parts ≡ from_entries (map pair_of (drop left items))
   pub above : object.supers ≡ supers
   pub kind : object.class ≡ class
   pub within : left ≤ length items
   pub props : AreProps object.parts
+  pub zero_stamps : HasZeroStamps object.places
 
 drop-at : (items : List PropValue) (n : ℕ) (d : PropValue) → n < length items → drop n items ≡ get_or items n d ∷ drop (suc n) items
 drop-at [] n d h = absurd (omega arith)
@@ -333,6 +335,7 @@ made-more old new supers class items left d is h w = record {
   kind = w.class ∙ is.kind;
   within = omega (arith, is.within);
   props = subst AreProps (sym w.parts) (props-set old.parts (cells.Prop (get_or items (left - 1) d).number) _ is.props refl);
+  zero_stamps = subst HasZeroStamps (sym w.places) (zero-insert old.places (cells.Prop (get_or items (left - 1) d).number) is.zero_stamps);
 }
 
 -- distinct properties are as many as their numbers
@@ -364,6 +367,7 @@ none-persistent = record {
   few = let none = ap len values-empty ∙ len-empty nat_cmp Value in omega arith;
   few_units = let none = ap units_in values-empty ∙ units_in-empty in omega arith;
   ticks = λ q tick e. absurd (true≢false (ap is_some (sym e ∙ get-empty nat_cmp q)));
+  zero_stamps = all-zero-none;
 }
 
 drop-all : (items : List PropValue) → drop (length items) items ≡ []
@@ -385,4 +389,5 @@ made-none object supers class items is = record {
   kind = ap (λ (o : Tadsobject.Tads). o.class) is;
   within = omega arith;
   props = λ cell some. absurd (true≢false (sym some ∙ ap is_some (ap (λ (o : Tadsobject.Tads). get o.parts cell) is ∙ get-empty cell_cmp cell)));
+  zero_stamps = subst HasZeroStamps (sym (ap (λ (o : Tadsobject.Tads). o.places) is)) zero-none;
 }

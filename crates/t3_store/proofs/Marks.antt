@@ -12,11 +12,7 @@ use Rattle.t3_undo.specs.declared.cell.Cell.{Cell}
 use Rattle.t3_undo.proofs.PuttingBack.{put_back-noted, put_back-note, before-newer, before-made, get-before}
 use Rattle.t3_store.specs.Store.{Mark, room_for, is_change_of, is_change_due, add_change, changed_in, changed_cells, newest_copy, is_held, StoreValue, undone}
 use Rattle.t3_store.specs.Inner.Shapes.{Shape, values}
-use Rattle.t3_store.specs.Inner.Store.{change_of, marks_of}
-
--- the record of what stood in a cell
-abbrev pub record_of : ℕ → Cell → Option Present → OldPart
-record_of n c was = record { number = n; cell = c; old = was; stamp = 0 }
+use Rattle.t3_store.specs.Inner.Store.{change_of, marks_of, record_of}
 
 due-split : (n next : ℕ) → (nat_lt n next && true) ≡ false → next ≤ n
 due-split n next e = by (nat_lt n next) refl e
@@ -44,13 +40,13 @@ unfolding marks_of
 marks-newest s ss a b e =
     ap (λ x. record { copy = values x; next = s.next; changed = map change_of s.records } ∷ marks_of x ss) e
 
-marks-added : (s : Segment) (ss : List Segment) (m : Objects Shape) (n : ℕ) (c : Cell) (o : Option Present)
-    → marks_of (journaled.set_cell m n c o) (record s { records = record_of n c (part_at m n c) ∷ s.records } ∷ ss)
+marks-added : (s : Segment) (ss : List Segment) (m : Objects Shape) (n : ℕ) (c : Cell) (o : Option Present) (stamp : ℕ)
+    → marks_of (journaled.set_cell m n c o) (record s { records = record_of n c (part_at m n c) stamp ∷ s.records } ∷ ss)
     ≡ add_change n c (marks_of m (s ∷ ss))
 unfolding marks_of
-marks-added s ss m n c o =
-    let back : before (journaled.set_cell m n c o) (record s { records = record_of n c (part_at m n c) ∷ s.records })
-    ≡ before m s = ap (below s.next) (put_back-note s.records m n c o 0) in
+marks-added s ss m n c o stamp =
+    let back : before (journaled.set_cell m n c o) (record s { records = record_of n c (part_at m n c) stamp ∷ s.records })
+    ≡ before m s = ap (below s.next) (put_back-note s.records m n c o stamp) in
     ap (λ x. record { copy = values x; next = s.next; changed = (n, c) ∷ map change_of s.records } ∷ marks_of x ss) back
 
 any-map : {X Y : Type 0} (p : Y → Bool) (f : X → Y) (xs : List X) → list_any p (map f xs) ≡ list_any (λ x. p (f x)) xs
@@ -90,24 +86,24 @@ room-same limit (s ∷ ss) m =
     by false rest = refl
 
 -- a change of a cell
-pub marks-changed : (limit : ℕ) (ss : List Segment) (m : Objects Shape) (n : ℕ) (c : Cell) (o : Option Present)
-    → marks_of (journaled.set_cell m n c o) (note_in limit (record_of n c (part_at m n c)) ss)
+pub marks-changed : (limit : ℕ) (ss : List Segment) (m : Objects Shape) (n : ℕ) (c : Cell) (o : Option Present) (stamp : ℕ)
+    → marks_of (journaled.set_cell m n c o) (note_in limit (record_of n c (part_at m n c) stamp) ss)
     ≡ changed_in limit n c (marks_of m ss)
-marks-changed limit ss m n c o =
+marks-changed limit ss m n c o stamp =
     by (is_due n c ss) refl
     ∙ (λ i. if sym (due-same ss m n c) i then add_change n c (room-same limit ss m i) else marks_of m ss)
   where
-    due : (ss : List Segment) → marks_of (journaled.set_cell m n c o) (add (record_of n c (part_at m n c)) ss)
+    due : (ss : List Segment) → marks_of (journaled.set_cell m n c o) (add (record_of n c (part_at m n c) stamp) ss)
         ≡ add_change n c (marks_of m ss)
     due [] = marks-none (journaled.set_cell m n c o) ∙ ap (add_change n c) (sym (marks-none m))
-    due (s ∷ ss) = marks-added s ss m n c o
+    due (s ∷ ss) = marks-added s ss m n c o stamp
 
     undue : (ss : List Segment) → is_due n c ss ≡ false → marks_of (journaled.set_cell m n c o) ss ≡ marks_of m ss
     undue [] e = marks-none (journaled.set_cell m n c o) ∙ sym (marks-none m)
     undue (s ∷ ss) e = marks-newest s ss _ m (before-undue s m n c o e)
 
     by : (b : Bool) → is_due n c ss ≡ b
-        → marks_of (journaled.set_cell m n c o) (if b then add (record_of n c (part_at m n c)) (room limit ss) else ss)
+        → marks_of (journaled.set_cell m n c o) (if b then add (record_of n c (part_at m n c) stamp) (room limit ss) else ss)
         ≡ (if b then add_change n c (marks_of m (room limit ss)) else marks_of m ss)
     by true e = due (room limit ss)
     by false e = undue ss e

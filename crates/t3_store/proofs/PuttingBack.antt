@@ -4,10 +4,13 @@ use Rattle.std.specs.List.{AllByRecursion}
 use Rattle.std.specs.Ordering.{nat_cmp}
 use Rattle.std.specs.FinMap.{FinMap}
 use Rattle.t3_undo.specs.Content.{Places}
-use Rattle.t3_undo.specs.Objects.{Objects, OldPart, Segment, set_cell, put_back}
-use Rattle.t3_undo.specs.Journal.{Held, newest_records, newest_record, but_newest_record, first}
-use Rattle.t3_store.specs.Inner.Shapes.{Shape, tick_behind, AreWithin}
-use Rattle.t3_store.specs.Inner.Store.{CanBePut, CanAllBePut, AreRecordsWithin, emptied}
+use Rattle.t3_undo.specs.Objects.{Objects, OldPart, Segment, AreApart, set_cell, put_back}
+use Rattle.t3_undo.specs.Journal.{Held, newest_records, newest_record, but_newest_record, first, HaveDistinctCells}
+use Rattle.t3_undo.specs.Stamps.{AreStamped}
+use Rattle.t3_store.specs.Inner.Shapes.{Shape, has_place, stamp_at, with_place_stamp, tick_behind, AreWithin}
+use Rattle.t3_store.specs.Inner.Store.{CanBePut, CanAllBePut, HaveSamePlaces, AreRecordsWithin, emptied}
+use Rattle.t3_store.proofs.Stamped.{the-stamp, stamped-put, places-with_place_stamp}
+use Rattle.t3_store.proofs.Keeping.{put-keep}
 use Rattle.t3_store.specs.Inner.Entries.{IsRising, things_of, places_in, ticks_in}
 use Rattle.t3_store.specs.declared.entries.Entry.{Entry}
 
@@ -15,7 +18,9 @@ use Rattle.t3_store.specs.declared.entries.Entry.{Entry}
 pub record IsPutting (from es : List Entry) (before now : Held) : Type 0 where
   pub rising : IsRising es
   pub things : put_back (things_of es) (newest_records now.segments) ≡ put_back (things_of from) (newest_records before.segments)
-  pub places : places_in es ≡ places_in from
+  pub places : HaveSamePlaces (places_in from) (places_in es)
+  pub stamped : AreStamped now.marks (stamp_at (places_in es)) now.segments
+  pub distinct : HaveDistinctCells now.segments
   pub len : length es ≡ length from
   pub can : CanAllBePut (places_in es) (newest_records now.segments)
   pub ticks : (bound : ℕ) → AreWithin bound (ticks_in from) → AreRecordsWithin bound before.segments
@@ -52,6 +57,14 @@ first-within bound part (s ∷ ss) e all = by s.records e all.0
     by [] e all = cc
     by (p ∷ ps) e all = let is : p ≡ part = cc in subst (λ (p : OldPart). tick_behind p.old ≤ bound) is all.0
 
+rest-distinct : (ss : List Segment) → HaveDistinctCells ss → HaveDistinctCells (but_newest_record ss)
+rest-distinct [] all = tt
+rest-distinct (s ∷ ss) all = (by s.records all.0, all.1)
+  where
+    by : (parts : List OldPart) → AreApart parts → AreApart (drop 1 parts)
+    by [] apart = tt
+    by (p ∷ ps) apart = apart.1
+
 rest-within : (bound : ℕ) (ss : List Segment) → AreRecordsWithin bound ss → AreRecordsWithin bound (but_newest_record ss)
 rest-within bound [] all = tt
 rest-within bound (s ∷ ss) all = (by s.records all.0, all.1)
@@ -71,24 +84,33 @@ put-none things = refl
 
 pub putting-next : (from es new : List Entry) (before now left : Held) (part : OldPart) → IsPutting from es before now
     → Some part ≡ newest_record now.segments → left ≡ record now { segments = but_newest_record now.segments } → IsRising new
-    → things_of new ≡ set_cell (things_of es) part.number part.cell part.old → places_in new ≡ places_in es → length new ≡ length es
+    → things_of new ≡ set_cell (things_of es) part.number part.cell part.old
+    → places_in new ≡ with_place_stamp part.number part.cell part.stamp (places_in es) → length new ≡ length es
     → ((bound : ℕ) → AreWithin bound (ticks_in es) → tick_behind part.old ≤ bound → AreWithin bound (ticks_in new)) → IsPutting from new before left
 putting-next from es new before now left part is e moved rises things places size ticks =
     let t = taken part now.segments e in
     let rest : newest_records left.segments ≡ newest_records (but_newest_record now.segments) = ap (λ (h : Held). newest_records h.segments) moved in
+    let can = can-first part now.segments (places_in es) e is.can in
+    let stood = the-stamp (places_in es) part.number part.cell can.placed in
+    let same : HaveSamePlaces (places_in es) (places_in new) = λ q d. (λ i. has_place (places i) q d)
+    ∙ places-with_place_stamp (places_in es) part.number part.cell part.stamp stood.0 stood.1 q d in
     record {
       rising = rises;
       things = (λ i. put_back (things i) (rest i)) ∙ sym (put-next (things_of es) part (newest_records (but_newest_record now.segments)))
           ∙ ap (put_back (things_of es)) (sym t.records) ∙ is.things;
-      places = places ∙ is.places;
+      places = λ q d. same q d ∙ is.places q d;
+      stamped = subst (λ (x : FinMap nat_cmp Places × Held). AreStamped x.1.marks (stamp_at x.0) x.1.segments)
+          (λ i. (sym places i, sym moved i))
+          (stamped-put now.marks (places_in es) now.segments part stood.0 stood.1 (sym e) is.distinct is.stamped);
+      distinct = subst (λ (h : Held). HaveDistinctCells h.segments) (sym moved) (rest-distinct now.segments is.distinct);
       len = size ∙ is.len;
       ticks = λ bound all records.
           let so = is.ticks bound all records in (
             ticks bound so.0 (first-within bound part now.segments e so.1),
             subst (AreRecordsWithin bound) (sym (ap (λ (h : Held). h.segments) moved)) (rest-within bound now.segments so.1),
           );
-      can = subst (CanAllBePut (places_in new)) (sym rest) (subst (λ p. CanAllBePut p (newest_records (but_newest_record now.segments))) (sym places)
-          (subst (CanAllBePut (places_in es)) t.records is.can).1);
+      can = subst (CanAllBePut (places_in new)) (sym rest) (put-keep (places_in es) (places_in new) (newest_records (but_newest_record now.segments))
+          (λ q d there. same q d ∙ there) (subst (CanAllBePut (places_in es)) t.records is.can).1);
       journal = ap (λ (h : Held). record h { segments = emptied h.segments }) moved ∙ (λ i. record now { segments = t.same i }) ∙ is.journal;
     }
 
@@ -118,3 +140,13 @@ put-things from es before now is e = sym (put-none (things_of es)) ∙ ap (put_b
 pub put-journal : (from es : List Entry) (before now left : Held) → IsPutting from es before now → None ≡ newest_record now.segments
     → left ≡ record now { segments = but_newest_record now.segments } → left ≡ record before { segments = emptied before.segments }
 put-journal from es before now left is e moved = moved ∙ (λ i. record now { segments = but-none now.segments e i }) ∙ is.journal
+
+pub put-stamped : (from es : List Entry) (before now left : Held) → IsPutting from es before now → None ≡ newest_record now.segments
+    → left ≡ record now { segments = but_newest_record now.segments } → AreStamped left.marks (stamp_at (places_in es)) left.segments
+put-stamped from es before now left is e moved =
+    subst (λ (h : Held). AreStamped h.marks (stamp_at (places_in es)) h.segments)
+    (λ i. sym (moved ∙ λ k. record now { segments = (but-none now.segments e ∙ same now.segments e) k }) i) is.stamped
+  where
+    same : (ss : List Segment) → None ≡ newest_record ss → emptied ss ≡ ss
+    same [] e = refl
+    same (s ∷ ss) e = ap (λ (rs : List OldPart). record s { records = rs } ∷ ss) (sym (no-record (s ∷ ss) e))

@@ -6,7 +6,8 @@ use Rattle.t3_undo.specs.Journal.{Held}
 use Rattle.t3_store.specs.Value.{Objects as Values, units_in}
 use Rattle.t3_store.specs.Store.{AreBelow}
 use Rattle.t3_store.specs.Whole.{AreApart, IsWhole, supers_in}
-use Rattle.t3_store.specs.Inner.Shapes.{Stored, values, AreWithin}
+use Rattle.t3_store.specs.Inner.Shapes.{Stored, values, AreWithin, HaveZeroStamps}
+use Rattle.t3_store.proofs.Stamped.{stamped-afresh}
 use Rattle.t3_store.specs.Inner.Store.{AreNumbered, IsFront, saved_units, IsStore, IsPersistent}
 use Rattle.t3_store.specs.Inner.Whole.{supers_from}
 use Rattle.t3_store.specs.declared.limits.StoreLimits.{StoreLimits}
@@ -21,15 +22,17 @@ pub replaced-kept : (p t new : Stored) (state : Values) (next next_transient mor
     (room wide writes high : ℕ) → IsStore p t next next_transient limits j units room writes → values new.objects ≡ state
     → AreApart state (values t.objects) → IsWhole (supers_in state) → AreBelow more state → next ≤ more → more ≤ 2 ^ 31 → get state 0 ≡ None
     → len state + len (values t.objects) ≤ limits.objects → units_in state + units_in (values t.objects) ≤ limits.units
-    → AreWithin (units_in state + 1) new.ticks → writes ≤ high → units_in state ≤ high → high ≤ 2 ^ 63 → none ≡ [] → wide ≡ room
+    → AreWithin (units_in state + 1) new.ticks → HaveZeroStamps new.places → writes ≤ high → units_in state ≤ high → high ≤ 2 ^ 63 → none ≡ [] → wide ≡ room
     → IsStore new t more next_transient limits (record j { segments = [] }) none wide high
 replaced-kept p t new state next next_transient more limits j units none room wide writes high is same apart whole below up low from few little ticks
-    risen counted bound empty kept = record {
+    zeros risen counted bound empty kept = record {
       bounded = is.bounded;
       records = is.records;
       savepoints = is.savepoints;
       numbered = numbered;
       sound = tt;
+      stamped = stamped-afresh j.marks new.places zeros;
+      transient_stamps = is.transient_stamps;
       counted = record {
         objects = (let size = ap len same in omega arith);
         persistent_units = (let sum = ap units_in same in omega arith);
@@ -77,11 +80,12 @@ replaced-kept p t new state next next_transient more limits j units none room wi
 -- a copy of the persistent objects
 pub persistent-copied : (p copy : Stored) (next : ℕ) → values copy.objects ≡ values p.objects → get p.objects 0 ≡ None
     → ((q : ℕ) → next ≤ q → get p.objects q ≡ None) → next ≤ 2 ^ 31 → len (values p.objects) ≤ 1048576 → units_in (values p.objects) ≤ 4194304
-    → AreWithin (units_in (values p.objects) + 1) copy.ticks → IsPersistent copy
-persistent-copied p copy next same from below low few little ticks = record {
+    → AreWithin (units_in (values p.objects) + 1) copy.ticks → HaveZeroStamps copy.places → IsPersistent copy
+persistent-copied p copy next same from below low few little ticks zeros = record {
   from_one = (λ i. get (same i) 0) ∙ value-none p.objects 0 from;
   numbered = λ q h. (λ i. get (same i) q) ∙ value-none p.objects q (below q (omega arith));
   few = (let size = ap len same in omega arith);
   few_units = (let sum = ap units_in same in omega arith);
   ticks = subst (λ (n : ℕ). AreWithin (n + 1) copy.ticks) (sym (ap units_in same)) ticks;
+  zero_stamps = zeros;
 }

@@ -11,18 +11,20 @@ use Rattle.t3_undo.specs.Journal.{Held, newest_next}
 use Rattle.t3_undo.specs.UndoLaw as law
 use Rattle.t3_undo.specs.declared.cell.Cell.{Cell}
 use Rattle.t3_undo.specs.Objects as journaled
+use Rattle.t3_undo.specs.Stamps.{AreStamped}
 use Rattle.t3_undo.proofs.PuttingBack.{get-before}
+use Rattle.t3_undo.proofs.AllStamps.{stamped-marked}
 use Rattle.t3_store.specs.Value.{units_in}
 use Rattle.t3_store.specs.Store.{Mark}
-use Rattle.t3_store.specs.Inner.Shapes.{Shape, Stored, values, has_place, has_place_in, places_below, AreWithin}
+use Rattle.t3_store.specs.Inner.Shapes.{Shape, Stored, values, has_place, has_place_in, stamp_at, places_below, AreWithin}
 use Rattle.t3_store.specs.Inner.Valid.{AreValid}
-use Rattle.t3_store.specs.Inner.Store.{marks_of, CanAllBePut, IsSound, IsFront, saved_units, IsStore, AreRecordsWithin}
+use Rattle.t3_store.specs.Inner.Store.{marks_of, HaveSamePlaces, CanAllBePut, IsSound, IsFront, saved_units, IsStore, AreRecordsWithin}
 use Rattle.t3_store.specs.Inner.Whole.{supers_from, supers_of_both, AreWhole}
 use Rattle.t3_store.specs.declared.limits.StoreLimits.{StoreLimits}
 use Rattle.t3_store.proofs.Rows.{same}
 use Rattle.t3_store.proofs.Marks.{marks-saved, marks-take}
 use Rattle.t3_undo.proofs.Maps.{get-adjust}
-use Rattle.t3_store.proofs.Keeping.{some-set, front-take, front-cons, front-drop}
+use Rattle.t3_store.proofs.Keeping.{some-set, front-take, front-cons, front-drop, sound-keep}
 use Rattle.t3_store.proofs.WholeUndone.{whole-undone, whole-saved}
 use Rattle.t3_store.proofs.KindsKept.{kinds-saved, kinds-undone}
 
@@ -77,6 +79,8 @@ saved-kept p t next next_transient limits j units more room wide writes count is
   savepoints = is.savepoints;
   numbered = is.numbered;
   sound = (omega arith, tt, tt, sound-take p.places next (j.mark_limit - 1) j.segments is.sound);
+  stamped = stamped-marked j.marks (j.mark_limit - 1) next (stamp_at p.places) j.segments is.stamped;
+  transient_stamps = is.transient_stamps;
   counted = record {
     objects = is.counted.objects;
     persistent_units = is.counted.persistent_units;
@@ -186,11 +190,12 @@ front-undone m (s ∷ ss) units rest count next e popped front =
 pub undone-kept : (p t new : Stored) (next next_transient : ℕ) (limits : StoreLimits) (j : Held) (units rest : List ℕ)
     (room wide writes count newest : ℕ) → IsStore p t next next_transient limits j units room writes → newest_next j.segments ≡ Some newest
     → reverse units ≡ count ∷ reverse rest → length rest ≤ length units → wide ≡ room
-    → new.objects ≡ law.undone p.objects j.segments → new.places ≡ places_below newest p.places
+    → new.objects ≡ law.undone p.objects j.segments → HaveSamePlaces (places_below newest p.places) new.places
+    → AreStamped j.marks (stamp_at new.places) (drop 1 j.segments)
     → ((bound : ℕ) → AreWithin bound p.ticks → AreRecordsWithin bound j.segments → AreWithin bound new.ticks)
     → len (values new.objects) ≤ len (values p.objects)
     → IsStore new t next next_transient limits (record j { segments = drop 1 j.segments }) rest wide writes
-undone-kept p t new next next_transient limits j units rest room wide writes count newest is held popped fewer same objects placed ticks less = record {
+undone-kept p t new next next_transient limits j units rest room wide writes count newest is held popped fewer same objects places stamped ticks less = record {
   bounded = is.bounded;
   records = is.records;
   savepoints = is.savepoints;
@@ -207,7 +212,10 @@ undone-kept p t new next next_transient limits j units rest room wide writes cou
     transient_fits = is.numbered.transient_fits;
     distinct = λ q h. is.numbered.distinct q (some-undone p.objects j.segments q (sym (ap (λ m. is_some (get m q)) objects) ∙ h));
   };
-  sound = subst (λ m. IsSound m next (drop 1 j.segments)) (sym placed) (sound-undone p.places next newest j.segments held is.sound);
+  sound = sound-keep (places_below newest p.places) new.places next next (drop 1 j.segments) (λ q c there. places q c ∙ there) (omega arith)
+      (sound-undone p.places next newest j.segments held is.sound);
+  stamped = stamped;
+  transient_stamps = is.transient_stamps;
   counted = record {
     objects = omega (arith, is.counted.objects);
     persistent_units = omega (arith, one.0, counts);

@@ -10,7 +10,9 @@ use Rattle.std.specs.Prelude.{option_and_then}
 use Rattle.t3_store.specs.Value.{units_in, supers_of}
 use Rattle.t3_store.specs.Store.{either, AreLimits, AreBelow, started}
 use Rattle.t3_store.specs.Value.{Objects as Values}
-use Rattle.t3_store.specs.Inner.Shapes.{Shape, Stored, values, value_of, AreWithin}
+use Rattle.t3_store.specs.Inner.Shapes.{Shape, Stored, values, value_of, AreWithin, stamp_at, HaveZeroStamps}
+use Rattle.t3_undo.specs.Stamps.{AreStamped}
+use Rattle.t3_store.proofs.Stamped.{stamped-afresh}
 use Rattle.t3_store.specs.Inner.Store.{marks_of, store_of, IsSound, AreNumbered, IsFront, saved_units, IsStore, AreKindsKept}
 use Rattle.t3_store.specs.Whole.{IsWhole, supers_in, supers_among}
 use Rattle.t3_store.specs.Inner.Whole.{supers_from, supers_of_both, AreWhole}
@@ -44,15 +46,17 @@ pub started-kept : (p t : Stored) (first passing : Values) (next : ℕ) (limits 
     → values p.objects ≡ first → values t.objects ≡ passing → AreLimits limits → 0 < next → next ≤ 2 ^ 31 → AreBelow next first → AreBelow next passing
     → len first + len passing ≤ limits.objects → units_in first + units_in passing ≤ limits.units
     → j ≡ record { segments = []; marks = 0; record_limit = limits.records; mark_limit = limits.savepoints } → units ≡ [] → limits.savepoints ≤ room
-    → get first 0 ≡ None → get passing 0 ≡ None → AreWithin (units_in first + 1) p.ticks → AreWithin (units_in passing + 1) t.ticks
+    → get first 0 ≡ None → get passing 0 ≡ None → AreWithin (units_in first + 1) p.ticks → AreWithin (units_in passing + 1) t.ticks → HaveZeroStamps p.places → HaveZeroStamps t.places
     → writes ≡ units_in first + units_in passing → ((q : ℕ) → is_some (get first q) ≡ true → get passing q ≡ None) → IsWhole (supers_in first)
     → IsWhole (supers_among first passing) → IsStore p t next (2 ^ 31) limits j units room writes
-started-kept p t first passing next limits j units room writes one other bounded high low below under few little begun none wide first_from passing_from first_ticks passing_ticks counts apart own both = record {
+started-kept p t first passing next limits j units room writes one other bounded high low below under few little begun none wide first_from passing_from first_ticks passing_ticks zeros others counts apart own both = record {
   bounded = bounded;
   records = ap (λ (h : Held). h.record_limit) begun;
   savepoints = ap (λ (h : Held). h.mark_limit) begun;
   numbered = numbered;
   sound = subst (λ (h : Held). IsSound p.places next h.segments) (sym begun) tt;
+  stamped = subst (λ (h : Held). AreStamped h.marks (stamp_at p.places) h.segments) (sym begun) (stamped-afresh 0 p.places zeros);
+  transient_stamps = others;
   counted = record {
     objects = (let a = ap len one in let b = ap len other in omega arith);
     persistent_units = (let a = ap units_in one in omega arith);

@@ -20,7 +20,8 @@ use Rattle.t3_store.proofs.KindValues.{valid-without, lose-form}
 use Rattle.t3_store.proofs.MapValues.{get-values}
 use Rattle.t3_store.specs.Inner.Valid.{IsValid, AreValid, AreValidBefore}
 use Rattle.t3_store.proofs.Rows.{same, same-is}
-use Rattle.t3_store.proofs.Marks.{record_of, before-undue, before-now}
+use Rattle.t3_store.specs.Inner.Store.{record_of}
+use Rattle.t3_store.proofs.Marks.{before-undue, before-now}
 
 -- none, one changed, and one more
 pub valid-none : AreValid empty
@@ -51,11 +52,11 @@ back-newest : (s : Segment) (ss : List Segment) (a b : Objects Shape) → before
 back-newest s ss a b e valid =
     (subst AreValid (sym e) valid.0, subst (λ m. AreValidBefore m ss) (sym e) valid.1)
 
-back-added : (s : Segment) (ss : List Segment) (m : Objects Shape) (n : ℕ) (c : Cell) (o : Option Present) → AreValidBefore m (s ∷ ss)
+back-added : (s : Segment) (ss : List Segment) (m : Objects Shape) (n : ℕ) (c : Cell) (o : Option Present) (stamp : ℕ) → AreValidBefore m (s ∷ ss)
     → AreValidBefore (journaled.set_cell m n c o)
-    (record s { records = record_of n c (part_at m n c) ∷ s.records } ∷ ss)
-back-added s ss m n c o valid =
-    let back = ap (journaled.below s.next) (put_back-note s.records m n c o 0) in
+    (record s { records = record_of n c (part_at m n c) stamp ∷ s.records } ∷ ss)
+back-added s ss m n c o stamp valid =
+    let back = ap (journaled.below s.next) (put_back-note s.records m n c o stamp) in
     (subst AreValid (sym back) valid.0, subst (λ m. AreValidBefore m ss) (sym back) valid.1)
 
 back-if : (b : Bool) (m : Objects Shape) (ss : List Segment) → AreValidBefore m ss → AreValidBefore m (cond b ss [])
@@ -68,21 +69,21 @@ back-room limit (s ∷ ss) m valid =
     back-if (nat_lt (length s.records) limit) m (s ∷ room (limit - length s.records) ss)
     (valid.0, back-room (limit - length s.records) ss (before m s) valid.1)
 
-pub back-noted : (limit : ℕ) (ss : List Segment) (m : Objects Shape) (n : ℕ) (c : Cell) (o : Option Present) → AreValidBefore m ss
-    → AreValidBefore (journaled.set_cell m n c o) (note_in limit (record_of n c (part_at m n c)) ss)
-back-noted limit ss m n c o valid = by (is_due n c ss) refl
+pub back-noted : (limit : ℕ) (ss : List Segment) (m : Objects Shape) (n : ℕ) (c : Cell) (o : Option Present) (stamp : ℕ) → AreValidBefore m ss
+    → AreValidBefore (journaled.set_cell m n c o) (note_in limit (record_of n c (part_at m n c) stamp) ss)
+back-noted limit ss m n c o stamp valid = by (is_due n c ss) refl
   where
     due : (ss : List Segment) → AreValidBefore m ss
-        → AreValidBefore (journaled.set_cell m n c o) (add (record_of n c (part_at m n c)) ss)
+        → AreValidBefore (journaled.set_cell m n c o) (add (record_of n c (part_at m n c) stamp) ss)
     due [] valid = tt
-    due (s ∷ ss) valid = back-added s ss m n c o valid
+    due (s ∷ ss) valid = back-added s ss m n c o stamp valid
 
     undue : (ss : List Segment) → is_due n c ss ≡ false → AreValidBefore m ss → AreValidBefore (journaled.set_cell m n c o) ss
     undue [] e valid = tt
     undue (s ∷ ss) e valid = back-newest s ss (journaled.set_cell m n c o) m (before-undue s m n c o e) valid
 
     by : (b : Bool) → is_due n c ss ≡ b
-        → AreValidBefore (journaled.set_cell m n c o) (cond b (add (record_of n c (part_at m n c)) (room limit ss)) ss)
+        → AreValidBefore (journaled.set_cell m n c o) (cond b (add (record_of n c (part_at m n c) stamp) (room limit ss)) ss)
     by true e = due (room limit ss) (back-room limit ss m valid)
     by false e = undue ss e valid
 

@@ -1,16 +1,17 @@
 //! Objects in a row, by rising number.
-ghost use Rattle.std.specs.Prelude.{◌≡◌, ◌+◌, ◌-◌, ◌^◌, ◌<◌, ◌≤◌, ◌↔◌, ◌++◌, [], ◌∷◌, ℕ, length, take, drop, slice_get, IsTrue, IsSome, IfSome, IfOk, None, OnOk, OnErr, is_some, option_map, map};
+ghost use Rattle.std.specs.Prelude.{◌≡◌, ◌+◌, ◌-◌, ◌^◌, ◌<◌, ◌≤◌, ◌↔◌, ◌++◌, [], ◌∷◌, ℕ, length, take, drop, slice_get, IsTrue, IsSome, IfSome, IfOk, None, Some, OnOk, OnErr, is_some, option_map, map};
 ghost use Rattle.std.specs.FinMap.{get, insert};
 ghost use Rattle.std.specs.List.{AllWithin, list_any};
 ghost use Rattle.t3_undo.specs.Content.{shown, is_form};
 ghost use Rattle.t3_undo.specs.declared.cell.Cell.TheVariants.{Prop};
 ghost use Rattle.t3_undo.specs.Objects.{part_at, set_cell, adjust, below, put_back};
 ghost use Rattle.t3_undo.specs.Journal.{old_of, newest_records};
-ghost use Rattle.t3_store.specs.Inner.Store.{CanBePut, CanAllBePut, AreRecordsWithin, emptied};
+ghost use Rattle.t3_undo.specs.Stamps.{AreStamped};
+ghost use Rattle.t3_store.specs.Inner.Store.{CanBePut, CanAllBePut, HaveSamePlaces, AreRecordsWithin, emptied};
 ghost use Rattle.t3_store.specs.Value.{holder_at, can_have_at, with_cell};
-ghost use Rattle.t3_store.specs.Inner.Shapes.{thing_of, places_of, tick_of, values, has_place, with_place, places_below, ticks_below, tick_behind, risen, AreWithin};
+ghost use Rattle.t3_store.specs.Inner.Shapes.{thing_of, places_of, tick_of, values, has_place, stamp_at, with_place_stamp, with_place, places_below, ticks_below, tick_behind, risen, AreWithin, HasZeroStamps};
 ghost use Rattle.t3_store.specs.Inner.Valid.{IsValid, AreValid};
-ghost use Rattle.t3_store.specs.Inner.Entries.{IsRising, index_of, is_numbered, object_at, things_of, places_in, ticks_in, keyed, AreAllValid, HaveTicksForUnits, HasTickForUnits, IsFirstFrom};
+ghost use Rattle.t3_store.specs.Inner.Entries.{IsRising, index_of, is_numbered, object_at, things_of, places_in, ticks_in, keyed, AreAllValid, HaveTicksForUnits, HasTickForUnits, HaveAllZeroStamps, IsFirstFrom};
 
 use crate::object::Object;
 use std::alloc::Global;
@@ -191,6 +192,34 @@ pub(crate) fn make_place(entries: &mut Vec<Entry>, number: u32, cell: Cell) -> R
     }
 }
 
+/// The stamp of the place of a cell of an object.
+pub(crate) fn stamp_of(entries: &[Entry], number: u32, cell: &Cell) -> u64
+    requires rising { IsRising entries.now }
+    requires place { IsTrue (has_place (places_in entries.now) number cell.now) }
+    ensures { stamp_at (places_in entries.now) number cell.now ≡ Some result }
+{
+    match object_at(entries, number) {
+        Some(object) => object.stamp(cell),
+        None => 0,
+    }
+}
+
+/// Gives the place of a cell of an object another stamp. No memory is taken.
+pub(crate) fn set_stamp(entries: &mut Vec<Entry>, number: u32, cell: &Cell, stamp: u64)
+    requires rising { IsRising entries.old.items }
+    requires place { IsTrue (has_place (places_in entries.old.items) number cell.now) }
+    ensures rising { IsRising entries.new.items }
+    ensures things { things_of entries.new.items ≡ things_of entries.old.items }
+    ensures places { places_in entries.new.items
+        ≡ with_place_stamp number cell.now stamp (places_in entries.old.items) }
+    ensures ticks { ticks_in entries.new.items ≡ ticks_in entries.old.items }
+    ensures len { length entries.new.items ≡ length entries.old.items }
+{
+    if let Some(index) = index_of(entries, number) {
+        entries[index].object.set_stamp(cell, stamp);
+    }
+}
+
 /// Adds an object under a number that no other has.
 pub(crate) fn add(entries: &mut Vec<Entry>, number: u32, object: Object) -> Result<(), NoMemory>
     requires rising { IsRising entries.old.items }
@@ -226,33 +255,41 @@ pub(crate) fn cut(entries: &mut Vec<Entry>, next: u32)
 pub(crate) fn put_back(entries: &mut Vec<Entry>, journal: &mut Journal)
     requires rising { IsRising entries.old.items }
     requires can { CanAllBePut (places_in entries.old.items) (newest_records journal.old.segments) }
+    requires stamped { AreStamped journal.old.marks (stamp_at (places_in entries.old.items))
+        journal.old.segments }
     ensures rising { IsRising entries.new.items }
     ensures things { things_of entries.new.items
         ≡ put_back (things_of entries.old.items) (newest_records journal.old.segments) }
-    ensures places { places_in entries.new.items ≡ places_in entries.old.items }
+    ensures places { HaveSamePlaces (places_in entries.old.items) (places_in entries.new.items) }
+    ensures stamped { AreStamped journal.new.marks (stamp_at (places_in entries.new.items))
+        journal.new.segments }
     ensures ticks { (bound : ℕ) → AreWithin bound (ticks_in entries.old.items)
         → AreRecordsWithin bound journal.old.segments → AreWithin bound (ticks_in entries.new.items) }
     ensures len { length entries.new.items ≡ length entries.old.items }
     ensures journal { journal.new ≡ record journal.old { segments = emptied journal.old.segments } }
 {
+    // Since one savepoint no cell has two records.
+    let _distinct = journal.records();
     while let Some(kept) = journal.take_kept() {
         put_kept(entries, kept);
     }
 }
 
-/// Puts back what stood in a cell.
+/// Puts back what stood in a cell, and the stamp that its place had.
 fn put_kept(entries: &mut Vec<Entry>, kept: Kept)
     requires rising { IsRising entries.old.items }
     requires can { CanBePut (places_in entries.old.items) (old_of kept) }
     ensures rising { IsRising entries.new.items }
     ensures things { things_of entries.new.items
         ≡ set_cell (things_of entries.old.items) kept.number kept.cell (shown kept.old) }
-    ensures places { places_in entries.new.items ≡ places_in entries.old.items }
+    ensures places { places_in entries.new.items
+        ≡ with_place_stamp kept.number kept.cell kept.stamp (places_in entries.old.items) }
     ensures ticks { (bound : ℕ) → AreWithin bound (ticks_in entries.old.items) → tick_behind (shown kept.old) ≤ bound
         → AreWithin bound (ticks_in entries.new.items) }
     ensures len { length entries.new.items ≡ length entries.old.items }
 {
     let _changed = put(entries, kept.number, &kept.cell, kept.old);
+    set_stamp(entries, kept.number, &kept.cell, kept.stamp);
 }
 
 /// The least number of an object from this one on.
@@ -295,6 +332,7 @@ pub(crate) fn copy_all(alloc: Global, entries: &[Entry]) -> Result<Vec<Entry>, N
     ensures values { IfOk result (λ copy. map keyed copy.items ≡ map keyed entries.now) }
     ensures valid { IfOk result (λ copy. AreAllValid copy.items) }
     ensures ticks { IfOk result (λ copy. HaveTicksForUnits copy.items) }
+    ensures zero_stamps { IfOk result (λ copy. HaveAllZeroStamps copy.items) }
 {
     let mut copy = Vec::with_capacity(alloc, entries.len())?;
     for entry in entries {
@@ -309,6 +347,7 @@ fn copy_one(alloc: Global, entry: &Entry) -> Result<Entry, NoMemory>
     ensures same { IfOk result (λ copy. keyed copy ≡ keyed entry.now) }
     ensures valid { IfOk result (λ copy. IsValid (thing_of copy.object)) }
     ensures tick { IfOk result (λ copy. HasTickForUnits copy) }
+    ensures zero_stamps { IfOk result (λ copy. HasZeroStamps (places_of copy.object)) }
 {
     let number = entry.number;
     let object = entry.object.copy(alloc)?;

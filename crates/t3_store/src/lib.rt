@@ -45,6 +45,7 @@ mod kind;
 mod law;
 mod limits;
 mod new_object;
+mod noting;
 mod object;
 mod object_at;
 mod object_map;

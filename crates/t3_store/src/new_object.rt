@@ -2,8 +2,10 @@ ghost use Rattle.std.specs.Prelude.{◌≡◌, ◌+◌, ◌<◌, ◌≤◌, IfOk
 ghost use Rattle.std.specs.FinMap.{from_entries, len};
 ghost use Rattle.std.specs.Ordering.{nat_cmp};
 ghost use Rattle.t3_lists.specs.Vector.{parts_of, filled};
+ghost use Rattle.t3_lists.specs.Vector as vectors;
+ghost use Rattle.t3_undo.specs.Content.{with_place};
 ghost use Rattle.t3_store.specs.Value.{Tads, pair_of, new_value, units_of, HasFittingLength};
-ghost use Rattle.t3_store.specs.Inner.Shapes.{thing_of, value_of, tick_of, HasElements, IsWithElement};
+ghost use Rattle.t3_store.specs.Inner.Shapes.{thing_of, places_of, value_of, tick_of, HasZeroStamps, HasElements, IsWithElement};
 ghost use Rattle.t3_store.specs.Inner.Valid.{IsValid};
 
 use crate::object::Object;
@@ -55,6 +57,7 @@ impl NewObject {
         ensures value { IfOk result (λ object. value_of (thing_of object) ≡ new_value self) }
         ensures valid { IfOk result (λ object. IsValid (thing_of object)) }
         ensures tick { IfOk result (λ object. tick_of object ≤ 1) }
+        ensures zero_stamps { IfOk result (λ object. HasZeroStamps (places_of object)) }
     {
         match self {
             NewObject::Tads {
@@ -83,6 +86,7 @@ fn make_tads(alloc: Global, supers: Numbers, class: bool, props: &Props) -> Resu
         ≡ Tads supers class (from_entries (map pair_of props.now))) }
     ensures valid { IfOk result (λ object. IsValid (thing_of object)) }
     ensures tick { IfOk result (λ object. tick_of object ≤ 1) }
+    ensures zero_stamps { IfOk result (λ object. HasZeroStamps (places_of object)) }
 {
     let mut object = TadsObject::of(alloc, supers, class);
     let items = props.items();
@@ -97,7 +101,8 @@ fn make_tads(alloc: Global, supers: Numbers, class: bool, props: &Props) -> Resu
 /// A vector of these elements.
 fn make_vector(alloc: Global, items: &Holders) -> Result<Vector, NoMemory>
     requires { length items.now ≤ 65535 }
-    ensures { IfOk result (λ vector. parts_of vector ≡ filled items.now) }
+    ensures parts { IfOk result (λ vector. parts_of vector ≡ filled items.now) }
+    ensures zero_stamps { IfOk result (λ vector. HasZeroStamps (vectors.places_of vector)) }
 {
     let mut vector = Vector::new(alloc);
     for index in 0..items.0.len() {
@@ -110,7 +115,9 @@ fn make_vector(alloc: Global, items: &Holders) -> Result<Vector, NoMemory>
 fn add_element(vector: &mut Vector, count: u32, value: Holder) -> Result<(), NoMemory>
     requires few { count < 65535 }
     requires count { HasElements (parts_of vector.old) count }
-    ensures { OnOk result (IsWithElement (parts_of vector.old) (parts_of vector.new) count value) }
+    ensures parts { OnOk result (IsWithElement (parts_of vector.old) (parts_of vector.new) count value) }
+    ensures places { OnOk result (vectors.places_of vector.new
+        ≡ with_place (vectors.places_of vector.old) (Cell.Elem (count + 1))) }
 {
     let cell = Cell::Elem(count + 1);
     vector.make_place(Cell::Elem(count + 1))?;

@@ -1,11 +1,11 @@
-ghost use Rattle.std.specs.Prelude.{◌≡◌, ◌+◌, ◌<◌, ◌≤◌, ◌-◌, ◌^◌, ℕ, None, IsTrue, IsSome, IfOk, OnOk, OnErr, option_map, map};
+ghost use Rattle.std.specs.Prelude.{◌≡◌, ◌+◌, ◌<◌, ◌≤◌, ◌-◌, ◌^◌, ℕ, None, Some, IsTrue, IsSome, IfOk, OnOk, OnErr, option_map, map};
 ghost use Rattle.std.specs.List.Sorted.{IsStrictlyIncreasing};
-ghost use Rattle.std.specs.FinMap.{get, contains_key, entries};
+ghost use Rattle.std.specs.FinMap.{get, insert, contains_key, entries};
 ghost use Rattle.t3_undo.specs.Content.{shown, is_form, with_place};
 ghost use Rattle.t3_undo.specs.declared.cell.Cell.TheVariants.{Prop};
 ghost use Rattle.t3_undo.specs.Objects.{with_part};
 ghost use Rattle.t3_store.specs.Value.{holder_in, kind_of, supers_of, is_class_of, props_in, text_of, items_in, length_of, entries_in, with_cell, can_have, units_of};
-ghost use Rattle.t3_store.specs.Inner.Shapes.{thing_of, places_of, tick_of, value_of, tick_behind, risen};
+ghost use Rattle.t3_store.specs.Inner.Shapes.{thing_of, places_of, tick_of, value_of, tick_behind, risen, HasZeroStamps};
 ghost use Rattle.t3_store.specs.Inner.Valid.{IsValid};
 
 use crate::kind::Kind;
@@ -119,6 +119,36 @@ impl Object {
         }
     }
 
+    /// The stamp of the cell's place.
+    pub(crate) fn stamp(&self, cell: &Cell) -> u64
+        requires { IsTrue (contains_key (places_of self.now) cell.now) }
+        ensures { get (places_of self.now) cell.now ≡ Some result }
+    {
+        match self {
+            Object::Tads(object) => object.stamp(cell),
+            Object::Text(text) => text.stamp(cell),
+            Object::List(list) => list.stamp(cell),
+            Object::Vector(vector) => vector.stamp(cell),
+            Object::Table(table) => table.stamp(cell),
+        }
+    }
+
+    /// Gives the cell's place another stamp. No memory is taken.
+    pub(crate) fn set_stamp(&mut self, cell: &Cell, stamp: u64)
+        requires { IsTrue (contains_key (places_of self.old) cell.now) }
+        ensures thing { thing_of self.new ≡ thing_of self.old }
+        ensures places { places_of self.new ≡ insert (places_of self.old) cell.now stamp }
+        ensures ticks { tick_of self.new ≡ tick_of self.old }
+    {
+        match self {
+            Object::Tads(object) => object.set_stamp(cell, stamp),
+            Object::Text(text) => text.set_stamp(cell, stamp),
+            Object::List(list) => list.set_stamp(cell, stamp),
+            Object::Vector(vector) => vector.set_stamp(cell, stamp),
+            Object::Table(table) => table.set_stamp(cell, stamp),
+        }
+    }
+
     /// What stands in the cell once it is set to a value.
     #[inline(always)]
     pub(crate) fn content_with(&self, cell: &Cell, value: Holder) -> Content
@@ -143,6 +173,7 @@ impl Object {
         ensures value { IfOk result (λ copy. value_of (thing_of copy) ≡ value_of (thing_of self.now)) }
         ensures valid { IfOk result (λ copy. IsValid (thing_of copy)) }
         ensures tick { IfOk result (λ copy. tick_of copy ≤ units_of (value_of (thing_of copy)) + 1) }
+        ensures zero_stamps { IfOk result (λ copy. HasZeroStamps (places_of copy)) }
     {
         match self {
             Object::Tads(object) => Ok(Object::Tads(object.copy(alloc)?)),

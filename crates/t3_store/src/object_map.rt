@@ -6,15 +6,16 @@ ghost use Rattle.t3_undo.specs.Content.{shown, is_form};
 ghost use Rattle.t3_undo.specs.declared.cell.Cell.TheVariants.{Prop};
 ghost use Rattle.t3_undo.specs.Objects.{part_at};
 ghost use Rattle.t3_store.specs.Value.{holder_at, can_have_at, can_lose_at, with_cell, without_cell, cell_units, units_of, units_in, IsNextAbove};
-ghost use Rattle.t3_store.specs.Inner.Shapes.{thing_of, places_of, tick_of, value_of, values, has_place, with_place, places_below, AreWithin, IsChanged};
+ghost use Rattle.t3_store.specs.Inner.Shapes.{thing_of, places_of, tick_of, value_of, values, has_place, stamp_at, with_place_stamp, with_place, places_below, AreWithin, HaveZeroStamps, IsChanged};
 ghost use Rattle.t3_store.specs.Inner.Valid.{IsValid, AreValid};
-ghost use Rattle.t3_store.specs.Inner.Store.{CanAllBePut, AreRecordsWithin, HaveRisen, IsWritten};
+ghost use Rattle.t3_store.specs.Inner.Store.{CanAllBePut, HaveSamePlaces, AreRecordsWithin, HaveRisen, IsWritten};
 ghost use Rattle.t3_undo.specs.Journal.{newest_next, newest_records};
+ghost use Rattle.t3_undo.specs.Stamps.{AreStamped};
 ghost use Rattle.t3_undo.specs.UndoLaw.{undone};
 
 use crate::entries::{
     Entry, add, content_with, copy_all, cut, make_place, meet, number_from, numbers_of, object_at,
-    put, put_back, replace_prop,
+    put, put_back, replace_prop, set_stamp, stamp_of,
 };
 use crate::object::Object;
 use crate::object_at::ObjectAt;
@@ -131,6 +132,7 @@ impl ObjectMap {
             ≡ holder_at (get (values self.old.objects) number) (Prop property) }
         ensures written { IsSome (shown result) → IsWritten self.old self.new number (Prop property)
             (with_cell (Prop property) value) (shown result) }
+        ensures places { self.new.places ≡ self.old.places }
         ensures kept { shown result ≡ None → self.new ≡ self.old }
     {
         replace_prop(&mut self.entries, number, property, value)
@@ -149,6 +151,24 @@ impl ObjectMap {
         let old = put(&mut self.entries, number, cell, Content::Absent);
         self.units -= cell_units(cell) as u32;
         old
+    }
+
+    /// The stamp of the place of a cell of an object.
+    pub(crate) fn stamp(&self, number: u32, cell: &Cell) -> u64
+        requires { IsTrue (has_place self.now.places number cell.now) }
+        ensures { stamp_at self.now.places number cell.now ≡ Some result }
+    {
+        stamp_of(&self.entries, number, cell)
+    }
+
+    /// Gives the place of a cell of an object another stamp. No memory is taken.
+    pub(crate) fn set_stamp(&mut self, number: u32, cell: &Cell, stamp: u64)
+        requires { IsTrue (has_place self.old.places number cell.now) }
+        ensures { self.new ≡ record self.old {
+          places = with_place_stamp number cell.now stamp self.old.places;
+        } }
+    {
+        set_stamp(&mut self.entries, number, cell, stamp);
     }
 
     /// Makes a place for a cell of an object, which stays as it is.
@@ -180,15 +200,19 @@ impl ObjectMap {
         Ok(())
     }
 
-    /// The objects as they were at the newest savepoint, which ends: what stood in its records is put back,
-    /// and what was made since is taken away. They count so many units then. No memory is taken.
+    /// The objects as they were at the newest savepoint, which ends: what stood in its records is put back, with
+    /// the stamps of then, and what was made since is taken away. They count so many units then. No memory is taken.
     pub(crate) fn undo(&mut self, journal: &mut Journal, next: u32, units: u32)
         requires can { CanAllBePut self.old.places (newest_records journal.old.segments) }
+        requires stamped { AreStamped journal.old.marks (stamp_at self.old.places)
+            journal.old.segments }
         requires next { newest_next journal.old.segments ≡ Some next }
         requires units { units ≡ units_in (values (undone self.old.objects journal.old.segments)) }
         requires valid { AreValid (undone self.old.objects journal.old.segments) }
         ensures objects { self.new.objects ≡ undone self.old.objects journal.old.segments }
-        ensures places { self.new.places ≡ places_below next self.old.places }
+        ensures places { HaveSamePlaces (places_below next self.old.places) self.new.places }
+        ensures stamped { AreStamped journal.new.marks (stamp_at self.new.places)
+            journal.new.segments }
         ensures ticks { (bound : ℕ) → AreWithin bound self.old.ticks → AreRecordsWithin bound journal.old.segments
             → AreWithin bound self.new.ticks }
         ensures fewer { finite.len (values self.new.objects) ≤ finite.len (values self.old.objects) }
@@ -227,6 +251,7 @@ impl ObjectMap {
     pub(crate) fn copy(&self, alloc: Global) -> Result<ObjectMap, NoMemory>
         ensures values { IfOk result (λ copy. values copy.objects ≡ values self.now.objects) }
         ensures ticks { IfOk result (λ copy. AreWithin (units_in (values self.now.objects) + 1) copy.ticks) }
+        ensures zero_stamps { IfOk result (λ copy. HaveZeroStamps copy.places) }
     {
         let entries = copy_all(alloc, &self.entries)?;
         Ok(ObjectMap {

@@ -4,7 +4,7 @@ ghost use Rattle.std.specs.FinMap.{get};
 ghost use Rattle.t3_undo.specs.Content.{shown};
 ghost use Rattle.t3_store.specs.Value.{holder_at, can_have_at, can_lose_at, with_cell, without_cell, units_in, cell_units};
 ghost use Rattle.t3_store.specs.Inner.Shapes.{values, AreWithin};
-ghost use Rattle.t3_store.specs.Inner.Store.{IsReady, IsWritten};
+ghost use Rattle.t3_store.specs.Inner.Store.{IsReady, IsWritten, KeepStamps};
 
 use crate::limits::StoreRefusal;
 use crate::object_map::ObjectMap;
@@ -29,6 +29,7 @@ pub(crate) fn set(
         ↔ IsTrue (is_none (holder_at (get (values objects.old.objects) number) cell.now) && full) }
     ensures ok { IfOk result (λ old. IsWritten objects.old objects.new number cell.now
         (with_cell cell.now value) (shown old)) }
+    ensures stamps { OnOk result (KeepStamps objects.old.places objects.new.places) }
     ensures err { OnErr result (objects.new ≡ objects.old) }
 {
     make_room(objects, alloc, number, cell, full)?;
@@ -65,7 +66,9 @@ fn make_room(
 pub(crate) fn overwrite(objects: &mut ObjectMap, number: u32, cell: &Cell, value: Holder) -> Content
     requires present { IsSome (holder_at (get (values objects.old.objects) number) cell.now) }
     requires few { AreWithin (2 ^ 64 - 2) objects.old.ticks }
-    ensures { IsWritten objects.old objects.new number cell.now (with_cell cell.now value) (shown result) }
+    ensures written { IsWritten objects.old objects.new number cell.now (with_cell cell.now value)
+        (shown result) }
+    ensures places { objects.new.places ≡ objects.old.places }
 {
     let _present = objects.get(number, cell);
     objects.set(number, cell, value)
@@ -75,7 +78,9 @@ pub(crate) fn overwrite(objects: &mut ObjectMap, number: u32, cell: &Cell, value
 pub(crate) fn take(objects: &mut ObjectMap, number: u32, cell: &Cell) -> Content
     requires present { IsSome (holder_at (get (values objects.old.objects) number) cell.now) }
     requires can { IsTrue (can_lose_at (get (values objects.old.objects) number) cell.now) }
-    ensures { IsWritten objects.old objects.new number cell.now (without_cell cell.now) (shown result) }
+    ensures written { IsWritten objects.old objects.new number cell.now (without_cell cell.now)
+        (shown result) }
+    ensures places { objects.new.places ≡ objects.old.places }
 {
     let _present = objects.get(number, cell);
     objects.take(number, cell)

@@ -118,6 +118,57 @@ fn check_outgrown(rt: &impl Abort, store: &mut Store, object: u32) -> Result<(),
     Ok(())
 }
 
+#[test]
+fn nothing_is_noted_after_the_last_drop_until_a_savepoint(rt: HostRuntime) -> Result<(), Fail> {
+    let alloc = rt.alloc();
+    let mut store = empty_store(alloc, 9, 9, 2, 128)?;
+    let object = create(&mut store, alloc, false)?;
+    savepoint(&mut store)?;
+    fill_journal(&rt, &mut store, object)?;
+    check_outgrown(&rt, &mut store, object)?;
+    // The change that cost the savepoint left none: nothing is noted.
+    overwrite(&mut store, object, Cell::Prop(3), 5)?;
+    assert_eq!(rt; (store.held(), store.records()), (0, 0));
+    check_noted_once(&rt, &mut store, object)
+}
+
+/// Behind a further savepoint, property 3 is noted at its first change and not at its second.
+fn check_noted_once(rt: &impl Abort, store: &mut Store, object: u32) -> Result<(), Fail> {
+    savepoint(store)?;
+    overwrite(store, object, Cell::Prop(3), 6)?;
+    overwrite(store, object, Cell::Prop(3), 7)?;
+    assert_eq!(rt; (store.held(), store.records()), (1, 1));
+    assert!(rt; store.undo());
+    assert_eq!(rt; value(store, object, &Cell::Prop(3)), Some(5));
+    Ok(())
+}
+
+#[test]
+fn a_change_that_drops_the_oldest_is_noted_once(rt: HostRuntime) -> Result<(), Fail> {
+    let alloc = rt.alloc();
+    let mut store = empty_store(alloc, 9, 9, 2, 128)?;
+    let object = create(&mut store, alloc, false)?;
+    savepoint(&mut store)?;
+    fill_journal(&rt, &mut store, object)?;
+    savepoint(&mut store)?;
+    for number in [4, 5] {
+        overwrite(&mut store, object, Cell::Prop(1), number)?;
+        assert_eq!(rt; (store.held(), store.records()), (1, 1));
+    }
+    // Property 2 was noted for the savepoint that went.
+    overwrite(&mut store, object, Cell::Prop(2), 6)?;
+    assert_eq!(rt; (store.held(), store.records()), (1, 2));
+    check_both_changes(&rt, &mut store, object)
+}
+
+/// An undo takes both properties back to what they were at the savepoint.
+fn check_both_changes(rt: &impl Abort, store: &mut Store, object: u32) -> Result<(), Fail> {
+    assert!(rt; store.undo() && !store.undo());
+    assert_eq!(rt; value(store, object, &Cell::Prop(1)), Some(1));
+    assert_eq!(rt; value(store, object, &Cell::Prop(2)), Some(3));
+    Ok(())
+}
+
 /// Sets property 5 to 1, 2 and 3, each behind a savepoint of its own.
 fn overwrite_behind_savepoints(store: &mut Store, object: u32) -> Result<(), Fail> {
     for value in 1..4 {

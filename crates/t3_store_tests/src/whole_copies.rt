@@ -5,17 +5,9 @@ ghost use Rattle.std.specs.Prelude.{◌<◌, length, IfSome};
 use std::alloc::Global;
 use std::test::Fail;
 use t3_holder::{Holder, NoMemory};
-use t3_store::{Kind, Store};
+use t3_store::{Kind, Store, StoreLimits};
 use t3_tadsobj::Supers;
 use t3_undo::{Cell, Key};
-
-pub(crate) const OBJECTS: usize = 8;
-
-pub(crate) const UNITS: usize = 10;
-
-pub(crate) const RECORDS: usize = 4;
-
-pub(crate) const SAVEPOINTS: usize = 3;
 
 /// The cell of a table's default.
 pub(crate) const DEFAULT: u32 = 0;
@@ -53,6 +45,7 @@ pub(crate) struct Whole {
     pub(crate) next: u32,
     next_transient: u32,
     savepoints: Vec<Savepoint>,
+    limits: StoreLimits,
 }
 
 /// A copy of rows.
@@ -241,14 +234,20 @@ fn cell_under(key: &Key) -> u32 {
 }
 
 impl Whole {
-    pub(crate) fn start(alloc: Global) -> Whole {
+    pub(crate) fn start(alloc: Global, limits: StoreLimits) -> Whole {
         Whole {
             persistent: Vec::new(alloc),
             transient: Vec::new(alloc),
             next: 1,
             next_transient: 0x8000_0000,
             savepoints: Vec::new(alloc),
+            limits,
         }
+    }
+
+    /// Whether so many objects and units are more than there may be.
+    fn is_past(&self, objects: usize, units: usize) -> bool {
+        objects > self.limits.objects as usize || units > self.limits.units as usize
     }
 
     pub(crate) fn objects(&self) -> usize {
@@ -280,7 +279,8 @@ impl Whole {
     /// Adds an object under the next number of a half, and gives that. `None` where there is no
     /// room.
     pub(crate) fn create(&mut self, row: Row, transient: bool) -> Result<Option<u32>, NoMemory> {
-        if self.objects() >= OBJECTS || self.units().saturating_add(row_units(&row)) > UNITS {
+        let units = self.units().saturating_add(row_units(&row));
+        if self.is_past(self.objects().saturating_add(1), units) {
             return Ok(None);
         }
         let mut row = row;
@@ -302,7 +302,8 @@ impl Whole {
             next: self.next,
             changed: Vec::new(alloc),
         };
-        if self.savepoints.len() >= SAVEPOINTS {
+        let full = self.savepoints.len() >= self.limits.savepoints as usize;
+        if full && self.savepoints.len() > 0 {
             let _oldest = self.savepoints.remove(0);
         }
         self.savepoints.push(savepoint)?;
@@ -324,7 +325,7 @@ impl Whole {
     /// them beside the transient ones.
     pub(crate) fn replace(&mut self, rows: Vec<Row>, next: u32) -> bool {
         let objects = rows.len().saturating_add(self.transient.len());
-        if objects > OBJECTS || units(&rows).saturating_add(units(&self.transient)) > UNITS {
+        if self.is_past(objects, units(&rows).saturating_add(units(&self.transient))) {
             return false;
         }
         self.persistent = rows;
@@ -339,8 +340,9 @@ impl Whole {
         if !is_due(&self.savepoints, number, cell) {
             return Ok(());
         }
-        for _ in 0..SAVEPOINTS {
-            if self.savepoints.len() > 0 && records(&self.savepoints) >= RECORDS {
+        for _ in 0..self.limits.savepoints {
+            let full = records(&self.savepoints) >= self.limits.records as usize;
+            if full && self.savepoints.len() > 0 {
                 let _oldest = self.savepoints.remove(0);
             }
         }
@@ -352,7 +354,7 @@ impl Whole {
 
     /// `false` where there is no room for a cell more.
     pub(crate) fn set(&mut self, number: u32, cell: u32, value: i32) -> Result<bool, NoMemory> {
-        let full = self.units().saturating_add(cell_units(cell)) > UNITS;
+        let full = self.is_past(0, self.units().saturating_add(cell_units(cell)));
         if let Some(index) = row_of(&self.persistent, number) {
             if !set_in(&mut self.persistent[index], cell, value, full)? {
                 return Ok(false);

@@ -5,7 +5,7 @@ use Rattle.std.specs.Ordering.{nat_cmp, eq_by_cmp}
 use Rattle.std.specs.FinMap.{FinMap, empty, get}
 use Rattle.t3_undo.specs.Content.{Places}
 use Rattle.t3_undo.specs.Objects.{Objects, set_at}
-use Rattle.t3_store.specs.Inner.Shapes.{Shape, thing_of, places_of, tick_of, value_of, values}
+use Rattle.t3_store.specs.Inner.Shapes.{Shape, thing_of, places_of, tick_of, value_of, values, HasZeroStamps}
 use Rattle.t3_store.specs.Value.{Value, units_of, units_in}
 use Rattle.t3_store.specs.Inner.Valid.{IsValid, AreValid}
 use Rattle.t3_store.specs.declared.object.Object.{Object}
@@ -70,6 +70,10 @@ HasTickForUnits entry = tick_of entry.object ≤ units_of (value_of (thing_of en
 
 abbrev pub HaveTicksForUnits : List Entry → Type 0
 HaveTicksForUnits entries = AllByRecursion HasTickForUnits entries
+
+-- the places of each object have stamp 0
+abbrev pub HaveAllZeroStamps : List Entry → Type 0
+HaveAllZeroStamps entries = AllByRecursion (λ entry. HasZeroStamps (places_of entry.object)) entries
 
 -- this is the least number of an object from that one on
 abbrev pub IsFirstFrom : Objects Shape → ℕ → Option ℕ → Type 0

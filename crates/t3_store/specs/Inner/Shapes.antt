@@ -7,6 +7,7 @@ use Rattle.std.specs.Coded.{Coded, code_by, coded×, coded_ℕ, coded_bool, code
 use Rattle.t3_undo.specs.Content.{Parts, Places, Present, coded_parts, coded_places, coded_holder}
 use Rattle.t3_undo.specs.Content as content
 use Rattle.t3_undo.specs.Objects.{Objects, set_at, set_cell, adjust}
+use Rattle.t3_undo.specs.Stamps.{Stamps}
 use Rattle.t3_undo.specs.declared.cell.Cell.{Cell}
 use Rattle.t3_undo.specs.declared.cell.Cell.TheVariants as cells
 use Rattle.t3_holder.specs.declared.holder.Holder.{Holder}
@@ -136,6 +137,27 @@ has_place places number cell = has_place_in (get places number) cell
 abbrev pub with_place : ℕ → Cell → FinMap nat_cmp Places → FinMap nat_cmp Places
 with_place number cell places = adjust places number (λ own. content.with_place own cell)
 
+-- the stamp of a cell's place among those of an object, if it has one
+abbrev pub stamp_in : Option Places → Cell → Option ℕ
+stamp_in None cell = None
+stamp_in (Some places) cell = get places cell
+
+-- the stamp of the place of a cell of an object, if it has one
+abbrev pub stamp_at : FinMap nat_cmp Places → Stamps
+stamp_at places = λ number cell. stamp_in (get places number) cell
+
+-- the places with another stamp for a cell of an object
+abbrev pub with_place_stamp : ℕ → Cell → ℕ → FinMap nat_cmp Places → FinMap nat_cmp Places
+with_place_stamp number cell stamp places = adjust places number (λ own. insert own cell stamp)
+
+-- the places of an object all have stamp 0
+abbrev pub HasZeroStamps : Places → Type 0
+HasZeroStamps own = (cell : Cell) (stamp : ℕ) → get own cell ≡ Some stamp → stamp ≡ 0
+
+-- and so have those of objects
+abbrev pub HaveZeroStamps : FinMap nat_cmp Places → Type 0
+HaveZeroStamps places = (number : ℕ) (own : Places) → get places number ≡ Some own → HasZeroStamps own
+
 -- the places of objects numbered below
 abbrev pub places_below : ℕ → FinMap nat_cmp Places → FinMap nat_cmp Places
 places_below next places = retain_keys places (λ number. nat_lt number next)
@@ -164,12 +186,13 @@ pub record IsChanged (old new : Stored) (number : ℕ) (cell : Cell) (change : V
   pub places : new.places ≡ old.places
   pub values : values new.objects ≡ adjust (values old.objects) number change
 
--- a tads-object has a property more, or another value for it
+-- a tads-object has a property more, or another value for it, in a place with stamp 0
 pub record IsWithProp (old new : Tadsobject.Tads) (number : ℕ) (value : Holder) : Type 0 where
   pub props : props_of new.parts ≡ insert (props_of old.parts) number value
   pub supers : new.supers ≡ old.supers
   pub class : new.class ≡ old.class
   pub parts : new.parts ≡ set_at old.parts (cells.Prop number) (Some (record { tick = None; value = value }))
+  pub places : new.places ≡ insert old.places (cells.Prop number) 0
 
 -- a vector of these parts has so many elements, and none is missing
 pub record HasElements (parts : Parts) (number : ℕ) : Type 0 where

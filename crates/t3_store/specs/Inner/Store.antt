@@ -1,15 +1,16 @@
 -- How a store's objects and journal are the value that contracts see, and what stays true of them.
-use Rattle.std.specs.Prelude.{◌≡◌, ◌<◌, ◌≤◌, ◌^◌, ℕ, ◌+◌, List, [], ◌∷◌, ◌++◌, Option, None, map, length, reverse, is_some, true, IsTrue}
+use Rattle.std.specs.Prelude.{◌≡◌, ◌<◌, ◌≤◌, ◌^◌, ◌⊎◌, ℕ, ◌+◌, Some, List, [], ◌∷◌, ◌++◌, Option, None, map, length, reverse, is_some, true, IsTrue}
 use Rattle.std.specs.List.{AllByRecursion}
 use Rattle.std.specs.Ordering.{nat_cmp}
 use Rattle.std.specs.FinMap.{FinMap, get, len}
 use Rattle.t3_undo.specs.Content.{Places, Present, is_form}
 use Rattle.t3_undo.specs.Objects.{Objects, OldPart, Segment, set_cell, adjust, part_at, before}
-use Rattle.t3_undo.specs.Journal.{Held}
+use Rattle.t3_undo.specs.Journal.{Held, note_in}
+use Rattle.t3_undo.specs.Stamps.{AreStamped, stamp_after}
 use Rattle.t3_undo.specs.declared.cell.Cell.{Cell}
 use Rattle.t3_store.specs.Value.{Value, units_in}
 use Rattle.t3_store.specs.Store.{Mark, StoreValue, AreLimits}
-use Rattle.t3_store.specs.Inner.Shapes.{Shape, Stored, values, has_place, tick_behind, risen, AreWithin}
+use Rattle.t3_store.specs.Inner.Shapes.{Shape, Stored, values, has_place, stamp_at, with_place_stamp, HaveZeroStamps, tick_behind, risen, AreWithin}
 use Rattle.t3_store.specs.Inner.Valid.{AreValidBefore}
 use Rattle.t3_store.specs.Inner.Whole.{supers_from, supers_of_both, AreWhole}
 use Rattle.t3_store.specs.declared.limits.StoreLimits.{StoreLimits}
@@ -62,11 +63,17 @@ IsSound places top (segment ∷ segments) =
 abbrev pub AreKept : FinMap nat_cmp Places → FinMap nat_cmp Places → Type 0
 AreKept old new = (number : ℕ) (cell : Cell) → IsTrue (has_place old number cell) → IsTrue (has_place new number cell)
 
--- an object has a place for a cell, and no place was lost for it
+-- each place has the stamp that it had, and a new one has stamp 0
+abbrev pub KeepStamps : FinMap nat_cmp Places → FinMap nat_cmp Places → Type 0
+KeepStamps old new = (number : ℕ) (cell : Cell) (stamp : ℕ) → stamp_at new number cell ≡ Some stamp
+    → (stamp_at old number cell ≡ Some stamp) ⊎ ((stamp_at old number cell ≡ None) × (stamp ≡ 0))
+
+-- an object has a place for a cell, no place was lost for it, and each has its stamp
 pub record IsReady (old new : Stored) (number : ℕ) (cell : Cell) : Type 0 where
   pub same : new.objects ≡ old.objects
   pub ticks : new.ticks ≡ old.ticks
   pub kept : AreKept old.places new.places
+  pub stamps : KeepStamps old.places new.places
   pub placed : IsTrue (has_place new.places number cell)
 
 -- where no tick was above the bound, this content's isn't, and none is above the bound that it gives now
@@ -83,6 +90,25 @@ pub record IsWritten (old new : Stored) (number : ℕ) (cell : Cell) (change : V
   pub stood : was ≡ part_at old.objects number cell
   pub formed : IsTrue (is_form cell was)
   pub ticks : HaveRisen old.ticks new.ticks was
+
+-- the record of what stood in a cell, and of the stamp that its place had
+abbrev pub record_of : ℕ → Cell → Option Present → ℕ → OldPart
+record_of number cell was stamp = record { number = number; cell = cell; old = was; stamp = stamp }
+
+-- the same cells have a place
+abbrev pub HaveSamePlaces : FinMap nat_cmp Places → FinMap nat_cmp Places → Type 0
+HaveSamePlaces old new = (number : ℕ) (cell : Cell) → has_place new number cell ≡ has_place old number cell
+
+-- what stood in a cell before it was changed is recorded where that is due, with the stamp that the cell's place had; the place
+-- has the stamp that says so, and the stamps of all places are right
+pub record NotesChange (old new : Stored) (journal after : Held) (number : ℕ) (cell : Cell) (was : Option Present) : Type 0 where
+  pub stamp : ℕ
+  pub had : stamp_at old.places number cell ≡ Some stamp
+  pub objects : new.objects ≡ old.objects
+  pub ticks : new.ticks ≡ old.ticks
+  pub places : new.places ≡ with_place_stamp number cell (stamp_after number stamp journal.segments) old.places
+  pub recorded : after ≡ record journal { segments = note_in journal.record_limit (record_of number cell was stamp) journal.segments }
+  pub stamped : AreStamped after.marks (stamp_at new.places) after.segments
 
 -- objects have numbers from 1 on that were given: persistent ones below the next number, transient ones below it too, or from
 -- 2^31 on and below the next transient number; and none is given twice
@@ -138,17 +164,20 @@ pub record IsStore (persistent transient : Stored) (next next_transient : ℕ) (
   pub savepoints : journal.mark_limit ≡ limits.savepoints
   pub numbered : AreNumbered persistent.objects transient.objects next next_transient
   pub sound : IsSound persistent.places next journal.segments
+  pub stamped : AreStamped journal.marks (stamp_at persistent.places) journal.segments
+  pub transient_stamps : HaveZeroStamps transient.places
   pub counted : AreCounted persistent.objects transient.objects limits (marks_of persistent.objects journal.segments) units room
   pub few_writes : writes ≤ 2 ^ 63
   pub whole : AreWhole (supers_from persistent.objects) (supers_of_both persistent.objects transient.objects) next next_transient
       journal.segments
   pub kinds : AreKindsKept persistent transient journal.segments writes
 
--- numbers are from 1 on and below 2^31, the sums are no greater than they may be, and no tick is above that of a table that
--- was given one for each unit
+-- numbers are from 1 on and below 2^31, the sums are no greater than they may be, no tick is above that of a table that was
+-- given one for each unit, and each place has stamp 0
 pub record IsPersistent (stored : Stored) : Type 0 where
   pub from_one : get (values stored.objects) 0 ≡ None
   pub numbered : (q : ℕ) → 2 ^ 31 ≤ q → get (values stored.objects) q ≡ None
   pub few : len (values stored.objects) ≤ 1048576
   pub few_units : units_in (values stored.objects) ≤ 4194304
   pub ticks : AreWithin (units_in (values stored.objects) + 1) stored.ticks
+  pub zero_stamps : HaveZeroStamps stored.places

@@ -3,11 +3,12 @@ ghost use Rattle.std.specs.Prelude.{◌≡◌, ◌+◌, ◌<◌, ◌≤◌, ◌^
 ghost use Rattle.t3_store.specs.Value.{holder_at, can_have_at, can_lose_at, can_be_written, new_value, HasFittingLength, units_of};
 ghost use Rattle.t3_store.specs.Store.{value_at, is_full_with, no_number, with_object, created_in, after_write, written, taken, set_cell, saved, undone, is_held};
 ghost use Rattle.t3_store.specs.Whole.{HasSupersIn, supers_in, supers_of_live, supers_for};
-ghost use Rattle.t3_store.specs.Inner.Shapes.{thing_of, tick_of, value_of};
+ghost use Rattle.t3_store.specs.Inner.Shapes.{thing_of, places_of, tick_of, value_of, HasZeroStamps};
 ghost use Rattle.t3_store.specs.Inner.Valid.{IsValid};
 
 use crate::limits::StoreRefusal;
 use crate::new_object::NewObject;
+use crate::noting::note;
 use crate::object::Object;
 use crate::store::Store;
 use crate::table_cells::cell_units;
@@ -85,7 +86,7 @@ impl Store {
         let full = self.is_full(0, cell_units(&cell));
         if self.persistent.has(number) {
             let old = writing::set(&mut self.persistent, self.alloc, number, &cell, value, full)?;
-            self.journal.note(number, cell, old);
+            note(&mut self.persistent, &mut self.journal, number, cell, old);
             self.writes += 1;
             return Ok(());
         }
@@ -109,7 +110,7 @@ impl Store {
         }
         if self.persistent.has(number) {
             let old = writing::take(&mut self.persistent, number, &cell);
-            self.journal.note(number, cell, old);
+            note(&mut self.persistent, &mut self.journal, number, cell, old);
             self.writes += 1;
             return;
         }
@@ -146,6 +147,7 @@ impl Store {
         requires supers { HasSupersIn (supers_in self.old.store.persistent) (value_of (thing_of object)) }
         requires valid { IsValid (thing_of object) }
         requires tick { tick_of object ≤ 1 }
+        requires zero_stamps { HasZeroStamps (places_of object) }
         ensures number { IfOk result (λ number. number ≡ self.old.store.next) }
         ensures fresh { IfOk result (λ number. value_at self.old.store number ≡ None) }
         ensures ok { OnOk result (self.new ≡ record self.old {
@@ -167,6 +169,7 @@ impl Store {
         requires supers { HasSupersIn (supers_of_live self.old.store) (value_of (thing_of object)) }
         requires valid { IsValid (thing_of object) }
         requires tick { tick_of object ≤ 1 }
+        requires zero_stamps { HasZeroStamps (places_of object) }
         ensures number { IfOk result (λ number. number ≡ self.old.store.next_transient) }
         ensures fresh { IfOk result (λ number. value_at self.old.store number ≡ None) }
         ensures ok { OnOk result (self.new ≡ record self.old {
@@ -213,7 +216,8 @@ impl Store {
     }
 
     /// Sets a property that an object has to another value. `false` exactly where there is no such property,
-    /// and then nothing changes. The object is looked up once, and no memory is taken.
+    /// and then nothing changes. The object is looked up once, and again for the stamp of the property's place
+    /// where a savepoint is held that is newer than it. No memory is taken.
     #[inline(always)]
     pub fn replace_prop(&mut self, number: u32, property: u16, value: Holder) -> bool
         requires { self.old.writes < 2 ^ 63 }
@@ -227,7 +231,8 @@ impl Store {
     {
         let old = self.persistent.replace_prop(number, property, value);
         if old.is_present() {
-            self.journal.note(number, Cell::Prop(property), old);
+            let cell = Cell::Prop(property);
+            note(&mut self.persistent, &mut self.journal, number, cell, old);
             self.writes += 1;
             return true;
         }
@@ -250,7 +255,7 @@ impl Store {
     {
         if self.persistent.has(number) {
             let old = writing::overwrite(&mut self.persistent, number, &cell, value);
-            self.journal.note(number, cell, old);
+            note(&mut self.persistent, &mut self.journal, number, cell, old);
             self.writes += 1;
             return;
         }

@@ -1,11 +1,11 @@
 use Rattle.std.proofs.Common.{◌∙◌, ap, sym, refl}
 use Rattle.std.specs.Option.{option_map}
 use Rattle.t3_undo.specs.Journal.{old_of}
-use Rattle.t3_store.proofs.PuttingBack.{putting-next, fewer, can-first, put-things, put-journal}
+use Rattle.t3_store.proofs.PuttingBack.{putting-next, fewer, can-first, put-things, put-journal, put-stamped}
 use Rattle.t3_store.proofs.entries.put_back.Goals as goal
 
 pub loop-kept-init : goal.loop-kept-init
-loop-kept-init c = record { rising = c.requires.rising; things = refl; places = refl; len = refl; can = c.requires.can; journal = refl; ticks = λ bound all records. (all, records) }
+loop-kept-init c = record { rising = c.requires.rising; things = refl; places = λ q d. refl; stamped = c.requires.stamped; distinct = c.records-distinct.ensures.distinct; len = refl; can = c.requires.can; journal = refl; ticks = λ bound all records. (all, records) }
 
 pub loop-kept-preserved : goal.loop-kept-preserved
 loop-kept-preserved c =
@@ -28,6 +28,7 @@ returns c =
       rising = c.loop-kept.invariant.rising;
       things = put-things _ _ _ c.loop-kept.journal c.loop-kept.invariant none;
       places = c.loop-kept.invariant.places;
+      stamped = put-stamped _ _ _ c.loop-kept.journal _ c.loop-kept.invariant none c.take_kept.ensures.left;
       len = c.loop-kept.invariant.len;
       ticks = λ bound all records. (c.loop-kept.invariant.ticks bound all records).0;
       journal = put-journal _ _ _ c.loop-kept.journal _ c.loop-kept.invariant none c.take_kept.ensures.left;

@@ -17,8 +17,8 @@ pub put-absent-requires-clause-place : goal.put-absent-requires-clause-place
 put-absent-requires-clause-place c =
     placed-made _ _ (cells.Elem (c.args.count + 1)) (cells.Elem (c.args.count + 1)) c.in_ok-make_place.ensures.ok refl
 
-pub returns : goal.returns
-returns c items are count =
+pub returns-clause-parts : goal.returns-clause-parts
+returns-clause-parts c items are count =
     let number : c.args.count + 1 ≡ 1 + length items = omega (arith, count) in
     c.put-absent.ensures.parts
     ∙ (λ i. set_at ((c.make_place.ensures.parts ∙ are) i) (cells.Elem (number i)) (Some (record { tick = None; value = c.args.value })))

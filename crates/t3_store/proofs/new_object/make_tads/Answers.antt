@@ -18,6 +18,7 @@ with_prop old new number value is = record {
   props = ap (λ (o : Tads). props_of o.parts) is ∙ props_of-set old.parts number (record { tick = None; value = value });
   supers = ap (λ (o : Tads). o.supers) is;
   parts = ap (λ (o : Tads). o.parts) is;
+  places = ap (λ (o : Tads). o.places) is;
   class = ap (λ (o : Tads). o.class) is;
 }
 

@@ -4,14 +4,15 @@ use Rattle.t3_lists.proofs.Items.{items-filled}
 use Rattle.t3_tables.specs.Table as tables
 use Rattle.t3_tables.specs.Table.{TableValue}
 use Rattle.t3_store.specs.Value.{Vector, new_value}
-use Rattle.t3_store.specs.Inner.Shapes.{TableShape, value_of}
+use Rattle.t3_store.specs.Inner.Shapes.{TableShape, value_of, HasZeroStamps}
 use Rattle.t3_store.specs.Inner.Valid.{IsWholeTable}
 use Rattle.t3_store.proofs.TableUnits.{value-new, whole-new}
+use Rattle.t3_store.proofs.ZeroStamps.{zero-none, zero-table}
 use Rattle.t3_store.proofs.new_object.NewObject.make.Goals as goal
 
 pub returns-in_ok-make_vector-in-Vector-clause-value : goal.returns-in_ok-make_vector-in-Vector-clause-value
 returns-in_ok-make_vector-in-Vector-clause-value c =
-    ap Vector (ap items_of c.in_ok-make_vector-in-Vector.ensures ∙ items-filled _) ∙ ap new_value (sym c.in-Vector.is)
+    ap Vector (ap items_of c.in_ok-make_vector-in-Vector.ensures.parts ∙ items-filled _) ∙ ap new_value (sym c.in-Vector.is)
 
 pub returns-in-Table-clause-value : goal.returns-in-Table-clause-value
 returns-in-Table-clause-value c =
@@ -20,3 +21,13 @@ returns-in-Table-clause-value c =
 pub returns-in-Table-clause-valid : goal.returns-in-Table-clause-valid
 returns-in-Table-clause-valid c =
     subst (λ (t : TableValue). IsWholeTable (tables.parts_of t)) (sym c.new.ensures) whole-new
+
+pub returns-in-Text-clause-zero_stamps : goal.returns-in-Text-clause-zero_stamps
+returns-in-Text-clause-zero_stamps c = zero-none
+
+pub returns-in-List-clause-zero_stamps : goal.returns-in-List-clause-zero_stamps
+returns-in-List-clause-zero_stamps c = zero-none
+
+pub returns-in-Table-clause-zero_stamps : goal.returns-in-Table-clause-zero_stamps
+returns-in-Table-clause-zero_stamps c =
+    subst (λ (t : TableValue). HasZeroStamps (tables.places_of t)) (sym c.new.ensures) zero-table

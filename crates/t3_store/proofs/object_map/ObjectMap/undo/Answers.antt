@@ -1,11 +1,13 @@
 use Rattle.std.proofs.Common.{◌∙◌, ap, sym, subst, arith}
 use Rattle.std.specs.FinMap.{len}
-use Rattle.t3_store.specs.Inner.Shapes.{Shape, Stored, values, AreWithin}
+use Rattle.t3_store.specs.Inner.Shapes.{Shape, Stored, values, has_place, stamp_at, places_below, AreWithin}
 use Rattle.t3_undo.specs.Objects.{Objects, below}
 use Rattle.t3_undo.specs.UndoLaw.{undone}
 use Rattle.t3_store.specs.Value.{units_in}
 use Rattle.t3_store.specs.Inner.Valid.{AreValid}
-use Rattle.t3_store.specs.Inner.Entries.{things_of}
+use Rattle.t3_store.specs.Inner.Entries.{things_of, places_in}
+use Rattle.t3_undo.specs.Stamps.{AreStamped}
+use Rattle.t3_store.proofs.Stamped.{places-below, stamped-back}
 use Rattle.t3_store.proofs.Ticks.{within-below}
 use Rattle.t3_store.proofs.Validity.{undone-is}
 use Rattle.t3_store.proofs.MapValues.{len-values}
@@ -34,3 +36,16 @@ returns-clause-ticks c bound all records =
     subst (AreWithin bound) (sym c.cut.ensures.ticks)
     (within-below bound c.args.next _
     (c.put_back.ensures.ticks bound (subst (λ (s : Stored). AreWithin bound s.ticks) (sym c.self.view_is) all) records))
+
+pub returns-clause-places : goal.returns-clause-places
+returns-clause-places c q d =
+    (λ i. has_place (c.cut.ensures.places i) q d)
+    ∙ places-below c.args.next (places_in c.self.inside.entries.items) _ c.put_back.ensures.places q d
+    ∙ λ i. has_place (places_below c.args.next (c.self.view_is i).places) q d
+
+pub returns-clause-stamped : goal.returns-clause-stamped
+returns-clause-stamped c =
+    subst (λ places. AreStamped c.take_mark-ended.new.self.marks (stamp_at places) c.take_mark-ended.new.self.segments)
+    (sym c.cut.ensures.places)
+    (stamped-back c.args.next _ c.args.journal.now c.put_back.new.journal _ c.put_back.ensures.stamped c.put_back.ensures.journal
+    c.take_mark-ended.ensures.left)

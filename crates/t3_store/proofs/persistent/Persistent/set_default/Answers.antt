@@ -15,6 +15,6 @@ invariant_of-self c =
     let P : Objects → Type 0 = λ m. IsSome (option_and_then entries_in (get m c.args.number)) in
     let there = table-default (get (values c.self.inside.objects.objects) c.args.number) (subst P (sym c.self.view_is) c.requires.table) in
     overwritten-kept c.self.inside.objects c.overwrite-old.new.objects c.args.number cells.Default (with_cell cells.Default c.args.value)
-    (shown c.overwrite-old.result) c.self.invariant c.overwrite-old.ensures
-    (units-overwritten _ _ c.args.number cells.Default c.args.value _ c.overwrite-old.ensures there)
-    (default-some _ c.overwrite-old.ensures.formed)
+    (shown c.overwrite-old.result) c.self.invariant c.overwrite-old.ensures.written
+    (units-overwritten _ _ c.args.number cells.Default c.args.value _ c.overwrite-old.ensures.written there)
+    (default-some _ c.overwrite-old.ensures.written.formed) c.overwrite-old.ensures.places

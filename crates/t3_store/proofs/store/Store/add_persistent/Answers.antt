@@ -25,7 +25,7 @@ invariant_of-self-2 c =
     (thing_of c.args.object) (places_of c.args.object) (tick_of c.args.object) c.self.invariant (omega arith) (omega arith) (omega arith)
     (has-supers (supers_in c.args.self.now.store.persistent) (supers_from c.self.inside.persistent.objects) (thing_of c.args.object)
     (λ q. (λ i. option_and_then supers_of (get (sym view i).persistent q)) ∙ supers-values c.self.inside.persistent.objects q)
-    c.requires.supers) c.requires.tick c.in_ok-add.ensures.ok
+    c.requires.supers) c.requires.tick c.requires.zero_stamps c.in_ok-add.ensures.ok
 
 pub returns-clause-fresh : goal.returns-clause-fresh
 returns-clause-fresh c =

@@ -25,7 +25,7 @@ invariant_of-self-2 c =
     (has-supers (supers_of_live c.args.self.now.store)
     (supers_of_both c.self.inside.persistent.objects c.self.inside.transient.objects) (thing_of c.args.object)
     (λ q. (λ i. option_and_then supers_of (value_at (sym view i) q))
-    ∙ supers-both c.self.inside.persistent.objects c.self.inside.transient.objects q) c.requires.supers) c.requires.tick c.in_ok-add.ensures.ok
+    ∙ supers-both c.self.inside.persistent.objects c.self.inside.transient.objects q) c.requires.supers) c.requires.tick c.requires.zero_stamps c.in_ok-add.ensures.ok
 
 pub returns-clause-fresh : goal.returns-clause-fresh
 returns-clause-fresh c =

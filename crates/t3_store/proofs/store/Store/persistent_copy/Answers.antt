@@ -22,6 +22,7 @@ of-requires c =
     c.self.invariant.numbered.persistent_from_one c.self.invariant.numbered.persistent_below c.self.invariant.numbered.next_fits
     (omega (arith, c.self.invariant.counted.objects, c.self.invariant.bounded.objects))
     (omega (arith, c.self.invariant.counted.persistent_units, c.self.invariant.bounded.units)) c.in_ok-objects.ensures.ticks
+    c.in_ok-objects.ensures.zero_stamps
 
 pub returns-clause-whole : goal.returns-clause-whole
 returns-clause-whole c =

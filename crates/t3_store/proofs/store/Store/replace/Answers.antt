@@ -30,7 +30,7 @@ invariant_of-self c =
     c.give_up.new.units.items _ _ c.self.inside.writes c.max-self-inside.result c.self.invariant c.into_map-persistent.ensures.objects
     (no-clash c.args.state (values c.self.inside.transient.objects) free.0) c.requires.whole (λ q h. c.requires.below q (omega (arith, more)))
     (omega (arith, more)) (omega (arith, more, c.requires.next, c.self.invariant.numbered.next_fits)) c.into_map-persistent.ensures.from_one
-    little.0 little.1 c.into_map-persistent.ensures.ticks (omega (arith, units)) (omega (arith, units))
+    little.0 little.1 c.into_map-persistent.ensures.ticks c.into_map-persistent.ensures.zero_stamps (omega (arith, units)) (omega (arith, units))
     (omega (arith, units, little.1, c.self.invariant.bounded.units, c.self.invariant.few_writes)) c.give_up.ensures.units c.give_up.ensures.room)
 
 pub returns-clause-store : goal.returns-clause-store

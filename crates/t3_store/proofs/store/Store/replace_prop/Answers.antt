@@ -1,15 +1,23 @@
 use Rattle.std.proofs.Common.{◌+◌, ◌∙◌, ap, sym, subst, is_some, vec_capacity, arith}
 use Rattle.t3_undo.specs.Content.{shown}
 use Rattle.t3_undo.specs.Journal.{Held}
+use Rattle.t3_undo.specs.Stamps.{AreStamped}
 use Rattle.t3_undo.specs.declared.cell.Cell.TheVariants as cells
 use Rattle.t3_store.specs.Value.{with_cell}
 use Rattle.t3_store.specs.Store.{set_cell}
-use Rattle.t3_store.specs.Inner.Shapes.{Stored, values}
+use Rattle.t3_store.specs.Inner.Shapes.{Stored, values, stamp_at, HaveZeroStamps}
 use Rattle.t3_store.specs.Inner.Store.{store_of, marks_of, IsStore}
-use Rattle.t3_store.proofs.Changes.{held-transient, persistent-changed, persistent-kept, transient-kept, units-overwritten}
+use Rattle.t3_store.proofs.Changes.{held-transient, noted-changed, noted-kept, transient-kept, units-overwritten}
 use Rattle.t3_store.proofs.MapValues.{none-of}
 use Rattle.t3_store.proofs.Replacing.{held-there, object-there, not-persistent, transient-set}
 use Rattle.t3_store.proofs.store.Store.replace_prop.Goals as goal
+
+pub note-requires : goal.note-requires
+note-requires c = record {
+  placed = (c.replace_prop-old.ensures.written (sym c.is_present.ensures ∙ c.if-is_present.true)).placed;
+  stamped = subst (λ places. AreStamped c.self.inside.journal.marks (stamp_at places) c.self.inside.journal.segments)
+      (sym c.replace_prop-old.ensures.places) c.self.invariant.stamped;
+}
 
 pub invariant_of-self : goal.invariant_of-self
 invariant_of-self c =
@@ -19,11 +27,9 @@ invariant_of-self c =
     let written = old.written some in
     let same = units-overwritten _ _ _ _ c.args.value _ written (held-there _ _ old.value some) in
     let counted = ap (λ s. s.writes) c.self.view_is in
-    subst (λ (j : Held). IsStore c.replace_prop-old.new.self c.self.inside.transient c.self.inside.next c.self.inside.next_transient
-    c.self.inside.limits j c.self.inside.units.items (vec_capacity c.self.inside.units) (c.self.inside.writes + 1)) (sym c.note.ensures)
-    (persistent-kept _ _ c.self.inside.transient c.self.inside.next c.self.inside.next_transient c.self.inside.limits c.self.inside.journal
-    c.self.inside.units.items (vec_capacity c.self.inside.units) c.self.inside.writes _ _ (with_cell (cells.Prop c.args.property) c.args.value) _ is
-    written (omega (arith, same, is.counted.persistent_units)) (omega (arith, counted, c.requires)))
+    noted-kept _ _ _ c.self.inside.transient c.self.inside.next c.self.inside.next_transient c.self.inside.limits c.self.inside.journal
+    _ c.self.inside.units.items (vec_capacity c.self.inside.units) c.self.inside.writes _ _
+    (with_cell (cells.Prop c.args.property) c.args.value) _ is written c.note.ensures (omega (arith, same, is.counted.persistent_units)) (omega (arith, counted, c.requires))
 
 pub returns-then-is_present-clause-replaced : goal.returns-then-is_present-clause-replaced
 returns-then-is_present-clause-replaced c _ =
@@ -32,13 +38,11 @@ returns-then-is_present-clause-replaced c _ =
     let old = c.replace_prop-old.ensures in
     let there = object-there c.self.inside.persistent.objects c.args.number cell (held-there _ _ old.value some) in
     λ i. record {
-      store = (ap (λ (j : Held). store_of c.replace_prop-old.new.self.objects c.self.inside.transient.objects c.self.inside.next
-          c.self.inside.next_transient c.self.inside.limits j.segments) c.note.ensures
-          ∙ persistent-changed c.self.inside.persistent c.replace_prop-old.new.self c.self.inside.transient.objects c.self.inside.next
-          c.self.inside.next_transient c.self.inside.limits c.self.inside.journal.segments c.self.inside.journal.record_limit c.args.number
-          cell (with_cell cell c.args.value) (shown c.replace_prop-old.result) (old.written some) c.self.invariant.records there
+      store = (noted-changed c.self.inside.persistent _ _ c.self.inside.transient.objects c.self.inside.next
+          c.self.inside.next_transient c.self.inside.limits c.self.inside.journal _ c.args.number cell (with_cell cell c.args.value)
+          (shown c.replace_prop-old.result) (old.written some) c.note.ensures c.self.invariant.records there
           ∙ λ k. set_cell c.args.number cell c.args.value (c.self.view_is k).store) i;
-      savepoints = (ap (λ (j : Held). j.marks) c.note.ensures ∙ λ k. (c.self.view_is k).savepoints) i;
+      savepoints = (ap (λ (j : Held). j.marks) c.note.ensures.recorded ∙ λ k. (c.self.view_is k).savepoints) i;
       writes = (c.self.view_is i).writes + 1;
     }
 
@@ -55,7 +59,8 @@ invariant_of-self-then-is_present-2 c =
     c.self.inside.limits c.self.inside.journal c.self.inside.units.items (vec_capacity c.self.inside.units) (c.self.inside.writes + 1)) (sym left)
     (transient-kept c.self.inside.persistent _ _ c.self.inside.next c.self.inside.next_transient c.self.inside.limits c.self.inside.journal
     c.self.inside.units.items (vec_capacity c.self.inside.units) c.self.inside.writes _ _ (with_cell (cells.Prop c.args.property) c.args.value) _ is
-    written (omega (arith, same, is.counted.transient_units)) (omega (arith, counted, c.requires)))
+    written (omega (arith, same, is.counted.transient_units)) (omega (arith, counted, c.requires))
+    (subst HaveZeroStamps (sym c.replace_prop-old-2.ensures.places) is.transient_stamps))
 
 pub returns-then-is_present-2-clause-answer : goal.returns-then-is_present-2-clause-answer
 returns-then-is_present-2-clause-answer c =

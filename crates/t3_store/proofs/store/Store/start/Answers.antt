@@ -12,7 +12,8 @@ invariant_of-result c =
     c.into_map-transient.ensures.objects c.requires.limits c.requires.next.0 c.requires.next.1 c.requires.first c.requires.passing
     c.requires.objects c.requires.units c.in_ok-journal.ensures c.in_ok-units.ensures.items c.in_ok-units.ensures.capacity
     c.into_map-persistent.ensures.from_one c.into_map-transient.ensures.from_one c.into_map-persistent.ensures.ticks
-    c.into_map-transient.ensures.ticks (omega (arith, c.from.ensures, c.from-2.ensures))
+    c.into_map-transient.ensures.ticks c.into_map-persistent.ensures.zero_stamps
+    c.into_map-transient.ensures.zero_stamps (omega (arith, c.from.ensures, c.from-2.ensures))
     c.requires.apart c.requires.whole c.requires.both
 
 pub returns-clause-store : goal.returns-clause-store

@@ -1,7 +1,8 @@
 use Rattle.std.proofs.Common.{◌∙◌, ap, sym, subst, vec_capacity}
 use Rattle.t3_undo.specs.Journal.{Held}
+use Rattle.t3_undo.specs.Stamps.{AreStamped}
 use Rattle.t3_store.specs.Store.{undone, is_held}
-use Rattle.t3_store.specs.Inner.Shapes.{values}
+use Rattle.t3_store.specs.Inner.Shapes.{values, stamp_at}
 use Rattle.t3_store.specs.Inner.Store.{store_of, IsStore}
 use Rattle.t3_store.proofs.Marks.{values-undone, marks-undone, held-marks, marks-unheld, unheld}
 use Rattle.t3_store.proofs.Validity.{valid-undone}
@@ -32,7 +33,9 @@ invariant_of-self c =
     (undone-kept c.self.inside.persistent c.self.inside.transient c.undo.new.self c.self.inside.next c.self.inside.next_transient
     c.self.inside.limits c.self.inside.journal c.self.inside.units.items c.pop_units-units.new.units.items _ _ c.self.inside.writes
     c.pop_units-units.result c.in-Some.next c.self.invariant (sym c.newest_next.ensures ∙ c.in-Some.is) c.pop_units-units.ensures.units
-    c.pop_units-units.ensures.few c.pop_units-units.ensures.room c.undo.ensures.objects c.undo.ensures.places c.undo.ensures.ticks c.undo.ensures.fewer)
+    c.pop_units-units.ensures.few c.pop_units-units.ensures.room c.undo.ensures.objects c.undo.ensures.places
+    (subst (λ (j : Held). AreStamped j.marks (stamp_at c.undo.new.self.places) j.segments) c.undo.ensures.journal c.undo.ensures.stamped)
+    c.undo.ensures.ticks c.undo.ensures.fewer)
 
 pub returns-in-Some-clause-store : goal.returns-in-Some-clause-store
 returns-in-Some-clause-store c = λ i. record {
