@@ -15,6 +15,8 @@ mod replacing;
 #[cfg(test)]
 mod restoring;
 #[cfg(test)]
+mod rooms;
+#[cfg(test)]
 mod saved_states;
 #[cfg(test)]
 mod stores;

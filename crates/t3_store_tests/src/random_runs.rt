@@ -4,16 +4,18 @@ ghost use Rattle.std.specs.Prelude.{◌≡◌, Some, IsTrue, IfOk, IsSome, lengt
 ghost use Rattle.t3_store.specs.Value.{new_value, supers_of};
 ghost use Rattle.t3_store.specs.Whole.{supers_for};
 
-use crate::fixture::{answer, empty_store, savepoint, set, set_element, set_key, take_last};
-use crate::saved_states::{Saved, save, step_or_state};
+use crate::fixture::{answer, savepoint, set, set_element, set_key, take_last};
 use crate::whole_copies::{DEFAULT, NIL, Row, TEXTS, Whole, has_row};
 use std::alloc::Global;
 use std::test::Fail;
 use t3_holder::{Bytes, Holder, NoMemory};
 use t3_lists::Holders;
-use t3_store::{Kind, NewObject, Store, StoreLimits, StoreRefusal};
+use t3_store::{Kind, NewObject, Store, StoreRefusal};
 use t3_tadsobj::{Props, Supers};
 use t3_undo::{Cell, Key, Numbers};
+
+/// How many objects there may be in the runs.
+pub(crate) const OBJECTS: u32 = 8;
 
 /// One cell of one object set to a number or, without one, taken away. One that is there is
 /// overwritten where `anew` says so.
@@ -332,7 +334,7 @@ fn key_of(alloc: Global, cell: u32) -> Result<Key, NoMemory> {
 }
 
 /// Whether both say the same.
-fn agree(store: &Store, whole: &Whole, alloc: Global) -> Result<bool, Fail> {
+pub(crate) fn agree(store: &Store, whole: &Whole, alloc: Global) -> Result<bool, Fail> {
     for row in &whole.persistent {
         if store.is_transient(row.number) || !has_row(store, row, alloc)? {
             return Ok(false);
@@ -350,137 +352,4 @@ fn agree(store: &Store, whole: &Whole, alloc: Global) -> Result<bool, Fail> {
             && store.records() as usize == whole.records()
             && store.next() == whole.next,
     )
-}
-
-/// How many objects there may be in the runs.
-const OBJECTS: u32 = 8;
-
-/// And how many units.
-const UNITS: u32 = 10;
-
-/// What room a store's journal has, and how many runs of how many steps are made with it.
-#[derive(Clone, Copy)]
-struct Room {
-    records: u32,
-    savepoints: u32,
-    runs: u32,
-    steps: u32,
-    /// Whether most undos and states that would be put back are savepoints instead, so that many are held.
-    keeps: bool,
-}
-
-impl Room {
-    /// A store without objects that has the room.
-    fn store(self, alloc: Global) -> Result<Store, Fail> {
-        if self.records == 0 || self.records > 1_048_576 {
-            return Err(Fail::from("a limit of records"));
-        }
-        if self.savepoints == 0 || self.savepoints > 1_024 {
-            return Err(Fail::from("a limit of savepoints"));
-        }
-        let store = empty_store(alloc, OBJECTS, UNITS, self.records, self.savepoints)?;
-        Ok(store)
-    }
-
-    fn limits(self) -> StoreLimits {
-        StoreLimits {
-            objects: OBJECTS,
-            units: UNITS,
-            records: self.records,
-            savepoints: self.savepoints,
-        }
-    }
-
-    /// What a roll says with this room.
-    fn roll(self, roll: u32) -> u32 {
-        let ends = matches!(roll % 12, 1 | 11);
-        if self.keeps && ends && roll / 12 % 8 > 0 {
-            return roll - roll % 12;
-        }
-        roll
-    }
-}
-
-/// Few records and savepoints, a record alone, more savepoints than records, and many savepoints.
-const ROOMS: [Room; 4] = [
-    Room {
-        records: 4,
-        savepoints: 3,
-        runs: 500,
-        steps: 60,
-        keeps: false,
-    },
-    Room {
-        records: 1,
-        savepoints: 2,
-        runs: 300,
-        steps: 60,
-        keeps: false,
-    },
-    Room {
-        records: 2,
-        savepoints: 9,
-        runs: 30,
-        steps: 200,
-        keeps: true,
-    },
-    Room {
-        records: 40,
-        savepoints: 20,
-        runs: 30,
-        steps: 200,
-        keeps: true,
-    },
-];
-
-/// One run of random steps, after each of which both say the same.
-fn agrees_all_along(alloc: Global, seed: u32, room: Room) -> Result<bool, Fail> {
-    let mut store = room.store(alloc)?;
-    let mut whole = Whole::start(alloc, room.limits());
-    let mut saved = save(&store, &whole, alloc)?;
-    let mut state = seed;
-    for _ in 0..room.steps {
-        state = state.wrapping_mul(1_664_525).wrapping_add(1_013_904_223);
-        let roll = room.roll(state >> 8);
-        if !agrees_after(&mut store, &mut whole, &mut saved, alloc, roll)? {
-            return Ok(false);
-        }
-    }
-    Ok(true)
-}
-
-/// Whether both say the same after a step.
-fn agrees_after(
-    store: &mut Store,
-    whole: &mut Whole,
-    saved: &mut Saved,
-    alloc: Global,
-    roll: u32,
-) -> Result<bool, Fail> {
-    if !step_or_state(store, whole, saved, alloc, roll)? {
-        return Ok(false);
-    }
-    agree(store, whole, alloc)
-}
-
-/// Whether both say the same all along in each run with this room.
-fn agrees_with(alloc: Global, room: Room) -> Result<bool, Fail> {
-    for seed in 0..room.runs {
-        if !agrees_all_along(alloc, seed, room)? {
-            return Ok(false);
-        }
-    }
-    Ok(true)
-}
-
-#[test]
-fn random_runs_are_those_of_whole_copies(rt: HostRuntime) -> Result<(), Fail> {
-    for room in ROOMS {
-        assert!(rt;
-            agrees_with(rt.alloc(), room)?,
-            "with {} records",
-            room.records
-        );
-    }
-    Ok(())
 }
