@@ -5,12 +5,13 @@ use Rattle.std.specs.Option.{option_map}
 use Rattle.std.specs.Ordering.{nat_cmp}
 use Rattle.std.specs.FinMap.{FinMap, get}
 use Rattle.std.proofs.lemmas.List.{map-append, take_more}
-use Rattle.t3_undo.specs.Content.{Parts}
+use Rattle.t3_undo.specs.Content.{Parts, places_for}
 use Rattle.t3_undo.specs.Objects.{set_at}
 use Rattle.t3_store.specs.Value.{Value, Text, units_of, units_in}
-use Rattle.t3_store.specs.Inner.Shapes.{Shape, thing_of, places_of, tick_of, value_of, values, AreWithin, HasZeroStamps, HaveZeroStamps}
+use Rattle.t3_store.specs.Inner.Shapes.{Shape, thing_of, places_of, tick_of, value_of, values, AreWithin, HasNoEmptyPlace}
+use Rattle.t3_store.specs.Inner.Bounded.{parts_of, HaveNoEmptyPlaces}
 use Rattle.t3_store.specs.Inner.Valid.{IsValid, AreValid}
-use Rattle.t3_store.specs.Inner.Entries.{IsRising, by_number, object_at, things_of, places_in, ticks_in, keyed, AreAllValid, HaveTicksForUnits, HaveAllZeroStamps}
+use Rattle.t3_store.specs.Inner.Entries.{IsRising, by_number, object_at, things_of, ticks_in, keyed, AreAllValid, stored_of, HaveTicksForUnits, HaveAllNoEmptyPlace}
 use Rattle.t3_store.specs.declared.object.Object.{Object}
 use Rattle.t3_store.specs.declared.entries.Entry.{Entry}
 use Rattle.t3_store.proofs.Rows.{same, same-is, same-itself, get-by_number, missed-object}
@@ -112,11 +113,12 @@ each-valid es all q thing e =
     let found = read-each thing_of (λ o. IsValid (thing_of o)) es q thing all e in
     subst IsValid found.1.1.0 found.1.1.1
 
--- where the places of each object of a row have stamp 0, so have those under its number
-pub zero-each : (es : List Entry) → HaveAllZeroStamps es → HaveZeroStamps (places_in es)
-zero-each es all q own e =
-    let found = read-each places_of (λ o. HasZeroStamps (places_of o)) es q own all e in
-    subst HasZeroStamps found.1.1.0 found.1.1.1
+-- where no object of a row has an empty place, none has under its number
+pub no-empty-each : (es : List Entry) → HaveAllNoEmptyPlace es → HaveNoEmptyPlaces (stored_of es)
+no-empty-each es all q own e =
+    let found = read-each places_of HasNoEmptyPlace es q own all e in
+    sym found.1.1.0 ∙ found.1.1.1
+    ∙ ap (λ o. places_for (parts_of o)) (sym (get-by_number thing_of es q ∙ ap (option_map thing_of) found.1.0))
 
 -- one object's units are among all
 units-among : (m : FinMap nat_cmp Value) (q : ℕ) (v : Value) → get m q ≡ Some v → units_of v ≤ units_in m

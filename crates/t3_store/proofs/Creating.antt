@@ -4,14 +4,14 @@ use Rattle.std.specs.Option.{option_map}
 use Rattle.std.specs.Ordering.{nat_cmp}
 use Rattle.std.specs.Cmp.{nat_cmp_total}
 use Rattle.std.specs.FinMap.{FinMap, get, insert, len, len-insert, get-insert}
-use Rattle.t3_undo.specs.Content.{Parts, Places}
+use Rattle.t3_undo.specs.Content.{Parts, Places, places_for}
 use Rattle.t3_undo.specs.Objects.{Objects, Segment}
 use Rattle.t3_undo.specs.Journal.{Held}
 use Rattle.t3_undo.specs.declared.cell.Cell.{Cell}
 use Rattle.t3_store.specs.Value.{Value, units_in, units_of}
 use Rattle.t3_store.specs.Inner.Shapes.{Shape, Stored, values, value_of, has_place, has_place_in, HasZeroStamps}
 use Rattle.t3_store.proofs.Stamped.{stamped-created}
-use Rattle.t3_store.proofs.ZeroStamps.{all-zero-insert}
+use Rattle.t3_store.proofs.ZeroStamps.{zero-copy, all-zero-insert}
 use Rattle.t3_store.specs.Inner.Store.{marks_of, IsSound, IsFront, saved_units, IsStore}
 use Rattle.t3_store.specs.Inner.Whole.{supers_from, supers_of_both}
 use Rattle.t3_store.specs.declared.limits.StoreLimits.{StoreLimits}
@@ -33,7 +33,7 @@ not-full a b c d e = by (nat_lt a b) refl e
 pub len-new : (m : FinMap nat_cmp Value) (n : ℕ) (v : Value) → get m n ≡ None → len (insert m n v) ≡ len m + 1
 len-new m n v none = len-insert nat_cmp_total m n v ∙ ap (λ o. cond (is_some o) (len m) (len m + 1)) none
 
-older-newest : (places : FinMap nat_cmp Places) (next : ℕ) (ss : List Segment) → IsSound places next ss → (q : Segment) (qs : List Segment) → ss ≡ q ∷ qs
+pub older-newest : (places : FinMap nat_cmp Places) (next : ℕ) (ss : List Segment) → IsSound places next ss → (q : Segment) (qs : List Segment) → ss ≡ q ∷ qs
     → q.next ≤ next
 older-newest places next [] sound q qs e = cc
 older-newest places next (s ∷ ss) sound q qs e = let same : s ≡ q = cc in subst (λ (x : Segment). x.next ≤ next) same sound.0
@@ -57,10 +57,10 @@ pub persistent-created : (p t new : Stored) (next next_transient : ℕ) (limits 
     → len (values p.objects) + len (values t.objects) + 1 ≤ limits.objects
     → units_in (values p.objects) + units_in (values t.objects) + units_of (value_of thing) ≤ limits.units
     → HasSupers (supers_from p.objects) thing
-    → tick ≤ 1 → HasZeroStamps own
+    → tick ≤ 1 → own ≡ places_for thing.1
     → new ≡ record { objects = insert p.objects next thing; places = insert p.places next own; ticks = insert p.ticks next tick }
     → IsStore new t (next + 1) next_transient limits j units room writes
-persistent-created p t new next next_transient limits j units room writes thing own tick is low few little has young zeros changed =
+persistent-created p t new next next_transient limits j units room writes thing own tick is low few little has young fresh changed =
     subst (λ (s : Stored). IsStore s t (next + 1) next_transient limits j units room writes) (sym changed) (record {
       bounded = is.bounded;
       records = is.records;
@@ -78,7 +78,7 @@ persistent-created p t new next next_transient limits j units room writes thing 
         distinct = λ q h. distinct q h (same q next) refl;
       };
       sound = sound-below p.places (insert p.places next own) next (next + 1) j.segments (kept-inserted p.places next own) (omega arith) is.sound;
-      stamped = stamped-created j.marks next p.places own j.segments is.sound zeros is.stamped;
+      stamped = stamped-created j.marks next p.places own j.segments is.sound (subst HasZeroStamps (sym fresh) (zero-copy thing.1)) is.stamped;
       transient_stamps = is.transient_stamps;
       counted = record {
         objects = omega (arith, objects);
@@ -114,14 +114,14 @@ pub transient-created : (p t new : Stored) (next next_transient : ℕ) (limits :
     → len (values p.objects) + len (values t.objects) + 1 ≤ limits.objects
     → units_in (values p.objects) + units_in (values t.objects) + units_of (value_of thing) ≤ limits.units
     → HasSupers (supers_of_both p.objects t.objects) thing
-    → tick ≤ 1 → HasZeroStamps own
+    → tick ≤ 1 → own ≡ places_for thing.1
     → new ≡ record {
       objects = insert t.objects next_transient thing;
       places = insert t.places next_transient own;
       ticks = insert t.ticks next_transient tick;
     }
     → IsStore p new next (next_transient + 1) limits j units room writes
-transient-created p t new next next_transient limits j units room writes thing own tick is low few little has young zeros changed =
+transient-created p t new next next_transient limits j units room writes thing own tick is low few little has young fresh changed =
     subst (λ (s : Stored). IsStore p s next (next_transient + 1) limits j units room writes) (sym changed) (record {
       bounded = is.bounded;
       records = is.records;
@@ -142,7 +142,7 @@ transient-created p t new next next_transient limits j units room writes thing o
       };
       sound = is.sound;
       stamped = is.stamped;
-      transient_stamps = all-zero-insert t.places next_transient own is.transient_stamps zeros;
+      transient_stamps = all-zero-insert t.places next_transient own is.transient_stamps (subst HasZeroStamps (sym fresh) (zero-copy thing.1));
       counted = record {
         objects = omega (arith, objects);
         persistent_units = is.counted.persistent_units;

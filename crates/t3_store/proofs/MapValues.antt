@@ -9,7 +9,7 @@ use Rattle.std.specs.List.{AllByRecursion, sum_by, IsDistinct, filter_map}
 use Rattle.std.proofs.lemmas.List.Sums.{sum_by-cons}
 use Rattle.std.specs.FinMap.{FinMap, get, get-empty, empty, len, len-insert, len-empty, len-entries, insert, entries, from_entries, entries_sorted, same_map, get-insert, get-from_entries, get-entries, entries-insert, nat_cmp-IsAntisymmetric}
 use Rattle.std.specs.FinMap.Entries.{find, put, by_order, below_all, is_sorted}
-use Rattle.t3_undo.specs.Content.{Present, Parts}
+use Rattle.t3_undo.specs.Content.{Present, Parts, places_for}
 use Rattle.t3_undo.specs.Objects.{Objects, adjust, adjusted, part_of, part_at, with_part, set_cell}
 use Rattle.t3_undo.specs.declared.cell.Cell.{Cell}
 use Rattle.t3_undo.specs.declared.cell.Cell.TheVariants as cells
@@ -20,13 +20,13 @@ use Rattle.t3_tadsobj.specs.Object as Tadsobject
 use Rattle.t3_tadsobj.specs.Object.{props_of, prop_in, bare}
 use Rattle.t3_undo.specs.Cell.{cell_cmp}
 use Rattle.t3_tadsobj.specs.declared.props.PropValue.{PropValue}
-use Rattle.t3_store.specs.Inner.Shapes.{Shape, thing_of, value_of, values, HasZeroStamps, IsWithProp}
+use Rattle.t3_store.specs.Inner.Shapes.{Shape, thing_of, value_of, values, IsWithProp}
 use Rattle.t3_store.specs.Inner.Valid.{AreProps, AreValid}
 use Rattle.t3_store.specs.Inner.Entries.{IsRising, by_number, object_at, things_of, IsFirstFrom}
 use Rattle.t3_store.specs.declared.entries.Entry.{Entry}
 use Rattle.t3_store.specs.Inner.Store.{IsPersistent}
 use Rattle.t3_store.proofs.TadsValues.{props-set}
-use Rattle.t3_store.proofs.ZeroStamps.{zero-none, zero-insert, all-zero-none}
+use Rattle.t3_store.proofs.EmptyPlaces.{places-none, places-set, no-empty-none}
 use Rattle.t3_store.proofs.KindValues.{HasApartKeys, apart-keys, held-value, value-without, present-can, units_of-with, units_of-without}
 use Rattle.t3_store.proofs.Rows.{same, same-is, differs, get-by_number, len-by_number}
 
@@ -305,14 +305,14 @@ next-above things n least (Some next) e first = (
   λ q h l. none-value things q (first.2 q (omega arith) l),
 )
 
--- a tads-object with the properties from an index on, each in a place with stamp 0
+-- a tads-object with the properties from an index on, each in a place with stamp 0, and no other place
 pub record IsMade (object : Tadsobject.Tads) (supers : List ℕ) (class : Bool) (items : List PropValue) (left : ℕ) : Type 0 where
   pub made : props_of object.parts ≡ from_entries (map pair_of (drop left items))
   pub above : object.supers ≡ supers
   pub kind : object.class ≡ class
   pub within : left ≤ length items
   pub props : AreProps object.parts
-  pub zero_stamps : HasZeroStamps object.places
+  pub no_empty : object.places ≡ places_for object.parts
 
 drop-at : (items : List PropValue) (n : ℕ) (d : PropValue) → n < length items → drop n items ≡ get_or items n d ∷ drop (suc n) items
 drop-at [] n d h = absurd (omega arith)
@@ -335,7 +335,8 @@ made-more old new supers class items left d is h w = record {
   kind = w.class ∙ is.kind;
   within = omega (arith, is.within);
   props = subst AreProps (sym w.parts) (props-set old.parts (cells.Prop (get_or items (left - 1) d).number) _ is.props refl);
-  zero_stamps = subst HasZeroStamps (sym w.places) (zero-insert old.places (cells.Prop (get_or items (left - 1) d).number) is.zero_stamps);
+  no_empty = w.places ∙ (λ i. insert (is.no_empty i) (cells.Prop (get_or items (left - 1) d).number) 0)
+      ∙ places-set old.parts (cells.Prop (get_or items (left - 1) d).number) _ ∙ ap places_for (sym w.parts);
 }
 
 -- distinct properties are as many as their numbers
@@ -367,7 +368,7 @@ none-persistent = record {
   few = let none = ap len values-empty ∙ len-empty nat_cmp Value in omega arith;
   few_units = let none = ap units_in values-empty ∙ units_in-empty in omega arith;
   ticks = λ q tick e. absurd (true≢false (ap is_some (sym e ∙ get-empty nat_cmp q)));
-  zero_stamps = all-zero-none;
+  no_empty = no-empty-none;
 }
 
 drop-all : (items : List PropValue) → drop (length items) items ≡ []
@@ -389,5 +390,5 @@ made-none object supers class items is = record {
   kind = ap (λ (o : Tadsobject.Tads). o.class) is;
   within = omega arith;
   props = λ cell some. absurd (true≢false (sym some ∙ ap is_some (ap (λ (o : Tadsobject.Tads). get o.parts cell) is ∙ get-empty cell_cmp cell)));
-  zero_stamps = subst HasZeroStamps (sym (ap (λ (o : Tadsobject.Tads). o.places) is)) zero-none;
+  no_empty = ap (λ (o : Tadsobject.Tads). o.places) is ∙ sym (ap (λ (o : Tadsobject.Tads). places_for o.parts) is ∙ places-none);
 }

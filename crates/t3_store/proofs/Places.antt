@@ -7,6 +7,7 @@ use Rattle.std.specs.FinMap.{FinMap, get, insert, get-insert, contains_key}
 use Rattle.t3_undo.specs.Cell.{cell_cmp, cell_cmp_total}
 use Rattle.t3_undo.specs.Content.{Present, Places}
 use Rattle.t3_undo.specs.Content as content
+use Rattle.t3_undo.specs.Objects.{part_at}
 use Rattle.t3_undo.specs.declared.cell.Cell.{Cell}
 use Rattle.t3_undo.specs.declared.cell.Cell.TheVariants as cells
 use Rattle.t3_undo.proofs.Maps.{get-adjust}
@@ -78,13 +79,14 @@ theirs-same places q d t there = inl there
 
 -- an object has a place more
 pub ready : (old new : Stored) (n : ℕ) (cell copy : Cell) → copy ≡ cell → new ≡ record old { places = with_place n copy old.places }
-    → IsTrue (has_place new.places n copy) → IsReady old new n cell
-ready old new n cell copy same is placed = record {
+    → IsTrue (has_place new.places n copy) → part_at old.objects n cell ≡ None → IsReady old new n cell
+ready old new n cell copy same is placed absent = record {
   same = ap (λ s. s.objects) is;
   ticks = ap (λ s. s.ticks) is;
   kept = λ q d h. (λ i. has_place (is i).places q d) ∙ kept-with_place old.places n copy q d h;
   stamps = λ q d t there. theirs-with_place old.places n copy q d t ((λ i. stamp_at (sym is i).places q d) ∙ there);
   placed = (λ i. has_place new.places n (sym same i)) ∙ placed;
+  made = inr (absent, ap (λ s. s.places) is ∙ λ i. with_place n (same i) old.places);
 }
 
 -- a property replaced under the stamp that its place has

@@ -7,6 +7,7 @@ use Rattle.t3_store.specs.Value.{Objects as Values, units_in}
 use Rattle.t3_store.specs.Store.{AreBelow}
 use Rattle.t3_store.specs.Whole.{AreApart, IsWhole, supers_in}
 use Rattle.t3_store.specs.Inner.Shapes.{Stored, values, AreWithin, HaveZeroStamps}
+use Rattle.t3_store.specs.Inner.Bounded.{HaveNoEmptyPlaces}
 use Rattle.t3_store.proofs.Stamped.{stamped-afresh}
 use Rattle.t3_store.specs.Inner.Store.{AreNumbered, IsFront, saved_units, IsStore, IsPersistent}
 use Rattle.t3_store.specs.Inner.Whole.{supers_from}
@@ -80,12 +81,12 @@ replaced-kept p t new state next next_transient more limits j units none room wi
 -- a copy of the persistent objects
 pub persistent-copied : (p copy : Stored) (next : ℕ) → values copy.objects ≡ values p.objects → get p.objects 0 ≡ None
     → ((q : ℕ) → next ≤ q → get p.objects q ≡ None) → next ≤ 2 ^ 31 → len (values p.objects) ≤ 1048576 → units_in (values p.objects) ≤ 4194304
-    → AreWithin (units_in (values p.objects) + 1) copy.ticks → HaveZeroStamps copy.places → IsPersistent copy
-persistent-copied p copy next same from below low few little ticks zeros = record {
+    → AreWithin (units_in (values p.objects) + 1) copy.ticks → HaveNoEmptyPlaces copy → IsPersistent copy
+persistent-copied p copy next same from below low few little ticks needed = record {
   from_one = (λ i. get (same i) 0) ∙ value-none p.objects 0 from;
   numbered = λ q h. (λ i. get (same i) q) ∙ value-none p.objects q (below q (omega arith));
   few = (let size = ap len same in omega arith);
   few_units = (let sum = ap units_in same in omega arith);
   ticks = subst (λ (n : ℕ). AreWithin (n + 1) copy.ticks) (sym (ap units_in same)) ticks;
-  zero_stamps = zeros;
+  no_empty = needed;
 }

@@ -314,3 +314,13 @@ get-changed read n es i old object a =
     get-by_number read (set es i (record { number = old.number; object = object })) n
     ∙ ap (option_map read) (object_at-set n es i (record { number = old.number; object = object }) n a.at (number-at n es i old a)
     ∙ ap (λ b. cond b (Some object) (object_at n es)) (same-itself n))
+
+-- what is read of the others
+pub get-beside : {X : Type 0} (read : Object → X) (n : ℕ) (es : List Entry) (i : ℕ) (old : Entry) (object : Object) → IsAt n es i old
+    → (q : ℕ) → (q ≡ n → ⊥)
+    → get (by_number read (set es i (record { number = old.number; object = object }))) q ≡ get (by_number read es) q
+get-beside read n es i old object a q apart =
+    get-by_number read (set es i (record { number = old.number; object = object })) q
+    ∙ ap (option_map read) (object_at-set n es i (record { number = old.number; object = object }) q a.at (number-at n es i old a)
+    ∙ ap (λ b. cond b (Some object) (object_at q es)) (differs q n apart))
+    ∙ sym (get-by_number read es q)

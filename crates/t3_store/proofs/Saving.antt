@@ -18,13 +18,13 @@ use Rattle.t3_store.specs.Value.{units_in}
 use Rattle.t3_store.specs.Store.{Mark}
 use Rattle.t3_store.specs.Inner.Shapes.{Shape, Stored, values, has_place, has_place_in, stamp_at, places_below, AreWithin}
 use Rattle.t3_store.specs.Inner.Valid.{AreValid}
-use Rattle.t3_store.specs.Inner.Store.{marks_of, HaveSamePlaces, CanAllBePut, IsSound, IsFront, saved_units, IsStore, AreRecordsWithin}
+use Rattle.t3_store.specs.Inner.Store.{marks_of, CanAllBePut, IsSound, IsFront, saved_units, IsStore, AreRecordsWithin}
 use Rattle.t3_store.specs.Inner.Whole.{supers_from, supers_of_both, AreWhole}
 use Rattle.t3_store.specs.declared.limits.StoreLimits.{StoreLimits}
 use Rattle.t3_store.proofs.Rows.{same}
 use Rattle.t3_store.proofs.Marks.{marks-saved, marks-take}
 use Rattle.t3_undo.proofs.Maps.{get-adjust}
-use Rattle.t3_store.proofs.Keeping.{some-set, front-take, front-cons, front-drop, sound-keep}
+use Rattle.t3_store.proofs.Keeping.{some-set, front-take, front-cons, front-drop}
 use Rattle.t3_store.proofs.WholeUndone.{whole-undone, whole-saved}
 use Rattle.t3_store.proofs.KindsKept.{kinds-saved, kinds-undone}
 
@@ -164,19 +164,12 @@ nothing-undone m ss q none = by (get (law.undone m ss) q) refl
     by None e = refl
     by (Some x) e = absurd (true≢false (sym (some-undone m ss q (ap is_some e)) ∙ ap is_some none))
 
-kept-below : (places : FinMap nat_cmp Places) (next q : ℕ) (c : Cell) → q < next → has_place places q c ≡ true
+pub kept-below : (places : FinMap nat_cmp Places) (next q : ℕ) (c : Cell) → q < next → has_place places q c ≡ true
     → has_place (places_below next places) q c ≡ true
 kept-below places next q c h placed =
     ap (λ o. has_place_in o c) (get-retain_keys places (λ number. nat_lt number next) q
     (λ x t. ap (λ n. nat_lt n next) (sym (nat_cmp-IsAntisymmetric q x t)))
     ∙ ap (λ b. cond b (get places q) None) (lt-ltb q next h)) ∙ placed
-
-sound-undone : (places : FinMap nat_cmp Places) (top next : ℕ) (ss : List Segment) → newest_next ss ≡ Some next → IsSound places top ss
-    → IsSound (places_below next places) top (drop 1 ss)
-sound-undone places top next [] e sound = cc
-sound-undone places top next (s ∷ ss) e sound =
-    let same : s.next ≡ next = cc in
-    sound-below places (places_below next places) s.next top ss (λ q c l. kept-below places next q c (omega arith)) sound.0 sound.3
 
 front-undone : (m : Objects Shape) (ss : List Segment) (units rest : List ℕ) (count next : ℕ) → newest_next ss ≡ Some next
     → reverse units ≡ count ∷ reverse rest
@@ -190,12 +183,12 @@ front-undone m (s ∷ ss) units rest count next e popped front =
 pub undone-kept : (p t new : Stored) (next next_transient : ℕ) (limits : StoreLimits) (j : Held) (units rest : List ℕ)
     (room wide writes count newest : ℕ) → IsStore p t next next_transient limits j units room writes → newest_next j.segments ≡ Some newest
     → reverse units ≡ count ∷ reverse rest → length rest ≤ length units → wide ≡ room
-    → new.objects ≡ law.undone p.objects j.segments → HaveSamePlaces (places_below newest p.places) new.places
+    → new.objects ≡ law.undone p.objects j.segments → IsSound new.places next (drop 1 j.segments)
     → AreStamped j.marks (stamp_at new.places) (drop 1 j.segments)
     → ((bound : ℕ) → AreWithin bound p.ticks → AreRecordsWithin bound j.segments → AreWithin bound new.ticks)
     → len (values new.objects) ≤ len (values p.objects)
     → IsStore new t next next_transient limits (record j { segments = drop 1 j.segments }) rest wide writes
-undone-kept p t new next next_transient limits j units rest room wide writes count newest is held popped fewer same objects places stamped ticks less = record {
+undone-kept p t new next next_transient limits j units rest room wide writes count newest is held popped fewer same objects sound stamped ticks less = record {
   bounded = is.bounded;
   records = is.records;
   savepoints = is.savepoints;
@@ -212,8 +205,7 @@ undone-kept p t new next next_transient limits j units rest room wide writes cou
     transient_fits = is.numbered.transient_fits;
     distinct = λ q h. is.numbered.distinct q (some-undone p.objects j.segments q (sym (ap (λ m. is_some (get m q)) objects) ∙ h));
   };
-  sound = sound-keep (places_below newest p.places) new.places next next (drop 1 j.segments) (λ q c there. places q c ∙ there) (omega arith)
-      (sound-undone p.places next newest j.segments held is.sound);
+  sound = sound;
   stamped = stamped;
   transient_stamps = is.transient_stamps;
   counted = record {

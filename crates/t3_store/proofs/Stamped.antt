@@ -163,16 +163,6 @@ stamped-below made next places ss is =
     by q d t true there = there
     by q d t false there = cc
 
--- of those that are left the same cells have a place
-pub places-below : (next : ℕ) (old new : FinMap nat_cmp Places) → HaveSamePlaces old new
-    → HaveSamePlaces (places_below next old) (places_below next new)
-places-below next old new same q d =
-    below-in (λ o. has_place_in o d) next new q ∙ by (nat_lt q next) ∙ sym (below-in (λ o. has_place_in o d) next old q)
-  where
-    by : (b : Bool) → has_place_in (cond b (get new q) None) d ≡ has_place_in (cond b (get old q) None) d
-    by true = same q d
-    by false = refl
-
 -- all objects are others, and no savepoint is held
 pub stamped-afresh : (made : ℕ) (places : FinMap nat_cmp Places) → HaveZeroStamps places → AreStamped made (stamp_at places) []
 stamped-afresh made places zeros = stamped-replaced made (stamp_at places) (λ q d t there. by q d t (get places q) refl there)
@@ -252,6 +242,7 @@ written-noted old mid new j after n c g was w noted = record {
   stood = w.stood;
   formed = w.formed;
   ticks = subst (λ ticks. HaveRisen old.ticks ticks was) (sym noted.ticks) w.ticks;
+  filled = w.filled;
 }
   where
     same : HaveSamePlaces mid.places new.places

@@ -2,6 +2,7 @@
 pub mod Shapes
 pub mod Entries
 pub mod Valid
+pub mod Bounded
 pub mod Store
 pub mod Whole
 pub mod Numbers

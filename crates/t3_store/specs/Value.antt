@@ -358,6 +358,18 @@ IsNextAbove objects number result =
     MatchOption result ((q : ℕ) → number < q → get objects q ≡ None)
     (λ next. (number < next) × IsSome (get objects next) × ((q : ℕ) → number < q → q < next → get objects q ≡ None))
 
+-- how many cells of a value are present: the default of a table is one
+abbrev pub cells_of : Value → ℕ
+cells_of (Tads supers class props) = len props
+cells_of (Text bytes) = 0
+cells_of (Items items) = 0
+cells_of (Vector items) = length items
+cells_of (Table pairs default) = length pairs + 1
+
+abbrev pub cells_at : Option Value → ℕ
+cells_at None = 0
+cells_at (Some value) = cells_of value
+
 -- whether there is an object, which can have something in the cell
 abbrev pub can_have_at : Option Value → Cell → Bool
 can_have_at None cell = false

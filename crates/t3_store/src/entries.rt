@@ -1,5 +1,5 @@
 //! Objects in a row, by rising number.
-ghost use Rattle.std.specs.Prelude.{◌≡◌, ◌+◌, ◌-◌, ◌^◌, ◌<◌, ◌≤◌, ◌↔◌, ◌++◌, [], ◌∷◌, ℕ, length, take, drop, slice_get, IsTrue, IsSome, IfSome, IfOk, None, Some, OnOk, OnErr, is_some, option_map, map};
+ghost use Rattle.std.specs.Prelude.{◌≡◌, ◌+◌, ◌-◌, ◌^◌, ◌<◌, ◌≤◌, ◌↔◌, ◌++◌, [], ◌∷◌, ℕ, length, take, drop, slice_get, true, IsTrue, IsSome, IfSome, IfOk, None, Some, OnOk, OnErr, is_some, option_map, map};
 ghost use Rattle.std.specs.FinMap.{get, insert};
 ghost use Rattle.std.specs.List.{AllWithin, list_any};
 ghost use Rattle.t3_undo.specs.Content.{shown, is_form};
@@ -7,13 +7,15 @@ ghost use Rattle.t3_undo.specs.declared.cell.Cell.TheVariants.{Prop};
 ghost use Rattle.t3_undo.specs.Objects.{part_at, set_cell, adjust, below, put_back};
 ghost use Rattle.t3_undo.specs.Journal.{old_of, newest_records};
 ghost use Rattle.t3_undo.specs.Stamps.{AreStamped};
-ghost use Rattle.t3_store.specs.Inner.Store.{CanBePut, CanAllBePut, HaveSamePlaces, AreRecordsWithin, emptied};
+ghost use Rattle.t3_store.specs.Inner.Store.{CanBePut, CanEachBePut, AreRecordsWithin, emptied};
 ghost use Rattle.t3_store.specs.Value.{holder_at, can_have_at, with_cell};
-ghost use Rattle.t3_store.specs.Inner.Shapes.{thing_of, places_of, tick_of, values, has_place, stamp_at, with_place_stamp, with_place, places_below, ticks_below, tick_behind, risen, AreWithin, HasZeroStamps};
+ghost use Rattle.t3_store.specs.Inner.Shapes.{thing_of, places_of, tick_of, values, has_place, stamp_at, with_place_stamp, with_place, places_below, ticks_below, tick_behind, risen, AreWithin, HasNoEmptyPlace};
+ghost use Rattle.t3_store.specs.Inner.Bounded.{AreBounded, IsTidiedAt, IsWithoutGaps, parts_under, is_recorded};
 ghost use Rattle.t3_store.specs.Inner.Valid.{IsValid, AreValid};
-ghost use Rattle.t3_store.specs.Inner.Entries.{IsRising, index_of, is_numbered, object_at, things_of, places_in, ticks_in, keyed, AreAllValid, HaveTicksForUnits, HasTickForUnits, HaveAllZeroStamps, IsFirstFrom};
+ghost use Rattle.t3_store.specs.Inner.Entries.{IsRising, index_of, is_numbered, object_at, things_of, places_in, ticks_in, stored_of, keyed, AreAllValid, HaveTicksForUnits, HasTickForUnits, HaveAllNoEmptyPlace, IsFirstFrom};
 
 use crate::object::Object;
+use crate::tidying::oldest_serial;
 use std::alloc::Global;
 use t3_holder::{Holder, NoMemory};
 use t3_undo::{Cell, Content, Journal, Kept};
@@ -109,6 +111,7 @@ pub(crate) fn content_with(entries: &[Entry], number: u32, cell: &Cell, value: H
     requires valid { AreValid (things_of entries.now) }
     requires room { AreWithin (2 ^ 64 - 2) (ticks_in entries.now) }
     ensures form { IsTrue (is_form cell.now (shown result)) }
+    ensures present { IsSome (shown result) }
     ensures set { values (set_cell (things_of entries.now) number cell.now (shown result))
         ≡ adjust (values (things_of entries.now)) number (with_cell cell.now value) }
     ensures valid { AreValid (set_cell (things_of entries.now) number cell.now (shown result)) }
@@ -220,6 +223,20 @@ pub(crate) fn set_stamp(entries: &mut Vec<Entry>, number: u32, cell: &Cell, stam
     }
 }
 
+/// Takes places of an object's absent cells away that no savepoint needs from this serial on, where there are too many.
+/// No memory is taken.
+pub(crate) fn tidy(entries: &mut Vec<Entry>, number: u32, records: u32, oldest: u64)
+    requires { IsRising entries.old.items }
+    ensures rising { IsRising entries.new.items }
+    ensures places { IsTidiedAt records oldest number (stored_of entries.old.items)
+        (stored_of entries.new.items) }
+    ensures len { length entries.new.items ≡ length entries.old.items }
+{
+    if let Some(index) = index_of(entries, number) {
+        entries[index].object.tidy(records, oldest);
+    }
+}
+
 /// Adds an object under a number that no other has.
 pub(crate) fn add(entries: &mut Vec<Entry>, number: u32, object: Object) -> Result<(), NoMemory>
     requires rising { IsRising entries.old.items }
@@ -251,16 +268,24 @@ pub(crate) fn cut(entries: &mut Vec<Entry>, next: u32)
     entries.truncate(bound);
 }
 
-/// Puts back what stood in the cells of the newest savepoint's records. No memory is taken.
-pub(crate) fn put_back(entries: &mut Vec<Entry>, journal: &mut Journal)
+/// Puts back what stood in the cells of the newest savepoint's records, and takes empty places away where an object
+/// has too many then. No memory is taken.
+pub(crate) fn put_back(entries: &mut Vec<Entry>, journal: &mut Journal, records: u32)
     requires rising { IsRising entries.old.items }
-    requires can { CanAllBePut (places_in entries.old.items) (newest_records journal.old.segments) }
+    requires limit { journal.old.record_limit ≡ records }
+    requires can { CanEachBePut (places_in entries.old.items) journal.old.segments }
     requires stamped { AreStamped journal.old.marks (stamp_at (places_in entries.old.items))
         journal.old.segments }
+    requires bounded { AreBounded records (stored_of entries.old.items) }
+    requires gaps { (number : ℕ) → is_recorded number (newest_records journal.old.segments) ≡ true
+        → IsWithoutGaps number
+        (parts_under (put_back (things_of entries.old.items) (newest_records journal.old.segments)) number)
+        (drop 1 journal.old.segments) }
     ensures rising { IsRising entries.new.items }
     ensures things { things_of entries.new.items
         ≡ put_back (things_of entries.old.items) (newest_records journal.old.segments) }
-    ensures places { HaveSamePlaces (places_in entries.old.items) (places_in entries.new.items) }
+    ensures can { CanEachBePut (places_in entries.new.items) (drop 1 journal.old.segments) }
+    ensures bounded { AreBounded records (stored_of entries.new.items) }
     ensures stamped { AreStamped journal.new.marks (stamp_at (places_in entries.new.items))
         journal.new.segments }
     ensures ticks { (bound : ℕ) → AreWithin bound (ticks_in entries.old.items)
@@ -268,10 +293,13 @@ pub(crate) fn put_back(entries: &mut Vec<Entry>, journal: &mut Journal)
     ensures len { length entries.new.items ≡ length entries.old.items }
     ensures journal { journal.new ≡ record journal.old { segments = emptied journal.old.segments } }
 {
-    // Since one savepoint no cell has two records.
+    // Since one savepoint no cell has two records, and there are no more than the limit says.
     let _distinct = journal.records();
+    let oldest = oldest_serial(journal);
     while let Some(kept) = journal.take_kept() {
+        let number = kept.number;
         put_kept(entries, kept);
+        tidy(entries, number, records, oldest);
     }
 }
 
@@ -332,7 +360,7 @@ pub(crate) fn copy_all(alloc: Global, entries: &[Entry]) -> Result<Vec<Entry>, N
     ensures values { IfOk result (λ copy. map keyed copy.items ≡ map keyed entries.now) }
     ensures valid { IfOk result (λ copy. AreAllValid copy.items) }
     ensures ticks { IfOk result (λ copy. HaveTicksForUnits copy.items) }
-    ensures zero_stamps { IfOk result (λ copy. HaveAllZeroStamps copy.items) }
+    ensures no_empty { IfOk result (λ copy. HaveAllNoEmptyPlace copy.items) }
 {
     let mut copy = Vec::with_capacity(alloc, entries.len())?;
     for entry in entries {
@@ -347,7 +375,7 @@ fn copy_one(alloc: Global, entry: &Entry) -> Result<Entry, NoMemory>
     ensures same { IfOk result (λ copy. keyed copy ≡ keyed entry.now) }
     ensures valid { IfOk result (λ copy. IsValid (thing_of copy.object)) }
     ensures tick { IfOk result (λ copy. HasTickForUnits copy) }
-    ensures zero_stamps { IfOk result (λ copy. HasZeroStamps (places_of copy.object)) }
+    ensures no_empty { IfOk result (λ copy. HasNoEmptyPlace copy.object) }
 {
     let number = entry.number;
     let object = entry.object.copy(alloc)?;

@@ -52,6 +52,7 @@ mod object_map;
 mod persistent;
 mod store;
 mod table_cells;
+mod tidying;
 mod unit_rows;
 mod writing;
 

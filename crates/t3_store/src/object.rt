@@ -1,11 +1,13 @@
-ghost use Rattle.std.specs.Prelude.{◌≡◌, ◌+◌, ◌<◌, ◌≤◌, ◌-◌, ◌^◌, ℕ, None, Some, IsTrue, IsSome, IfOk, OnOk, OnErr, option_map, map};
+ghost use Rattle.std.specs.Prelude.{◌≡◌, ◌+◌, ◌*◌, ◌<◌, ◌≤◌, ◌-◌, ◌^◌, ℕ, nat_lt, None, Some, IsTrue, IsSome, IfOk, OnOk, OnErr, option_map, map};
 ghost use Rattle.std.specs.List.Sorted.{IsStrictlyIncreasing};
-ghost use Rattle.std.specs.FinMap.{get, insert, contains_key, entries};
+ghost use Rattle.std.specs.FinMap.{get, insert, len, contains_key, entries};
 ghost use Rattle.t3_undo.specs.Content.{shown, is_form, with_place};
+ghost use Rattle.t3_undo.specs.Purging.{Stays};
 ghost use Rattle.t3_undo.specs.declared.cell.Cell.TheVariants.{Prop};
 ghost use Rattle.t3_undo.specs.Objects.{with_part};
 ghost use Rattle.t3_store.specs.Value.{holder_in, kind_of, supers_of, is_class_of, props_in, text_of, items_in, length_of, entries_in, with_cell, can_have, units_of};
-ghost use Rattle.t3_store.specs.Inner.Shapes.{thing_of, places_of, tick_of, value_of, tick_behind, risen, HasZeroStamps};
+ghost use Rattle.t3_store.specs.Inner.Shapes.{thing_of, places_of, tick_of, value_of, tick_behind, risen, HasNoEmptyPlace};
+ghost use Rattle.t3_store.specs.Inner.Bounded.{IsTidied};
 ghost use Rattle.t3_store.specs.Inner.Valid.{IsValid};
 
 use crate::kind::Kind;
@@ -149,6 +151,75 @@ impl Object {
         }
     }
 
+    /// How many cells have a place.
+    pub(crate) fn places(&self) -> u64
+        ensures { result ≡ len (places_of self.now) }
+    {
+        match self {
+            Object::Tads(object) => object.places(),
+            Object::Text(text) => text.places(),
+            Object::List(list) => list.places(),
+            Object::Vector(vector) => vector.places(),
+            Object::Table(table) => table.places(),
+        }
+    }
+
+    /// How many cells are present. No cell is looked at.
+    fn present(&self) -> u64
+        ensures { result ≡ len (thing_of self.now).1 }
+    {
+        match self {
+            Object::Tads(object) => object.present(),
+            Object::Text(text) => text.present(),
+            Object::List(list) => list.present(),
+            Object::Vector(vector) => vector.present(),
+            Object::Table(table) => table.present(),
+        }
+    }
+
+    /// Takes away each place whose cell is absent and whose stamp is below this one, but of the places of
+    /// elements only those above which none stays. No memory is taken.
+    fn purge(&mut self, oldest: u64)
+        ensures thing { thing_of self.new ≡ thing_of self.old }
+        ensures ticks { tick_of self.new ≡ tick_of self.old }
+        ensures fewer { (cell : Cell) (stamp : ℕ) → get (places_of self.new) cell ≡ Some stamp
+            → get (places_of self.old) cell ≡ Some stamp }
+        ensures kept { (cell : Cell) (stamp : ℕ) → get (places_of self.old) cell ≡ Some stamp
+            → Stays (thing_of self.old).1 (places_of self.old) oldest cell
+            → get (places_of self.new) cell ≡ Some stamp }
+        ensures gone { (cell : Cell) (stamp : ℕ) → get (places_of self.new) cell ≡ Some stamp
+            → Stays (thing_of self.old).1 (places_of self.old) oldest cell }
+    {
+        match self {
+            Object::Tads(object) => object.purge(oldest),
+            Object::Text(text) => text.purge(oldest),
+            Object::List(list) => list.purge(oldest),
+            Object::Vector(vector) => vector.purge(oldest),
+            Object::Table(table) => table.purge(oldest),
+        }
+    }
+
+    /// Whether there are more places than twice the present cells and so many records, and 16.
+    fn has_many_places(&self, records: u32) -> bool
+        ensures { result ≡ nat_lt (2 * (len (thing_of self.now).1 + records) + 16) (len (places_of self.now)) }
+    {
+        let needed = self.present().saturating_add(u64::from(records));
+        self.places() > needed.saturating_mul(2).saturating_add(16)
+    }
+
+    /// Takes places of absent cells away that no savepoint needs from the oldest serial on, where there are too
+    /// many. No memory is taken.
+    pub(crate) fn tidy(&mut self, records: u32, oldest: u64)
+        ensures thing { thing_of self.new ≡ thing_of self.old }
+        ensures ticks { tick_of self.new ≡ tick_of self.old }
+        ensures places { IsTidied records oldest (thing_of self.old).1 (places_of self.old)
+            (places_of self.new) }
+    {
+        if self.has_many_places(records) {
+            self.purge(oldest);
+        }
+    }
+
     /// What stands in the cell once it is set to a value.
     #[inline(always)]
     pub(crate) fn content_with(&self, cell: &Cell, value: Holder) -> Content
@@ -158,6 +229,7 @@ impl Object {
         ensures form { IsTrue (is_form cell.now (shown result)) }
         ensures set { value_of (with_part cell.now (shown result) (thing_of self.now))
             ≡ with_cell cell.now value (value_of (thing_of self.now)) }
+        ensures present { IsSome (shown result) }
         ensures valid { IsValid (with_part cell.now (shown result) (thing_of self.now)) }
         ensures tick { tick_behind (shown result) ≤ risen (tick_of self.now) (get (thing_of self.now).1 cell.now) }
     {
@@ -173,7 +245,7 @@ impl Object {
         ensures value { IfOk result (λ copy. value_of (thing_of copy) ≡ value_of (thing_of self.now)) }
         ensures valid { IfOk result (λ copy. IsValid (thing_of copy)) }
         ensures tick { IfOk result (λ copy. tick_of copy ≤ units_of (value_of (thing_of copy)) + 1) }
-        ensures zero_stamps { IfOk result (λ copy. HasZeroStamps (places_of copy)) }
+        ensures no_empty { IfOk result (λ copy. HasNoEmptyPlace copy) }
     {
         match self {
             Object::Tads(object) => Ok(Object::Tads(object.copy(alloc)?)),

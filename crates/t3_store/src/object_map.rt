@@ -5,17 +5,18 @@ ghost use Rattle.std.specs.FinMap.{get, insert, entries, keys};
 ghost use Rattle.t3_undo.specs.Content.{shown, is_form};
 ghost use Rattle.t3_undo.specs.declared.cell.Cell.TheVariants.{Prop};
 ghost use Rattle.t3_undo.specs.Objects.{part_at};
-ghost use Rattle.t3_store.specs.Value.{holder_at, can_have_at, can_lose_at, with_cell, without_cell, cell_units, units_of, units_in, IsNextAbove};
-ghost use Rattle.t3_store.specs.Inner.Shapes.{thing_of, places_of, tick_of, value_of, values, has_place, stamp_at, with_place_stamp, with_place, places_below, AreWithin, HaveZeroStamps, IsChanged};
+ghost use Rattle.t3_store.specs.Value.{holder_at, can_have_at, can_lose_at, with_cell, without_cell, cell_units, cells_at, units_of, units_in, IsNextAbove};
+ghost use Rattle.t3_store.specs.Inner.Shapes.{thing_of, places_of, tick_of, value_of, values, has_place, stamp_at, with_place_stamp, with_place, AreWithin, IsChanged};
+ghost use Rattle.t3_store.specs.Inner.Bounded.{HaveNoEmptyPlaces, HaveNoGaps, IsTidiedAt, IsPlaced, IsFilledBelow, AreBounded, parts_under};
 ghost use Rattle.t3_store.specs.Inner.Valid.{IsValid, AreValid};
-ghost use Rattle.t3_store.specs.Inner.Store.{CanAllBePut, HaveSamePlaces, AreRecordsWithin, HaveRisen, IsWritten};
-ghost use Rattle.t3_undo.specs.Journal.{newest_next, newest_records};
+ghost use Rattle.t3_store.specs.Inner.Store.{IsSound, AreRecordsWithin, HaveRisen, IsWritten};
+ghost use Rattle.t3_undo.specs.Journal.{newest_next};
 ghost use Rattle.t3_undo.specs.Stamps.{AreStamped};
 ghost use Rattle.t3_undo.specs.UndoLaw.{undone};
 
 use crate::entries::{
     Entry, add, content_with, copy_all, cut, make_place, meet, number_from, numbers_of, object_at,
-    put, put_back, replace_prop, set_stamp, stamp_of,
+    put, put_back, replace_prop, set_stamp, stamp_of, tidy,
 };
 use crate::object::Object;
 use crate::object_at::ObjectAt;
@@ -114,6 +115,8 @@ impl ObjectMap {
         ensures old { shown result ≡ part_at self.old.objects number cell.now }
         ensures formed { IsTrue (is_form cell.now (shown result)) }
         ensures ticks { HaveRisen self.old.ticks self.new.ticks (shown result) }
+        ensures present { IsSome (part_at self.new.objects number cell.now) }
+        ensures filled { IsFilledBelow self.old.objects number cell.now }
     {
         let content = content_with(&self.entries, number, cell, value);
         let old = put(&mut self.entries, number, cell, content);
@@ -133,6 +136,7 @@ impl ObjectMap {
         ensures written { IsSome (shown result) → IsWritten self.old self.new number (Prop property)
             (with_cell (Prop property) value) (shown result) }
         ensures places { self.new.places ≡ self.old.places }
+        ensures placed { IsSome (shown result) → IsPlaced self.old self.new number (Prop property) }
         ensures kept { shown result ≡ None → self.new ≡ self.old }
     {
         replace_prop(&mut self.entries, number, property, value)
@@ -147,6 +151,7 @@ impl ObjectMap {
         ensures old { shown result ≡ part_at self.old.objects number cell.now }
         ensures formed { IsTrue (is_form cell.now (shown result)) }
         ensures ticks { HaveRisen self.old.ticks self.new.ticks (shown result) }
+        ensures filled { IsFilledBelow self.old.objects number cell.now }
     {
         let old = put(&mut self.entries, number, cell, Content::Absent);
         self.units -= cell_units(cell) as u32;
@@ -182,6 +187,30 @@ impl ObjectMap {
         Ok(())
     }
 
+    /// How many cells of an object have a place.
+    pub(crate) fn places(&self, number: u32) -> Option<u64>
+        ensures places { result ≡ option_map finite.len (get self.now.places number) }
+        ensures live { is_some result ≡ is_some (get self.now.objects number) }
+        ensures cells { finite.len (parts_under self.now.objects number)
+            ≤ cells_at (get (values self.now.objects) number) }
+    {
+        // No more cells are present than the value tells.
+        let _ = &self.entries;
+        match self.object(number) {
+            Some(object) => Some(object.places()),
+            None => None,
+        }
+    }
+
+    /// Takes places of an object's absent cells away that no savepoint needs from this serial on, where there are
+    /// too many. No memory is taken.
+    pub(crate) fn tidy(&mut self, number: u32, records: u32, oldest: u64)
+        ensures tidied { IsTidiedAt records oldest number self.old self.new }
+        ensures valid { AreValid self.old.objects }
+    {
+        tidy(&mut self.entries, number, records, oldest);
+    }
+
     /// Adds an object, which counts so many units, under a number that no other has.
     pub(crate) fn add(&mut self, number: u32, object: Object, units: u32) -> Result<(), NoMemory>
         requires new { get self.old.objects number ≡ None }
@@ -201,16 +230,22 @@ impl ObjectMap {
     }
 
     /// The objects as they were at the newest savepoint, which ends: what stood in its records is put back, with
-    /// the stamps of then, and what was made since is taken away. They count so many units then. No memory is taken.
-    pub(crate) fn undo(&mut self, journal: &mut Journal, next: u32, units: u32)
-        requires can { CanAllBePut self.old.places (newest_records journal.old.segments) }
+    /// the stamps of then, and what was made since is taken away. They count so many units then, and where one has
+    /// too many places, empty ones go. No memory is taken.
+    pub(crate) fn undo(&mut self, journal: &mut Journal, next: u32, units: u32, records: u32)
+        requires limit { journal.old.record_limit ≡ records }
+        requires sound { IsSound self.old.places next journal.old.segments }
         requires stamped { AreStamped journal.old.marks (stamp_at self.old.places)
             journal.old.segments }
+        requires bounded { AreBounded records self.old }
+        requires gaps { HaveNoGaps (undone self.old.objects journal.old.segments)
+            (drop 1 journal.old.segments) }
         requires next { newest_next journal.old.segments ≡ Some next }
         requires units { units ≡ units_in (values (undone self.old.objects journal.old.segments)) }
         requires valid { AreValid (undone self.old.objects journal.old.segments) }
         ensures objects { self.new.objects ≡ undone self.old.objects journal.old.segments }
-        ensures places { HaveSamePlaces (places_below next self.old.places) self.new.places }
+        ensures sound { IsSound self.new.places next (drop 1 journal.old.segments) }
+        ensures bounded { AreBounded records self.new }
         ensures stamped { AreStamped journal.new.marks (stamp_at self.new.places)
             journal.new.segments }
         ensures ticks { (bound : ℕ) → AreWithin bound self.old.ticks → AreRecordsWithin bound journal.old.segments
@@ -218,7 +253,7 @@ impl ObjectMap {
         ensures fewer { finite.len (values self.new.objects) ≤ finite.len (values self.old.objects) }
         ensures journal { journal.new ≡ record journal.old { segments = drop 1 journal.old.segments } }
     {
-        put_back(&mut self.entries, journal);
+        put_back(&mut self.entries, journal, records);
         cut(&mut self.entries, next);
         self.units = units;
         let _ended = journal.take_mark();
@@ -251,7 +286,7 @@ impl ObjectMap {
     pub(crate) fn copy(&self, alloc: Global) -> Result<ObjectMap, NoMemory>
         ensures values { IfOk result (λ copy. values copy.objects ≡ values self.now.objects) }
         ensures ticks { IfOk result (λ copy. AreWithin (units_in (values self.now.objects) + 1) copy.ticks) }
-        ensures zero_stamps { IfOk result (λ copy. HaveZeroStamps copy.places) }
+        ensures no_empty { IfOk result (λ copy. HaveNoEmptyPlaces copy) }
     {
         let entries = copy_all(alloc, &self.entries)?;
         Ok(ObjectMap {

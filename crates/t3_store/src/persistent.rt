@@ -7,7 +7,8 @@ ghost use Rattle.t3_store.specs.Value.{Value, is_past, is_past_units, key_units,
 ghost use Rattle.t3_store.specs.Broken.{LacksSuper, IsOwnAncestor, IsNever, IsLeast, IsFirstBroken};
 ghost use Rattle.t3_store.specs.Whole.{IsWhole, supers_in};
 ghost use Rattle.t3_store.specs.Distinct.{HasDistinctEntries};
-ghost use Rattle.t3_store.specs.Inner.Shapes.{values, AreWithin, HaveZeroStamps};
+ghost use Rattle.t3_store.specs.Inner.Shapes.{values, AreWithin};
+ghost use Rattle.t3_store.specs.Inner.Bounded.{HaveNoEmptyPlaces};
 ghost use Rattle.t3_store.specs.Inner.Store.{IsPersistent};
 ghost use Rattle.t3_undo.specs.Objects.{adjust};
 
@@ -273,7 +274,7 @@ impl Persistent {
         ensures objects { values result.objects ≡ self }
         ensures from_one { get self 0 ≡ None }
         ensures ticks { AreWithin (units_in self + 1) result.ticks }
-        ensures zero_stamps { HaveZeroStamps result.places }
+        ensures no_empty { HaveNoEmptyPlaces result }
     {
         let Persistent { alloc: _, objects } = self;
         objects

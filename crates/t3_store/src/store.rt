@@ -1,7 +1,7 @@
-ghost use Rattle.std.specs.Prelude.{◌≡◌, ◌+◌, ◌<◌, ◌≤◌, ◌^◌, ◌||◌, ℕ, Some, None, Ok, IsSome, IfOk, is_some, length, map, option_map, option_and_then};
+ghost use Rattle.std.specs.Prelude.{◌≡◌, ◌+◌, ◌*◌, ◌<◌, ◌≤◌, ◌^◌, ◌||◌, ℕ, Some, None, Ok, IsSome, IfSome, IfOk, is_some, length, map, option_map, option_and_then};
 ghost use Rattle.std.specs.FinMap.{get, len, entries};
 ghost use Rattle.std.specs.List.Sorted.{IsStrictlyIncreasing};
-ghost use Rattle.t3_store.specs.Value.{Value, Objects, holder_at, text_of, items_in, length_of, entries_in, kind_of, supers_of, is_class_at, props_at, units_in, HasFittingLength};
+ghost use Rattle.t3_store.specs.Value.{Value, Objects, holder_at, text_of, items_in, length_of, entries_in, kind_of, supers_of, is_class_at, props_at, cells_at, units_in, HasFittingLength};
 ghost use Rattle.t3_store.specs.Store.{AreLimits, AreBelow, value_at, objects_in, store_units, started, changed_cells};
 ghost use Rattle.t3_store.specs.Whole.{AreApart, IsWhole, HasGivenNumbers, supers_in, supers_among, supers_of_live};
 ghost use Rattle.t3_store.specs.Distinct.{HasDistinctEntries};
@@ -50,7 +50,7 @@ impl Model for Store {
     ghost coded = { coded_counted_store };
 
     ghost use Rattle.std.specs.Prelude.{vec_capacity};
-    ghost use Rattle.t3_store.specs.Inner.Store.{store_of, IsStore};
+    ghost use Rattle.t3_store.specs.Inner.Store.{store_of, IsTidyStore};
 
     ghost view = { λ s. record {
       store = store_of s.persistent.objects s.transient.objects s.next s.next_transient s.limits s.journal.segments;
@@ -58,7 +58,7 @@ impl Model for Store {
       writes = s.writes;
     } };
 
-    ghost invariant = { λ s. IsStore s.persistent s.transient s.next s.next_transient s.limits s.journal
+    ghost invariant = { λ s. IsTidyStore s.persistent s.transient s.next s.next_transient s.limits s.journal
         s.units.items (vec_capacity s.units) s.writes };
 }
 
@@ -169,6 +169,20 @@ impl Store {
             ≡ option_and_then entries_in (value_at self.now.store number)) }
     {
         self.at(number).entries(alloc)
+    }
+
+    /// How many of an object's cells have a place: those that are present, those that a held savepoint's undo may set, and
+    /// some that are left of cells that were taken away, up to the bound. `None` exactly where there is no such object.
+    pub fn places(&self, number: u32) -> Option<u64>
+        ensures live { is_some result ≡ is_some (value_at self.now.store number) }
+        ensures bound { IfSome result (λ count. count
+            ≤ 2 * (cells_at (value_at self.now.store number) + self.now.store.limits.records) + 16) }
+    {
+        let places = self.persistent.places(number);
+        if places.is_some() {
+            return places;
+        }
+        self.transient.places(number)
     }
 
     /// What stands under a number. To ask more than one thing of an object, ask this once.

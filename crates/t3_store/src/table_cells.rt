@@ -1,5 +1,5 @@
 //! Cells of a table: the tick that one gets, and how many units a cell counts.
-ghost use Rattle.std.specs.Prelude.{◌≡◌, ◌+◌, ◌<◌, ◌≤◌, ◌-◌, ◌^◌, IsTrue};
+ghost use Rattle.std.specs.Prelude.{◌≡◌, ◌+◌, ◌<◌, ◌≤◌, ◌-◌, ◌^◌, IsTrue, IsSome};
 ghost use Rattle.std.specs.FinMap.{get};
 ghost use Rattle.std.specs.Int.{div_ceil};
 ghost use Rattle.t3_undo.specs.Content.{shown, is_form};
@@ -22,6 +22,7 @@ pub(crate) fn content_with(table: &Table, cell: &Cell, value: Holder) -> Content
     ensures form { IsTrue (is_form cell.now (shown result)) }
     ensures set { value_of (with_part cell.now (shown result) (TableShape, parts_of table.now))
         ≡ with_cell cell.now value (value_of (TableShape, parts_of table.now)) }
+    ensures present { IsSome (shown result) }
     ensures valid { IsValid (with_part cell.now (shown result) (TableShape, parts_of table.now)) }
     ensures tick { tick_behind (shown result) ≤ risen table.now.next_tick (get (parts_of table.now) cell.now) }
 {

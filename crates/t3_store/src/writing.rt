@@ -4,6 +4,7 @@ ghost use Rattle.std.specs.FinMap.{get};
 ghost use Rattle.t3_undo.specs.Content.{shown};
 ghost use Rattle.t3_store.specs.Value.{holder_at, can_have_at, can_lose_at, with_cell, without_cell, units_in, cell_units};
 ghost use Rattle.t3_store.specs.Inner.Shapes.{values, AreWithin};
+ghost use Rattle.t3_store.specs.Inner.Bounded.{IsPlaced};
 ghost use Rattle.t3_store.specs.Inner.Store.{IsReady, IsWritten, KeepStamps};
 
 use crate::limits::StoreRefusal;
@@ -30,6 +31,7 @@ pub(crate) fn set(
     ensures ok { IfOk result (λ old. IsWritten objects.old objects.new number cell.now
         (with_cell cell.now value) (shown old)) }
     ensures stamps { OnOk result (KeepStamps objects.old.places objects.new.places) }
+    ensures placed { OnOk result (IsPlaced objects.old objects.new number cell.now) }
     ensures err { OnErr result (objects.new ≡ objects.old) }
 {
     make_room(objects, alloc, number, cell, full)?;
@@ -69,6 +71,7 @@ pub(crate) fn overwrite(objects: &mut ObjectMap, number: u32, cell: &Cell, value
     ensures written { IsWritten objects.old objects.new number cell.now (with_cell cell.now value)
         (shown result) }
     ensures places { objects.new.places ≡ objects.old.places }
+    ensures placed { IsPlaced objects.old objects.new number cell.now }
 {
     let _present = objects.get(number, cell);
     objects.set(number, cell, value)

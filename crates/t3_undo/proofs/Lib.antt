@@ -12,3 +12,4 @@ pub mod Apart
 pub mod Stamping
 pub mod StampChanges
 pub mod AllStamps
+pub mod Purging

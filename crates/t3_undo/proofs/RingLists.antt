@@ -6,8 +6,8 @@ use Rattle.std.proofs.Math.Seq.{drop-append-le}
 use Rattle.std.proofs.lemmas.List.Sorted.{sum_by-IsPermutation, IsPermutation-reverse}
 use Rattle.std.proofs.lemmas.List.Sums.{sum_by-append, sum_by-cons}
 use Rattle.circular_buffer.specs.Buffer.{last_item}
-use Rattle.t3_undo.specs.Objects.{OldPart}
-use Rattle.t3_undo.specs.Journal.{old_of, total, add, first, newest_record, but_newest_record}
+use Rattle.t3_undo.specs.Objects.{OldPart, Segment}
+use Rattle.t3_undo.specs.Journal.{old_of, total, add, first, newest_record, oldest_serial, oldest_serial_or, but_newest_record}
 use Rattle.t3_undo.specs.Inner.Rings.{segment_of, cut, segments_of, counted, AreCounted}
 use Rattle.t3_undo.specs.declared.kept.Kept.{Kept}
 use Rattle.t3_undo.specs.declared.mark.Mark.{Mark}
@@ -86,6 +86,32 @@ segments-last marks mark records is =
 
 pub segments-unheld : (marks : List Mark) (records : List Kept) → None ≡ last_item marks → segments_of marks records ≡ []
 segments-unheld marks records none = ap (λ ms. segments_of ms records) (none-is marks none) ∙ segments-none records
+
+-- the oldest savepoint, which stands in front
+oldest-cut : (none : ℕ) (marks : List Mark) (mark : Mark) (parts : List OldPart)
+    → oldest_serial_or none (cut (marks ++ mark ∷ []) parts) ≡ mark.serial
+unfolding cut
+oldest-cut none [] mark parts = refl
+oldest-cut none (m ∷ marks) mark parts = oldest-cut m.serial marks mark (drop m.count parts)
+
+some-oldest : (none : ℕ) (segments : List Segment) → (length segments ≡ 0 → ⊥)
+    → oldest_serial segments ≡ Some (oldest_serial_or none segments)
+some-oldest none [] some = absurd (some refl)
+some-oldest none (s ∷ segments) some = refl
+
+pub segments-front : (marks : List Mark) (mark : Mark) (records : List Kept) → Some mark ≡ slice_get marks 0
+    → oldest_serial (segments_of marks records) ≡ Some mark.serial
+segments-front [] mark records is = cc
+segments-front (m ∷ marks) mark records is =
+    let same : m ≡ mark = cc in
+    let held = length-segments (m ∷ marks) records in
+    some-oldest 0 (segments_of (m ∷ marks) records) (λ none. omega arith)
+    ∙ ap Some (ap (λ ms. oldest_serial_or 0 (cut ms (olds records))) (reverse-append (m ∷ []) marks)
+    ∙ oldest-cut 0 (reverse marks) m (olds records) ∙ ap (λ (x : Mark). x.serial) same)
+
+pub segments-frontless : (marks : List Mark) (records : List Kept) → None ≡ slice_get marks 0 → segments_of marks records ≡ []
+segments-frontless [] records none = segments-none records
+segments-frontless (m ∷ marks) records none = cc
 
 -- a savepoint more
 pub segments-marked : (marks : List Mark) (mark : Mark) (records : List Kept) → mark.count ≡ 0

@@ -1,8 +1,8 @@
 -- The stamp of one cell's place stays right, whatever happens. Other crates may use these.
 use Rattle.std.proofs.Common.{◌≡◌, ◌∙◌, ap, sym, subst, refl, ℕ, ◌+◌, ◌-◌, ◌<◌, ◌≤◌, ◌==◌, zero, suc, Bool, true, false, not, ◌&&◌, ◌||◌, ◌↔◌, nat_lt, if◌then◌else◌, List, [], ◌∷◌, length, take, None, Some, IsTrue, true≢false, eq-eqb, eqb-true, ne_eqb, arith}
 use Rattle.t3_undo.specs.Objects.{OldPart, Segment, is_of, is_noted}
-use Rattle.t3_undo.specs.Journal.{room, add, note_in, newest_serial, newest_records}
-use Rattle.t3_undo.specs.Stamps.{stamp_before, stamp_after, HaveSerialsBelow, IsStamp, IsUnnoted, noted_serial, oldest_serial_or}
+use Rattle.t3_undo.specs.Journal.{room, add, note_in, newest_serial, oldest_serial_or, newest_records}
+use Rattle.t3_undo.specs.Stamps.{stamp_before, stamp_after, HaveSerialsBelow, IsStamp, IsUnnoted, noted_serial}
 use Rattle.t3_undo.specs.declared.cell.Cell.{Cell}
 use Rattle.t3_undo.proofs.PuttingBack.{is_of-is, is_of-itself}
 

@@ -56,6 +56,16 @@ abbrev pub newest_serial : List Segment → Option ℕ
 newest_serial [] = None
 newest_serial (segment ∷ segments) = Some segment.serial
 
+-- the serial of the oldest savepoint, or this number where none is held
+abbrev pub oldest_serial_or : ℕ → List Segment → ℕ
+oldest_serial_or none [] = none
+oldest_serial_or none (segment ∷ segments) = oldest_serial_or segment.serial segments
+
+-- the serial of the oldest savepoint
+abbrev pub oldest_serial : List Segment → Option ℕ
+oldest_serial [] = None
+oldest_serial (segment ∷ segments) = Some (oldest_serial_or segment.serial segments)
+
 -- the serial of the newest savepoint, if the object is older than it
 abbrev pub serial_for : ℕ → List Segment → Option ℕ
 serial_for number [] = None

@@ -1,9 +1,15 @@
 -- Which places stay once an object is purged.
-use Rattle.std.specs.Prelude.{◌≡◌, ℕ, ◌<◌, ◌≤◌, ◌⊎◌, Some, IsSome}
+use Rattle.std.specs.Prelude.{◌≡◌, ℕ, ◌<◌, ◌≤◌, ◌⊎◌, List, None, Some, IsSome}
 use Rattle.std.specs.FinMap.{get}
 use Rattle.t3_undo.specs.Content.{Parts, Places}
+use Rattle.t3_undo.specs.Objects.{Segment}
+use Rattle.t3_undo.specs.Journal.{oldest_serial}
 use Rattle.t3_undo.specs.declared.cell.Cell.{Cell}
 use Rattle.t3_undo.specs.declared.cell.Cell.TheVariants as cells
+
+-- the serial of the oldest savepoint or, where none is held, a number above how many there were
+abbrev pub IsOldest : ℕ → ℕ → List Segment → Type 0
+IsOldest made oldest segments = ((oldest_serial segments ≡ None) × (made < oldest)) ⊎ (oldest_serial segments ≡ Some oldest)
 
 -- the cell is present, or the stamp of its place isn't below the oldest serial: then a savepoint may have a record of it
 abbrev pub IsNeeded : Parts → Places → ℕ → Cell → Type 0

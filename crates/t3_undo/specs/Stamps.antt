@@ -1,10 +1,10 @@
 -- Stamps of places, which tell without a search what a journal's savepoints have records of.
-use Rattle.std.specs.Prelude.{◌≡◌, ◌<◌, ◌≤◌, ◌↔◌, ◌==◌, ◌&&◌, ℕ, ◌+◌, if◌then◌else◌, List, [], ◌∷◌, Option, None, Some, IsTrue, nat_lt, false, option_map}
+use Rattle.std.specs.Prelude.{◌≡◌, ◌<◌, ◌≤◌, ◌↔◌, ◌==◌, ◌&&◌, ℕ, ◌+◌, if◌then◌else◌, List, [], ◌∷◌, Option, None, Some, IsTrue, IsSome, nat_lt, false, option_map}
 use Rattle.std.specs.List.{AllByRecursion}
 use Rattle.std.specs.Ordering.{nat_cmp, eq_by_cmp}
 use Rattle.t3_undo.specs.Cell.{cell_cmp}
 use Rattle.t3_undo.specs.Objects.{OldPart, Segment, is_of, is_noted}
-use Rattle.t3_undo.specs.Journal.{newest_serial, newest_records}
+use Rattle.t3_undo.specs.Journal.{newest_serial, oldest_serial_or, newest_records}
 use Rattle.t3_undo.specs.declared.cell.Cell.{Cell}
 
 -- the stamp of the place that a cell of an object has, none where it has no place
@@ -60,10 +60,9 @@ noted_serial number cell [] = None
 noted_serial number cell (segment ∷ segments) =
     if is_noted number cell segment.records then Some segment.serial else noted_serial number cell segments
 
--- the serial of the oldest savepoint, or this number where none is held
-abbrev pub oldest_serial_or : ℕ → List Segment → ℕ
-oldest_serial_or none [] = none
-oldest_serial_or none (segment ∷ segments) = oldest_serial_or segment.serial segments
+-- a savepoint has a record of the cell
+abbrev pub HasRecord : ℕ → Cell → List Segment → Type 0
+HasRecord number cell segments = IsSome (noted_serial number cell segments)
 
 -- what a place's stamp tells, after so many savepoints were made: it is the newest serial exactly where the newest
 -- savepoint has a record of the cell; it is the serial of the newest savepoint that has one; where none has, it is

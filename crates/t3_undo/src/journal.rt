@@ -1,12 +1,12 @@
 ghost use Rattle.std.specs.Prelude.{◌≡◌, ◌+◌, ◌-◌, ◌^◌, ◌<◌, ◌≤◌, [], ◌∷◌, false, length, take, drop, None, IfOk, option_map};
 ghost use Rattle.t3_undo.specs.Content.{shown};
 ghost use Rattle.t3_undo.specs.Objects.{is_noted};
-ghost use Rattle.t3_undo.specs.Journal.{total, old_of, note_in, is_added, newest_next, newest_serial, serial_for, newest_records, newest_record, but_newest_record, HaveDistinctCells};
+ghost use Rattle.t3_undo.specs.Journal.{total, old_of, note_in, is_added, newest_next, newest_serial, oldest_serial, serial_for, newest_records, newest_record, but_newest_record, HaveDistinctCells};
 
 use crate::cell::Cell;
 use crate::content::Content;
 use crate::kept::Kept;
-use crate::newest::{newest_next, newest_serial, serial_for};
+use crate::newest::{newest_next, newest_serial, oldest_serial, serial_for};
 use crate::rings::{
     Marks, Records, add_mark, note_fresh_record, note_record, take_mark, take_record,
 };
@@ -152,6 +152,14 @@ impl Journal {
         ensures { result ≡ newest_serial self.now.segments }
     {
         newest_serial(&self.marks, &self.records)
+    }
+
+    /// The serial of the oldest savepoint. `None` exactly where none is held. There were 2^63 at most.
+    pub fn oldest_serial(&self) -> Option<u64>
+        ensures serial { result ≡ oldest_serial self.now.segments }
+        ensures bound { self.now.marks ≤ 2 ^ 63 }
+    {
+        oldest_serial(&self.marks, &self.records)
     }
 
     /// The serial of the newest savepoint, which a change of the object's cells gives to their places.

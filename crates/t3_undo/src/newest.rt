@@ -1,8 +1,8 @@
-//! What a journal's newest savepoint tells.
+//! What a journal's newest savepoint tells, and its oldest.
 ghost use Rattle.std.specs.Prelude.{◌≡◌, ◌-◌, ◌≤◌, length, drop};
 ghost use Rattle.std.specs.List.{list_any};
 ghost use Rattle.t3_undo.specs.Objects.{is_of};
-ghost use Rattle.t3_undo.specs.Journal.{old_of, is_due, newest_next, newest_serial, serial_for};
+ghost use Rattle.t3_undo.specs.Journal.{old_of, is_due, newest_next, newest_serial, oldest_serial, serial_for};
 ghost use Rattle.t3_undo.specs.Inner.Rings.{segments_of, AreCounted, is_older};
 
 use crate::cell::Cell;
@@ -91,6 +91,16 @@ pub(crate) fn newest_serial(marks: &Marks, records: &Records) -> Option<u64>
     ensures { result ≡ newest_serial (segments_of marks.now.items records.now.items) }
 {
     match marks.back() {
+        Some(mark) => Some(mark.serial),
+        None => None,
+    }
+}
+
+/// The serial of the oldest savepoint.
+pub(crate) fn oldest_serial(marks: &Marks, records: &Records) -> Option<u64>
+    ensures { result ≡ oldest_serial (segments_of marks.now.items records.now.items) }
+{
+    match marks.front() {
         Some(mark) => Some(mark.serial),
         None => None,
     }

@@ -5,7 +5,7 @@ use Rattle.std.specs.Ordering.{nat_cmp, eq_by_cmp}
 use Rattle.std.specs.FinMap.{FinMap, empty, get}
 use Rattle.t3_undo.specs.Content.{Places}
 use Rattle.t3_undo.specs.Objects.{Objects, set_at}
-use Rattle.t3_store.specs.Inner.Shapes.{Shape, thing_of, places_of, tick_of, value_of, values, HasZeroStamps}
+use Rattle.t3_store.specs.Inner.Shapes.{Shape, thing_of, places_of, tick_of, value_of, values, Stored, HasNoEmptyPlace}
 use Rattle.t3_store.specs.Value.{Value, units_of, units_in}
 use Rattle.t3_store.specs.Inner.Valid.{IsValid, AreValid}
 use Rattle.t3_store.specs.declared.object.Object.{Object}
@@ -45,6 +45,10 @@ places_in entries = by_number places_of entries
 abbrev pub ticks_in : List Entry → FinMap nat_cmp ℕ
 ticks_in entries = by_number tick_of entries
 
+-- all that is kept of the objects of a row
+abbrev pub stored_of : List Entry → Stored
+stored_of entries = record { objects = things_of entries; places = places_in entries; ticks = ticks_in entries }
+
 -- whether there is an entry, of that number
 abbrev pub is_numbered : ℕ → Option Entry → Bool
 is_numbered number None = false
@@ -71,9 +75,9 @@ HasTickForUnits entry = tick_of entry.object ≤ units_of (value_of (thing_of en
 abbrev pub HaveTicksForUnits : List Entry → Type 0
 HaveTicksForUnits entries = AllByRecursion HasTickForUnits entries
 
--- the places of each object have stamp 0
-abbrev pub HaveAllZeroStamps : List Entry → Type 0
-HaveAllZeroStamps entries = AllByRecursion (λ entry. HasZeroStamps (places_of entry.object)) entries
+-- each object has a place for each present cell, and no other
+abbrev pub HaveAllNoEmptyPlace : List Entry → Type 0
+HaveAllNoEmptyPlace entries = AllByRecursion (λ entry. HasNoEmptyPlace entry.object) entries
 
 -- this is the least number of an object from that one on
 abbrev pub IsFirstFrom : Objects Shape → ℕ → Option ℕ → Type 0

@@ -4,7 +4,7 @@ use Rattle.std.specs.Ordering.{nat_cmp}
 use Rattle.std.specs.FinMap.{FinMap, empty, get, insert, contains_key, retain_keys, entries, from_entries, code as coded_map}
 use Rattle.std.specs.Borrow.{Bor}
 use Rattle.std.specs.Coded.{Coded, code_by, coded×, coded_ℕ, coded_bool, coded_list}
-use Rattle.t3_undo.specs.Content.{Parts, Places, Present, coded_parts, coded_places, coded_holder}
+use Rattle.t3_undo.specs.Content.{Parts, Places, Present, places_for, coded_parts, coded_places, coded_holder}
 use Rattle.t3_undo.specs.Content as content
 use Rattle.t3_undo.specs.Objects.{Objects, set_at, set_cell, adjust}
 use Rattle.t3_undo.specs.Stamps.{Stamps}
@@ -45,6 +45,10 @@ places_of (object.Text t) = empty
 places_of (object.List l) = empty
 places_of (object.Vector v) = vectors.places_of v
 places_of (object.Table t) = tables.places_of t
+
+-- an object has a place for each present cell, with stamp 0, and no other
+abbrev pub HasNoEmptyPlace : Object → Type 0
+HasNoEmptyPlace object = places_of object ≡ places_for (thing_of object).1
 
 -- a table's next tick, and 0 of other objects
 abbrev pub tick_of : Object → ℕ

@@ -6,12 +6,13 @@ use Rattle.std.specs.FinMap.{FinMap, get, len}
 use Rattle.t3_undo.specs.Content.{Places, Present, is_form}
 use Rattle.t3_undo.specs.Objects.{Objects, OldPart, Segment, set_cell, adjust, part_at, before}
 use Rattle.t3_undo.specs.Journal.{Held, note_in}
-use Rattle.t3_undo.specs.Stamps.{AreStamped, stamp_after}
+use Rattle.t3_undo.specs.Stamps.{AreStamped, HasRecord, stamp_after}
 use Rattle.t3_undo.specs.declared.cell.Cell.{Cell}
 use Rattle.t3_store.specs.Value.{Value, units_in}
 use Rattle.t3_store.specs.Store.{Mark, StoreValue, AreLimits}
 use Rattle.t3_store.specs.Inner.Shapes.{Shape, Stored, values, has_place, stamp_at, with_place_stamp, HaveZeroStamps, tick_behind, risen, AreWithin}
 use Rattle.t3_store.specs.Inner.Valid.{AreValidBefore}
+use Rattle.t3_store.specs.Inner.Bounded.{HaveNoEmptyPlaces, HaveFewPlaces, IsPlaceMade, IsFilledBelow}
 use Rattle.t3_store.specs.Inner.Whole.{supers_from, supers_of_both, AreWhole}
 use Rattle.t3_store.specs.declared.limits.StoreLimits.{StoreLimits}
 
@@ -46,6 +47,10 @@ pub record CanBePut (places : FinMap nat_cmp Places) (part : OldPart) : Type 0 w
 abbrev pub CanAllBePut : FinMap nat_cmp Places → List OldPart → Type 0
 CanAllBePut places parts = AllByRecursion (CanBePut places) parts
 
+-- so can those of all segments
+abbrev pub CanEachBePut : FinMap nat_cmp Places → List Segment → Type 0
+CanEachBePut places segments = AllByRecursion (λ segment. CanAllBePut places segment.records) segments
+
 -- the newest segment without its records
 abbrev pub emptied : List Segment → List Segment
 emptied [] = []
@@ -75,6 +80,7 @@ pub record IsReady (old new : Stored) (number : ℕ) (cell : Cell) : Type 0 wher
   pub kept : AreKept old.places new.places
   pub stamps : KeepStamps old.places new.places
   pub placed : IsTrue (has_place new.places number cell)
+  pub made : IsPlaceMade old new number cell
 
 -- where no tick was above the bound, this content's isn't, and none is above the bound that it gives now
 abbrev pub HaveRisen : FinMap nat_cmp ℕ → FinMap nat_cmp ℕ → Option Present → Type 0
@@ -90,6 +96,7 @@ pub record IsWritten (old new : Stored) (number : ℕ) (cell : Cell) (change : V
   pub stood : was ≡ part_at old.objects number cell
   pub formed : IsTrue (is_form cell was)
   pub ticks : HaveRisen old.ticks new.ticks was
+  pub filled : IsFilledBelow old.objects number cell
 
 -- the record of what stood in a cell, and of the stamp that its place had
 abbrev pub record_of : ℕ → Cell → Option Present → ℕ → OldPart
@@ -172,12 +179,26 @@ pub record IsStore (persistent transient : Stored) (next next_transient : ℕ) (
       journal.segments
   pub kinds : AreKindsKept persistent transient journal.segments writes
 
+-- and no object has too many places
+pub record IsTidyStore (persistent transient : Stored) (next next_transient : ℕ) (limits : StoreLimits) (journal : Held) (units : List ℕ)
+    (room writes : ℕ) : Type 0 where
+  pub is : IsStore persistent transient next next_transient limits journal units room writes
+  pub places : HaveFewPlaces persistent transient limits.records journal.segments
+
+-- an object's cells with a record keep their place, and each place its stamp
+pub record IsPurged (old new : Stored) (segments : List Segment) : Type 0 where
+  pub objects : new.objects ≡ old.objects
+  pub ticks : new.ticks ≡ old.ticks
+  pub fewer : (number : ℕ) (cell : Cell) (stamp : ℕ) → stamp_at new.places number cell ≡ Some stamp → stamp_at old.places number cell ≡ Some stamp
+  pub kept : (number : ℕ) (cell : Cell) → HasRecord number cell segments → IsTrue (has_place old.places number cell)
+      → IsTrue (has_place new.places number cell)
+
 -- numbers are from 1 on and below 2^31, the sums are no greater than they may be, no tick is above that of a table that was
--- given one for each unit, and each place has stamp 0
+-- given one for each unit, and each place is that of a present cell
 pub record IsPersistent (stored : Stored) : Type 0 where
   pub from_one : get (values stored.objects) 0 ≡ None
   pub numbered : (q : ℕ) → 2 ^ 31 ≤ q → get (values stored.objects) q ≡ None
   pub few : len (values stored.objects) ≤ 1048576
   pub few_units : units_in (values stored.objects) ≤ 4194304
   pub ticks : AreWithin (units_in (values stored.objects) + 1) stored.ticks
-  pub zero_stamps : HaveZeroStamps stored.places
+  pub no_empty : HaveNoEmptyPlaces stored

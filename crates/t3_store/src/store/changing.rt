@@ -3,7 +3,7 @@ ghost use Rattle.std.specs.Prelude.{◌≡◌, ◌+◌, ◌<◌, ◌≤◌, ◌^
 ghost use Rattle.t3_store.specs.Value.{holder_at, can_have_at, can_lose_at, can_be_written, new_value, HasFittingLength, units_of};
 ghost use Rattle.t3_store.specs.Store.{value_at, is_full_with, no_number, with_object, created_in, after_write, written, taken, set_cell, saved, undone, is_held};
 ghost use Rattle.t3_store.specs.Whole.{HasSupersIn, supers_in, supers_of_live, supers_for};
-ghost use Rattle.t3_store.specs.Inner.Shapes.{thing_of, places_of, tick_of, value_of, HasZeroStamps};
+ghost use Rattle.t3_store.specs.Inner.Shapes.{thing_of, tick_of, value_of, HasNoEmptyPlace};
 ghost use Rattle.t3_store.specs.Inner.Valid.{IsValid};
 
 use crate::limits::StoreRefusal;
@@ -12,6 +12,7 @@ use crate::noting::note;
 use crate::object::Object;
 use crate::store::Store;
 use crate::table_cells::cell_units;
+use crate::tidying::tidy;
 use crate::unit_rows::{pop_units, push_units};
 use crate::writing;
 use t3_holder::{Holder, NoMemory};
@@ -111,10 +112,18 @@ impl Store {
         if self.persistent.has(number) {
             let old = writing::take(&mut self.persistent, number, &cell);
             note(&mut self.persistent, &mut self.journal, number, cell, old);
+            tidy(
+                &mut self.persistent,
+                &self.journal,
+                number,
+                self.limits.records,
+            );
             self.writes += 1;
             return;
         }
         let _old = writing::take(&mut self.transient, number, &cell);
+        // No savepoint has a record of it.
+        self.transient.tidy(number, self.limits.records, u64::MAX);
         self.writes += 1;
     }
 
@@ -147,7 +156,7 @@ impl Store {
         requires supers { HasSupersIn (supers_in self.old.store.persistent) (value_of (thing_of object)) }
         requires valid { IsValid (thing_of object) }
         requires tick { tick_of object ≤ 1 }
-        requires zero_stamps { HasZeroStamps (places_of object) }
+        requires no_empty { HasNoEmptyPlace object }
         ensures number { IfOk result (λ number. number ≡ self.old.store.next) }
         ensures fresh { IfOk result (λ number. value_at self.old.store number ≡ None) }
         ensures ok { OnOk result (self.new ≡ record self.old {
@@ -169,7 +178,7 @@ impl Store {
         requires supers { HasSupersIn (supers_of_live self.old.store) (value_of (thing_of object)) }
         requires valid { IsValid (thing_of object) }
         requires tick { tick_of object ≤ 1 }
-        requires zero_stamps { HasZeroStamps (places_of object) }
+        requires no_empty { HasNoEmptyPlace object }
         ensures number { IfOk result (λ number. number ≡ self.old.store.next_transient) }
         ensures fresh { IfOk result (λ number. value_at self.old.store number ≡ None) }
         ensures ok { OnOk result (self.new ≡ record self.old {
@@ -208,7 +217,9 @@ impl Store {
         match self.journal.newest_next() {
             Some(next) => {
                 let units = pop_units(&mut self.units);
-                self.persistent.undo(&mut self.journal, next, units);
+                let records = self.limits.records;
+                self.persistent
+                    .undo(&mut self.journal, next, units, records);
                 true
             }
             None => false,

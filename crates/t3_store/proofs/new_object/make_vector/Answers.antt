@@ -1,21 +1,22 @@
-use Rattle.std.proofs.Common.{ap, sym, subst, ◌+◌, List, arith}
+use Rattle.std.proofs.Common.{◌≡◌, ap, sym, subst, List, length, take, arith}
 use Rattle.std.proofs.lemmas.Grind.{common_steps}
-use Rattle.t3_undo.specs.declared.cell.Cell.TheVariants as cells
+use Rattle.t3_undo.specs.Content.{places_for}
 use Rattle.t3_lists.specs.Vector.{parts_of, places_of}
 use Rattle.t3_lists.specs.declared.elements.Element.{Element}
-use Rattle.t3_store.specs.Inner.Shapes.{HasZeroStamps}
-use Rattle.t3_store.proofs.ZeroStamps.{zero-vector, zero-place}
+use Rattle.t3_store.proofs.EmptyPlaces.{places-vector, places-element}
 use Rattle.t3_store.proofs.new_object.make_vector.Goals as goal
 
 pub loop-index-init : goal.loop-index-init
 loop-index-init c = record {
   parts = ap parts_of c.new-vector.ensures;
-  zero_stamps = subst (λ (es : List Element). HasZeroStamps (places_of es)) (sym c.new-vector.ensures) zero-vector;
+  no_empty = subst (λ (es : List Element). places_of es ≡ places_for (parts_of es)) (sym c.new-vector.ensures) places-vector;
 }
 
 pub loop-index-preserved : goal.loop-index-preserved
 loop-index-preserved c = record {
   parts = grind (arith, common_steps);
-  zero_stamps = subst HasZeroStamps (sym c.in_ok-add_element.ensures.places)
-      (zero-place _ (cells.Elem (c.loop-index.index + 1)) c.loop-index.invariant.zero_stamps);
+  no_empty =
+      let size : length (take c.loop-index.index c.args.items.now) ≡ c.loop-index.index = grind (arith, common_steps) in
+      places-element _ _ (take c.loop-index.index c.args.items.now) c.loop-index.index _ c.loop-index.invariant.no_empty
+      c.loop-index.invariant.parts size c.in_ok-add_element.ensures.parts c.in_ok-add_element.ensures.places;
 }

@@ -1,13 +1,14 @@
-use Rattle.std.proofs.Common.{◌∙◌, ap, sym, subst}
+use Rattle.std.proofs.Common.{◌≡◌, ◌∙◌, ap, sym, subst}
 use Rattle.t3_lists.specs.Vector.{items_of}
 use Rattle.t3_lists.proofs.Items.{items-filled}
 use Rattle.t3_tables.specs.Table as tables
 use Rattle.t3_tables.specs.Table.{TableValue}
 use Rattle.t3_store.specs.Value.{Vector, new_value}
-use Rattle.t3_store.specs.Inner.Shapes.{TableShape, value_of, HasZeroStamps}
+use Rattle.t3_undo.specs.Content.{places_for}
+use Rattle.t3_store.specs.Inner.Shapes.{TableShape, value_of}
 use Rattle.t3_store.specs.Inner.Valid.{IsWholeTable}
 use Rattle.t3_store.proofs.TableUnits.{value-new, whole-new}
-use Rattle.t3_store.proofs.ZeroStamps.{zero-none, zero-table}
+use Rattle.t3_store.proofs.EmptyPlaces.{places-none, places-table}
 use Rattle.t3_store.proofs.new_object.NewObject.make.Goals as goal
 
 pub returns-in_ok-make_vector-in-Vector-clause-value : goal.returns-in_ok-make_vector-in-Vector-clause-value
@@ -22,12 +23,12 @@ pub returns-in-Table-clause-valid : goal.returns-in-Table-clause-valid
 returns-in-Table-clause-valid c =
     subst (λ (t : TableValue). IsWholeTable (tables.parts_of t)) (sym c.new.ensures) whole-new
 
-pub returns-in-Text-clause-zero_stamps : goal.returns-in-Text-clause-zero_stamps
-returns-in-Text-clause-zero_stamps c = zero-none
+pub returns-in-Text-clause-no_empty : goal.returns-in-Text-clause-no_empty
+returns-in-Text-clause-no_empty c = sym places-none
 
-pub returns-in-List-clause-zero_stamps : goal.returns-in-List-clause-zero_stamps
-returns-in-List-clause-zero_stamps c = zero-none
+pub returns-in-List-clause-no_empty : goal.returns-in-List-clause-no_empty
+returns-in-List-clause-no_empty c = sym places-none
 
-pub returns-in-Table-clause-zero_stamps : goal.returns-in-Table-clause-zero_stamps
-returns-in-Table-clause-zero_stamps c =
-    subst (λ (t : TableValue). HasZeroStamps (tables.places_of t)) (sym c.new.ensures) zero-table
+pub returns-in-Table-clause-no_empty : goal.returns-in-Table-clause-no_empty
+returns-in-Table-clause-no_empty c =
+    subst (λ (t : TableValue). tables.places_of t ≡ places_for (tables.parts_of t)) (sym c.new.ensures) places-table

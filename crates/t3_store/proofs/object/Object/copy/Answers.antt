@@ -1,11 +1,10 @@
-use Rattle.std.proofs.Common.{◌∙◌, ap, sym, subst}
+use Rattle.std.proofs.Common.{◌∙◌, ap, sym}
 use Rattle.t3_tadsobj.specs.Object.{Tads}
-use Rattle.t3_lists.specs.Vector.{parts_of}
-use Rattle.t3_tables.specs.Table as tables
-use Rattle.t3_store.specs.Inner.Shapes.{thing_of, value_of, HasZeroStamps}
+use Rattle.t3_undo.specs.Content.{places_for}
+use Rattle.t3_store.specs.Inner.Shapes.{thing_of, value_of}
 use Rattle.t3_store.specs.declared.object.Object.TheVariants as objects
 use Rattle.t3_store.proofs.TableUnits.{IsTableCopy, table-copy}
-use Rattle.t3_store.proofs.ZeroStamps.{zero-none, zero-copy}
+use Rattle.t3_store.proofs.EmptyPlaces.{places-none}
 use Rattle.t3_store.proofs.object.Object.copy.Goals as goal
 
 copied : (c : goal.In_ok-copy-in-Table) → IsTableCopy c.in_ok-copy-in-Table.field-0 (value_of (thing_of (objects.Table c.in-Table.table)))
@@ -21,20 +20,16 @@ returns-in_ok-copy-in-Table-clause-valid c = (copied c).whole
 pub returns-in_ok-copy-in-Table-clause-tick : goal.returns-in_ok-copy-in-Table-clause-tick
 returns-in_ok-copy-in-Table-clause-tick c = (copied c).tick
 
-pub returns-in_ok-copy-in-Tads-clause-zero_stamps : goal.returns-in_ok-copy-in-Tads-clause-zero_stamps
-returns-in_ok-copy-in-Tads-clause-zero_stamps c =
-    subst HasZeroStamps (sym (ap (λ (o : Tads). o.places) c.in_ok-copy-in-Tads.ensures)) (zero-copy c.in-Tads.object.parts)
+pub returns-in_ok-copy-in-Tads-clause-no_empty : goal.returns-in_ok-copy-in-Tads-clause-no_empty
+returns-in_ok-copy-in-Tads-clause-no_empty c =
+    ap (λ (o : Tads). o.places) c.in_ok-copy-in-Tads.ensures ∙ sym (ap (λ (o : Tads). places_for o.parts) c.in_ok-copy-in-Tads.ensures)
 
-pub returns-in_ok-copy-in-Text-clause-zero_stamps : goal.returns-in_ok-copy-in-Text-clause-zero_stamps
-returns-in_ok-copy-in-Text-clause-zero_stamps c = zero-none
+pub returns-in_ok-copy-in-Text-clause-no_empty : goal.returns-in_ok-copy-in-Text-clause-no_empty
+returns-in_ok-copy-in-Text-clause-no_empty c = sym places-none
 
-pub returns-in_ok-copy-in-List-clause-zero_stamps : goal.returns-in_ok-copy-in-List-clause-zero_stamps
-returns-in_ok-copy-in-List-clause-zero_stamps c = zero-none
+pub returns-in_ok-copy-in-List-clause-no_empty : goal.returns-in_ok-copy-in-List-clause-no_empty
+returns-in_ok-copy-in-List-clause-no_empty c = sym places-none
 
-pub returns-in_ok-copy-in-Vector-clause-zero_stamps : goal.returns-in_ok-copy-in-Vector-clause-zero_stamps
-returns-in_ok-copy-in-Vector-clause-zero_stamps c =
-    subst HasZeroStamps (sym c.in_ok-copy-in-Vector.ensures.places) (zero-copy (parts_of c.in-Vector.vector))
-
-pub returns-in_ok-copy-in-Table-clause-zero_stamps : goal.returns-in_ok-copy-in-Table-clause-zero_stamps
-returns-in_ok-copy-in-Table-clause-zero_stamps c =
-    subst HasZeroStamps (sym c.in_ok-copy-in-Table.ensures.places) (zero-copy (tables.parts_of c.in_ok-copy-in-Table.field-0))
+pub returns-in_ok-copy-in-Vector-clause-no_empty : goal.returns-in_ok-copy-in-Vector-clause-no_empty
+returns-in_ok-copy-in-Vector-clause-no_empty c =
+    c.in_ok-copy-in-Vector.ensures.places ∙ sym (ap places_for c.in_ok-copy-in-Vector.ensures.parts)

@@ -2,7 +2,7 @@ use Rattle.std.proofs.Common.{◌∙◌, ◌+◌, ap, sym, subst, map, ℕ}
 use Rattle.t3_store.specs.Value.{units_in}
 use Rattle.t3_store.specs.Inner.Shapes.{values, AreWithin}
 use Rattle.t3_store.specs.Inner.Entries.{keyed, ticks_in, AreAllValid}
-use Rattle.t3_store.proofs.Copying.{values-keyed, rising-keyed, valid-each, each-valid, ticks-within, zero-each}
+use Rattle.t3_store.proofs.Copying.{values-keyed, rising-keyed, valid-each, each-valid, ticks-within, no-empty-each}
 use Rattle.t3_store.proofs.object_map.ObjectMap.copy.Goals as goal
 
 pub copy_all-requires : goal.copy_all-requires
@@ -27,5 +27,5 @@ returns c =
       values = same;
       ticks = subst (λ (n : ℕ). AreWithin (n + 1) (ticks_in c.in_ok-entries.entries.items)) (ap units_in same)
           (ticks-within c.in_ok-entries.entries.items c.in_ok-entries.ensures.ticks);
-      zero_stamps = zero-each c.in_ok-entries.entries.items c.in_ok-entries.ensures.zero_stamps;
+      no_empty = no-empty-each c.in_ok-entries.entries.items c.in_ok-entries.ensures.no_empty;
     }

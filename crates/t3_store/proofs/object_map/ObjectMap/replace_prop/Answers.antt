@@ -1,4 +1,4 @@
-use Rattle.std.proofs.Common.{◌∙◌, ap, sym, subst, refl, arith}
+use Rattle.std.proofs.Common.{◌∙◌, ap, sym, subst, refl, inl, is_some, arith}
 use Rattle.std.specs.FinMap.{get}
 use Rattle.t3_undo.specs.Content.{shown}
 use Rattle.t3_undo.specs.declared.cell.Cell.TheVariants as cells
@@ -7,6 +7,10 @@ use Rattle.t3_store.specs.Value.{with_cell, holder_at}
 use Rattle.t3_store.specs.Inner.Shapes.{Stored, values, has_place, risen, AreWithin}
 use Rattle.t3_store.specs.Inner.Store.{IsWritten}
 use Rattle.t3_store.specs.Inner.Entries.{things_of, places_in, ticks_in}
+use Rattle.t3_undo.specs.Objects.{part_at}
+use Rattle.t3_store.specs.Inner.Bounded.{IsPlaced}
+use Rattle.t3_store.proofs.NoGaps.{filled-prop}
+use Rattle.t3_store.proofs.OwnPlaces.{present-again}
 use Rattle.t3_store.proofs.KindValues.{no-tick-prop}
 use Rattle.t3_store.proofs.Ticks.{within-more, risen-least}
 use Rattle.t3_store.proofs.Replacing.{values-after, valid-after, units-after}
@@ -48,6 +52,20 @@ returns-clause-written c some =
             omega (arith, none),
             subst (AreWithin (risen bound was)) (sym e.ticks) (within-more bound (risen bound was) _ (risen-least bound was) all),
           );
+      filled = filled-prop things c.args.number c.args.property;
+    })
+
+pub returns-clause-placed : goal.returns-clause-placed
+returns-clause-placed c some =
+    let cell = cells.Prop c.args.property in
+    let things = things_of c.self.inside.entries.items in
+    let e = c.replace_prop.ensures in
+    let was = sym (ap is_some (e.old some)) ∙ some in
+    let items = c.replace_prop.new.entries.items in
+    let new : Stored = record { objects = things_of items; places = places_in items; ticks = ticks_in items } in
+    subst (λ (s : Stored). IsPlaced s new c.args.number cell) c.self.view_is (record {
+      present = ap (λ m. is_some (part_at m c.args.number cell)) (e.set some) ∙ present-again things c.args.number cell _ was refl;
+      made = inl (was, e.places);
     })
 
 pub returns-clause-kept : goal.returns-clause-kept

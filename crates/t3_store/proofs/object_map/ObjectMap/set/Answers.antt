@@ -1,12 +1,15 @@
-use Rattle.std.proofs.Common.{◌≡◌, ◌∙◌, ◌+◌, ◌-◌, ◌^◌, ap, sym, subst, List, None, arith}
+use Rattle.std.proofs.Common.{◌≡◌, ◌∙◌, ◌+◌, ◌-◌, ◌^◌, ap, sym, subst, List, None, is_some, arith}
 use Rattle.std.specs.FinMap.{get}
 use Rattle.t3_undo.specs.Content.{shown}
 use Rattle.t3_undo.specs.Objects.{set_cell, part_at}
-use Rattle.t3_store.specs.Value.{units_in, holder_at}
+use Rattle.t3_store.specs.Value.{units_in, holder_at, can_have_at}
 use Rattle.t3_store.specs.Inner.Shapes.{Stored, values, risen, AreWithin}
 use Rattle.t3_store.specs.Inner.Valid.{AreValid}
 use Rattle.t3_store.specs.Inner.Entries.{things_of, ticks_in}
 use Rattle.t3_store.specs.declared.entries.Entry.{Entry}
+use Rattle.t3_store.specs.Inner.Bounded.{IsFilledBelow}
+use Rattle.t3_store.proofs.NoGaps.{filled-below}
+use Rattle.t3_store.proofs.OwnPlaces.{present-set}
 use Rattle.t3_store.proofs.Counting.{set-counted, set-absent}
 use Rattle.t3_store.proofs.Ticks.{within-more, risen-least}
 use Rattle.t3_store.proofs.object_map.ObjectMap.set.Goals as goal
@@ -82,3 +85,29 @@ returns-else-not-is_present-clause-ticks c bound all =
       c.put-old.ensures.below bound mine,
       c.put-old.ensures.ticks (risen bound was) (within-more bound (risen bound was) _ (risen-least bound was) mine) (omega (arith, content, same)),
     )
+
+pub returns-then-not-is_present-clause-present : goal.returns-then-not-is_present-clause-present
+returns-then-not-is_present-clause-present c =
+    ap (λ m. is_some (part_at m c.args.number c.args.cell.now)) c.put-old.ensures.things
+    ∙ present-set (things_of c.self.inside.entries.items) c.args.number c.args.cell.now _
+    ((λ i. can_have_at (get (values (c.self.view_is i).objects) c.args.number) c.args.cell.now) ∙ c.requires.can)
+    c.content_with-content.ensures.present
+
+pub returns-then-not-is_present-clause-filled : goal.returns-then-not-is_present-clause-filled
+returns-then-not-is_present-clause-filled c =
+    subst (λ (s : Stored). IsFilledBelow s.objects c.args.number c.args.cell.now) c.self.view_is
+    (filled-below (things_of c.self.inside.entries.items) c.args.number c.args.cell.now c.self.invariant.valid
+    ((λ i. can_have_at (get (values (c.self.view_is i).objects) c.args.number) c.args.cell.now) ∙ c.requires.can))
+
+pub returns-else-not-is_present-clause-present : goal.returns-else-not-is_present-clause-present
+returns-else-not-is_present-clause-present c =
+    ap (λ m. is_some (part_at m c.args.number c.args.cell.now)) c.put-old.ensures.things
+    ∙ present-set (things_of c.self.inside.entries.items) c.args.number c.args.cell.now _
+    ((λ i. can_have_at (get (values (c.self.view_is i).objects) c.args.number) c.args.cell.now) ∙ c.requires.can)
+    c.content_with-content.ensures.present
+
+pub returns-else-not-is_present-clause-filled : goal.returns-else-not-is_present-clause-filled
+returns-else-not-is_present-clause-filled c =
+    subst (λ (s : Stored). IsFilledBelow s.objects c.args.number c.args.cell.now) c.self.view_is
+    (filled-below (things_of c.self.inside.entries.items) c.args.number c.args.cell.now c.self.invariant.valid
+    ((λ i. can_have_at (get (values (c.self.view_is i).objects) c.args.number) c.args.cell.now) ∙ c.requires.can))

@@ -6,7 +6,8 @@ use Rattle.t3_store.specs.Value.{units_in, cell_units, can_lose_at}
 use Rattle.t3_store.specs.Inner.Shapes.{Stored, values, risen, AreWithin}
 use Rattle.t3_store.specs.Inner.Valid.{AreValid}
 use Rattle.t3_store.specs.Inner.Entries.{things_of}
-use Rattle.t3_store.proofs.MapValues.{values-without}
+use Rattle.t3_store.proofs.MapValues.{values-without, present-can_at}
+use Rattle.t3_store.proofs.NoGaps.{filled-below}
 use Rattle.t3_store.proofs.Counting.{take-counted}
 use Rattle.t3_store.proofs.Ticks.{within-more, risen-least, least}
 use Rattle.t3_store.proofs.Validity.{valid-less, can-lose-form}
@@ -58,3 +59,9 @@ returns-clause-ticks c bound all =
           (within-more bound (risen bound (shown c.put-old.result)) _ (risen-least bound (shown c.put-old.result)) mine)
           (least bound (shown c.put-old.result)),
     )
+
+pub returns-clause-filled : goal.returns-clause-filled
+returns-clause-filled c =
+    filled-below c.args.self.now.objects c.args.number c.args.cell.now
+    (subst (λ (s : Stored). AreValid s.objects) c.self.view_is c.self.invariant.valid)
+    (present-can_at (get (values c.args.self.now.objects) c.args.number) c.args.cell.now c.requires.present)

@@ -1,13 +1,19 @@
-use Rattle.std.proofs.Common.{◌∙◌, ap, sym, subst, arith}
+use Rattle.std.proofs.Common.{◌∙◌, ap, sym, subst, drop, arith}
 use Rattle.std.specs.FinMap.{len}
-use Rattle.t3_store.specs.Inner.Shapes.{Shape, Stored, values, has_place, stamp_at, places_below, AreWithin}
-use Rattle.t3_undo.specs.Objects.{Objects, below}
+use Rattle.t3_store.specs.Inner.Shapes.{Shape, Stored, values, stamp_at, AreWithin}
+use Rattle.t3_undo.specs.Objects.{Objects, below, put_back}
 use Rattle.t3_undo.specs.UndoLaw.{undone}
 use Rattle.t3_store.specs.Value.{units_in}
 use Rattle.t3_store.specs.Inner.Valid.{AreValid}
-use Rattle.t3_store.specs.Inner.Entries.{things_of, places_in}
+use Rattle.t3_store.specs.Inner.Entries.{things_of, stored_of}
 use Rattle.t3_undo.specs.Stamps.{AreStamped}
-use Rattle.t3_store.proofs.Stamped.{places-below, stamped-back}
+use Rattle.t3_undo.specs.Journal.{newest_records}
+use Rattle.t3_store.specs.Inner.Bounded.{parts_under, AreBounded, IsWithoutGaps}
+use Rattle.t3_store.specs.Inner.Store.{CanEachBePut, IsSound}
+use Rattle.t3_store.proofs.FewPlaces.{bounded-below}
+use Rattle.t3_store.proofs.PlacesKept.{back-gaps, sound-cut}
+use Rattle.t3_store.proofs.Purged.{can-each}
+use Rattle.t3_store.proofs.Stamped.{stamped-back}
 use Rattle.t3_store.proofs.Ticks.{within-below}
 use Rattle.t3_store.proofs.Validity.{undone-is}
 use Rattle.t3_store.proofs.MapValues.{len-values}
@@ -37,11 +43,33 @@ returns-clause-ticks c bound all records =
     (within-below bound c.args.next _
     (c.put_back.ensures.ticks bound (subst (λ (s : Stored). AreWithin bound s.ticks) (sym c.self.view_is) all) records))
 
-pub returns-clause-places : goal.returns-clause-places
-returns-clause-places c q d =
-    (λ i. has_place (c.cut.ensures.places i) q d)
-    ∙ places-below c.args.next (places_in c.self.inside.entries.items) _ c.put_back.ensures.places q d
-    ∙ λ i. has_place (places_below c.args.next (c.self.view_is i).places) q d
+pub put_back-requires : goal.put_back-requires
+put_back-requires c =
+    let view = c.self.view_is in
+    record {
+      rising = c.self.invariant.rising;
+      limit = c.requires.limit;
+      can = subst (λ (s : Stored). CanEachBePut s.places c.args.journal.now.segments) (sym view)
+          (can-each c.args.self.now.places c.args.next c.args.journal.now.segments c.requires.sound);
+      stamped = subst (λ (s : Stored). AreStamped c.args.journal.now.marks (stamp_at s.places) c.args.journal.now.segments) (sym view)
+          c.requires.stamped;
+      bounded = subst (AreBounded c.args.records) (sym view) c.requires.bounded;
+      gaps = λ q noted.
+          subst (λ (s : Stored). IsWithoutGaps q (parts_under (put_back s.objects (newest_records c.args.journal.now.segments)) q)
+          (drop 1 c.args.journal.now.segments)) (sym view)
+          (back-gaps c.args.self.now.objects c.args.journal.now.segments c.args.self.now.places c.args.next c.requires.next c.requires.sound
+          c.requires.valid c.requires.gaps q noted);
+    }
+
+pub returns-clause-sound : goal.returns-clause-sound
+returns-clause-sound c =
+    subst (λ places. IsSound places c.args.next (drop 1 c.args.journal.now.segments)) (sym c.cut.ensures.places)
+    (sound-cut c.args.self.now.places _ c.args.next c.args.journal.now.segments c.requires.next c.requires.sound c.put_back.ensures.can)
+
+pub returns-clause-bounded : goal.returns-clause-bounded
+returns-clause-bounded c =
+    bounded-below c.args.records c.args.next (stored_of c.put_back.new.entries.items) (stored_of c.cut.new.entries.items) c.cut.ensures.things c.cut.ensures.places
+    c.put_back.ensures.bounded
 
 pub returns-clause-stamped : goal.returns-clause-stamped
 returns-clause-stamped c =

@@ -26,4 +26,4 @@ invariant_of-self-2 c =
     let few = ltb-false 4194304 (units_in m + key_units c.args.key)
     (ap (λ n. is_past_units m n) (sym c.cell_units.ensures) ∙ sym c.is_past_units-full.ensures ∙ open_full) in
     paired-kept c.self.inside.objects c.set.new.objects c.args.number (cells.Key c.args.key) (with_cell (cells.Key c.args.key) c.args.value)
-    _ c.self.invariant w sum (least-units c.args.key) few c.in_ok-_absent.ensures.stamps
+    _ c.self.invariant w sum (least-units c.args.key) few c.in_ok-_absent.ensures.placed

@@ -17,4 +17,4 @@ invariant_of-self c =
     overwritten-kept c.self.inside.objects c.overwrite-old.new.objects c.args.number cells.Default (with_cell cells.Default c.args.value)
     (shown c.overwrite-old.result) c.self.invariant c.overwrite-old.ensures.written
     (units-overwritten _ _ c.args.number cells.Default c.args.value _ c.overwrite-old.ensures.written there)
-    (default-some _ c.overwrite-old.ensures.written.formed) c.overwrite-old.ensures.places
+    (default-some _ c.overwrite-old.ensures.written.formed) c.overwrite-old.ensures.placed

@@ -11,30 +11,36 @@ use Rattle.t3_store.proofs.WholeStarted.{has-supers}
 use Rattle.t3_store.proofs.WholeWritten.{supers-both}
 use Rattle.t3_store.proofs.Changes.{room-for, neither}
 use Rattle.t3_store.proofs.Creating.{transient-created, value-none}
+use Rattle.t3_store.proofs.PlacesKept.{places-made}
 use Rattle.t3_store.proofs.store.Store.add_transient.Goals as goal
 
 pub invariant_of-self-2 : goal.invariant_of-self-2
 invariant_of-self-2 c =
-    let view = ap (λ s. s.store) c.self.view_is in
-    let room = room-for _ _ 1 c.args.units view c.requires.room in
-    let counts = c.requires.units in
-    let less = leb-false _ _ ((λ i. nat_le (2 ^ 32) (c.self.view_is i).store.next_transient) ∙ c.requires.number) in
-    transient-created c.self.inside.persistent c.self.inside.transient c.add.new.self c.self.inside.next c.self.inside.next_transient
-    c.self.inside.limits c.self.inside.journal c.self.inside.units.items (vec_capacity c.self.inside.units) c.self.inside.writes
-    (thing_of c.args.object) (places_of c.args.object) (tick_of c.args.object) c.self.invariant (omega arith) (omega arith) (omega arith)
-    (has-supers (supers_of_live c.args.self.now.store)
-    (supers_of_both c.self.inside.persistent.objects c.self.inside.transient.objects) (thing_of c.args.object)
-    (λ q. (λ i. option_and_then supers_of (value_at (sym view i) q))
-    ∙ supers-both c.self.inside.persistent.objects c.self.inside.transient.objects q) c.requires.supers) c.requires.tick c.requires.zero_stamps c.in_ok-add.ensures.ok
+    record {
+      is =
+          let view = ap (λ s. s.store) c.self.view_is in
+          let room = room-for _ _ 1 c.args.units view c.requires.room in
+          let counts = c.requires.units in
+          let less = leb-false _ _ ((λ i. nat_le (2 ^ 32) (c.self.view_is i).store.next_transient) ∙ c.requires.number) in
+          transient-created c.self.inside.persistent c.self.inside.transient c.add.new.self c.self.inside.next c.self.inside.next_transient
+          c.self.inside.limits c.self.inside.journal c.self.inside.units.items (vec_capacity c.self.inside.units) c.self.inside.writes
+          (thing_of c.args.object) (places_of c.args.object) (tick_of c.args.object) c.self.invariant.is (omega arith) (omega arith) (omega arith)
+          (has-supers (supers_of_live c.args.self.now.store)
+          (supers_of_both c.self.inside.persistent.objects c.self.inside.transient.objects) (thing_of c.args.object)
+          (λ q. (λ i. option_and_then supers_of (value_at (sym view i) q))
+          ∙ supers-both c.self.inside.persistent.objects c.self.inside.transient.objects q) c.requires.supers) c.requires.tick c.requires.no_empty c.in_ok-add.ensures.ok;
+      places = places-made c.self.inside.limits.records c.self.inside.persistent c.self.inside.transient _ c.self.inside.journal.segments
+          c.self.inside.next_transient _ _ _ c.self.invariant.places c.requires.no_empty c.in_ok-add.ensures.ok;
+    }
 
 pub returns-clause-fresh : goal.returns-clause-fresh
 returns-clause-fresh c =
     ap (λ s. value_at s c.self.inside.next_transient) (sym (ap (λ s. s.store) c.self.view_is))
     ∙ neither _ _ (value-none c.self.inside.persistent.objects c.self.inside.next_transient
-    (c.self.invariant.numbered.persistent_below c.self.inside.next_transient
-    (omega (arith, c.self.invariant.numbered.next_fits, c.self.invariant.numbered.transient_from))))
+    (c.self.invariant.is.numbered.persistent_below c.self.inside.next_transient
+    (omega (arith, c.self.invariant.is.numbered.next_fits, c.self.invariant.is.numbered.transient_from))))
     (value-none c.self.inside.transient.objects c.self.inside.next_transient
-    (c.self.invariant.numbered.transient_high c.self.inside.next_transient (omega arith)))
+    (c.self.invariant.is.numbered.transient_high c.self.inside.next_transient (omega arith)))
 
 pub returns-clause-ok : goal.returns-clause-ok
 returns-clause-ok c =

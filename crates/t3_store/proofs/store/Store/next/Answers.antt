@@ -7,4 +7,4 @@ pub returns-clause-numbers : goal.returns-clause-numbers
 returns-clause-numbers c =
     subst HasGivenNumbers (ap (λ s. s.store) c.self.view_is)
     (given-numbers c.self.inside.persistent.objects c.self.inside.transient.objects c.self.inside.next c.self.inside.next_transient
-    c.self.inside.limits c.self.inside.journal.segments c.self.invariant.numbered)
+    c.self.inside.limits c.self.inside.journal.segments c.self.invariant.is.numbered)

@@ -6,11 +6,11 @@ use Rattle.t3_store.proofs.store.Store.units.Goals as goal
 
 pub returns-clause-persistent : goal.returns-clause-persistent
 returns-clause-persistent c =
-    subst (λ (v : CountedStore). units_in v.store.persistent ≤ v.store.limits.units) c.self.view_is c.self.invariant.counted.persistent_units
+    subst (λ (v : CountedStore). units_in v.store.persistent ≤ v.store.limits.units) c.self.view_is c.self.invariant.is.counted.persistent_units
 
 pub returns-clause-transient : goal.returns-clause-transient
 returns-clause-transient c =
-    subst (λ (v : CountedStore). units_in v.store.transient ≤ v.store.limits.units) c.self.view_is c.self.invariant.counted.transient_units
+    subst (λ (v : CountedStore). units_in v.store.transient ≤ v.store.limits.units) c.self.view_is c.self.invariant.is.counted.transient_units
 
 pub returns-clause-fitting : goal.returns-clause-fitting
 returns-clause-fitting c =
@@ -25,4 +25,4 @@ returns-clause-distinct c =
 pub returns-clause-whole : goal.returns-clause-whole
 returns-clause-whole c =
     whole-persistent c.self.inside.persistent.objects c.self.inside.transient.objects c.args.self.now.store.persistent c.self.inside.next
-    c.self.inside.next_transient c.self.inside.journal.segments (λ i. (c.self.view_is i).store.persistent) c.self.invariant.whole
+    c.self.inside.next_transient c.self.inside.journal.segments (λ i. (c.self.view_is i).store.persistent) c.self.invariant.is.whole
