@@ -5,6 +5,7 @@
 //! objects N        N tads-objects without anything
 //! overwrite N K    N tads-objects with a property, which is then set K times, of one object after the other
 //! table N K        a table of N keys, of which each is found, taken away and set again, K times
+//! keys N           a table in which N keys are set and taken away, one after the other, with room for 1,000 records
 //! savepoint N K    N tads-objects, and K savepoints with nothing behind them
 //! undo N K R       N tads-objects, and R times a savepoint, K changes and an undo
 //! worlds           32 vectors of 65,535 elements, 1,024 savepoints, and as many undos
@@ -35,6 +36,7 @@ fn carry_out(rt: &HostRuntime) -> io::Result<()> {
         Some("objects") => runs::objects(rt.alloc(), count),
         Some("overwrite") => runs::overwrite(rt.alloc(), count, turns),
         Some("table") => runs::table(rt.alloc(), count, turns),
+        Some("keys") => runs::keys(rt.alloc(), count),
         Some("savepoint") => runs::savepoint(rt.alloc(), count, turns),
         Some("undo") => runs::undo(rt.alloc(), count, turns, rounds),
         Some("worlds") => runs::worlds(rt.alloc()),

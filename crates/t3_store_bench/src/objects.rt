@@ -19,6 +19,14 @@ pub(crate) const LARGEST: StoreLimits = StoreLimits {
     savepoints: 1_024,
 };
 
+/// Room for a play with few records.
+pub(crate) const PLAY: StoreLimits = StoreLimits {
+    objects: 1_024,
+    units: 65_536,
+    records: 1_000,
+    savepoints: 128,
+};
+
 /// Room for the worlds of vectors.
 pub(crate) const WORLDS: StoreLimits = StoreLimits {
     objects: 2_048,

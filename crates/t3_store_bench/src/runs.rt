@@ -1,5 +1,5 @@
 //! The runs, and what stands after each.
-use crate::objects::{self, LARGEST, WORLDS, create, empty_store, set, set_key};
+use crate::objects::{self, LARGEST, PLAY, WORLDS, create, empty_store, set, set_key};
 use std::alloc::{AllocError, Global};
 use t3_holder::{Holder, NoMemory};
 use t3_store::{NewObject, Store, StoreRefusal};
@@ -119,6 +119,17 @@ fn renew_all(store: &mut Store, table: u32, count: u32) -> Result<(), Failure> {
         set_key(store, table, key_of(key), Some(1))?;
     }
     Ok(())
+}
+
+/// A table in which so many keys come and go.
+pub(crate) fn keys(alloc: Global, count: u32) -> Result<Stands, Failure> {
+    let mut store = empty_store(alloc, PLAY)?;
+    let table = store.create(NewObject::Table, false)?;
+    for key in 0..count {
+        set_key(&mut store, table, key_of(key), Some(0))?;
+        set_key(&mut store, table, key_of(key), None)?;
+    }
+    Ok(Stands::of(&store))
 }
 
 /// So many savepoints with nothing behind them.
