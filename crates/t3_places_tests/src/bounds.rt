@@ -107,10 +107,9 @@ fn shrinks(
     left: u32,
     records: u64,
 ) -> Result<bool, Fail> {
-    let mut count = first;
-    while count > left {
+    for taken in 0..first.saturating_sub(left) {
+        let count = first.saturating_sub(taken).saturating_sub(1);
         take(store, vector, Cells::Elements, count)?;
-        count -= 1;
         if !has_at_most(
             store,
             vector,
