@@ -136,36 +136,50 @@ fn holders_stand_alone_too(rt: HostRuntime) -> Result<(), Fail> {
     Ok(())
 }
 
+/// Pages of 8 bytes. The first is one byte short, within a text; the second too, within a list. A length goes from the
+/// third to the last.
+const HOLED: [&[u8]; 4] = [
+    b"\x02\x00ab\x02\x00a",
+    b"a\x01\x00\x02\x00\x00\x00",
+    b"\x01\x00\x02\x00\x00\x00\x00\x01",
+    b"\x00a",
+];
+
+const AT_HOLES: [Row; 9] = [
+    (0, Some((2, 2)), None),
+    (4, None, None),
+    // Of a length the second byte isn't there, or the first.
+    (6, None, None),
+    (14, None, None),
+    (15, None, None),
+    (7, None, None),
+    (9, Some((11, 1)), None),
+    (16, Some((18, 1)), Some((18, 1))),
+    (23, Some((25, 1)), None),
+];
+
+/// Pages in which the last byte of a character isn't there.
+const CUT: [&[u8]; 2] = [b"\x04\x00ab\x01\xE2\x82", b"\xAC"];
+
+const NOTHING: [Row; 1] = [(0, None, None)];
+
+/// What stands in pages of a size is as these rows say.
+fn check_pages(
+    rt: &impl Abort,
+    alloc: Global,
+    size: u32,
+    pages: &[&[u8]],
+    rows: &[Row],
+) -> Result<(), Fail> {
+    let pools = constants(alloc, size, pages)?;
+    check_rows(rt, &pools, rows)
+}
+
 #[test]
 fn a_hole_ends_constants(rt: HostRuntime) -> Result<(), Fail> {
-    let alloc = rt.alloc();
-    // Pages of 8 bytes. The first is one byte short, within a text; the second too, within a list. A
-    // length goes from the third to the last.
-    let pages: [&[u8]; 4] = [
-        b"\x02\x00ab\x02\x00a",
-        b"a\x01\x00\x02\x00\x00\x00",
-        b"\x01\x00\x02\x00\x00\x00\x00\x01",
-        b"\x00a",
-    ];
-    let pools = constants(alloc, 8, &pages)?;
-    let rows: [Row; 9] = [
-        (0, Some((2, 2)), None),
-        (4, None, None),
-        // Of a length the second byte isn't there, or the first.
-        (6, None, None),
-        (14, None, None),
-        (15, None, None),
-        (7, None, None),
-        (9, Some((11, 1)), None),
-        (16, Some((18, 1)), Some((18, 1))),
-        (23, Some((25, 1)), None),
-    ];
-    check_rows(&rt, &pools, &rows)?;
-    // The last byte of a character isn't there.
-    let cut = constants(alloc, 8, &[b"\x04\x00ab\x01\xE2\x82", b"\xAC"])?;
-    check_rows(&rt, &cut, &[(0, None, None)])?;
-    let none = constants(alloc, 0, &[])?;
-    check_rows(&rt, &none, &[(0, None, None)])
+    check_pages(&rt, rt.alloc(), 8, &HOLED, &AT_HOLES)?;
+    check_pages(&rt, rt.alloc(), 8, &CUT, &NOTHING)?;
+    check_pages(&rt, rt.alloc(), 0, &[], &NOTHING)
 }
 
 #[test]
