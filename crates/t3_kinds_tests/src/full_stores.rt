@@ -26,57 +26,65 @@ fn table_store(alloc: Global, objects: u32) -> Result<Store, Fail>
     Ok(store)
 }
 
+/// What a method answers.
+type Answer = Result<Holder, OpRefusal>;
+
+const FULL: Answer = Err(OpRefusal::Full);
+
+/// What listing the keys of that table answers, whether the last object is a string of these bytes then, and
+/// how many objects there are.
+fn keys_listed(alloc: Global, objects: u32, bytes: &[u8]) -> Result<(Answer, bool, u32), Fail>
+    requires { objects ≤ 1048576 }
+{
+    let pools = pools(alloc)?;
+    let mut store = table_store(alloc, objects)?;
+    let answer = call(alloc, KEYS, Holder::Obj(2), &[], &mut store, &pools)?;
+    let stays = store.text(objects) == Some(bytes);
+    Ok((answer, stays, store.objects()))
+}
+
 #[test]
 fn the_first_strings_stay(rt: HostRuntime) -> Result<(), Fail> {
-    let alloc = rt.alloc();
-    let pools = pools(alloc)?;
-    let mut store = table_store(alloc, 3)?;
-    let answer = call(alloc, KEYS, Holder::Obj(2), &[], &mut store, &pools)?;
-    assert_eq!(rt; answer, Err(OpRefusal::Full));
-    assert_eq!(rt; store.text(3), Some(b"one".as_slice()));
-    assert_eq!(rt; store.objects(), 3);
+    assert_eq!(rt; keys_listed(rt.alloc(), 3, b"one")?, (FULL, true, 3));
     Ok(())
 }
 
 #[test]
 fn all_strings_stay(rt: HostRuntime) -> Result<(), Fail> {
-    let alloc = rt.alloc();
-    let pools = pools(alloc)?;
-    let mut store = table_store(alloc, 4)?;
-    let answer = call(alloc, KEYS, Holder::Obj(2), &[], &mut store, &pools)?;
-    assert_eq!(rt; answer, Err(OpRefusal::Full));
-    assert_eq!(rt; store.text(4), Some(b"two".as_slice()));
-    assert_eq!(rt; store.objects(), 4);
+    assert_eq!(rt; keys_listed(rt.alloc(), 4, b"two")?, (FULL, true, 4));
     Ok(())
+}
+
+/// What setting the length of a vector of a text to 5 answers in a store with room for three elements, and whether
+/// the vector has two nils more then.
+fn length_set(alloc: Global) -> Result<(Answer, bool), Fail> {
+    let pools = pools(alloc)?;
+    let mut store = empty_store(alloc, 10, 3)?;
+    let vector = add_vector(alloc, &mut store, &[TEXT])?;
+    let five = [Holder::Int(5)];
+    let answer = call(alloc, SET_LENGTH, vector, &five, &mut store, &pools)?;
+    let stays = has_elements(&store, vector, &[TEXT, Holder::Nil, Holder::Nil]);
+    Ok((answer, stays))
 }
 
 #[test]
 fn the_first_elements_stay(rt: HostRuntime) -> Result<(), Fail> {
-    let alloc = rt.alloc();
-    let pools = pools(alloc)?;
-    let mut store = empty_store(alloc, 10, 3)?;
-    let vector = add_vector(alloc, &mut store, &[TEXT])?;
-    let answer = call(
-        alloc,
-        SET_LENGTH,
-        vector,
-        &[Holder::Int(5)],
-        &mut store,
-        &pools,
-    )?;
-    assert_eq!(rt; answer, Err(OpRefusal::Full));
-    assert!(rt; has_elements(&store, vector, &[TEXT, Holder::Nil, Holder::Nil]));
+    assert_eq!(rt; length_set(rt.alloc())?, (FULL, true));
     Ok(())
 }
 
-#[test]
-fn a_full_store_makes_no_list(rt: HostRuntime) -> Result<(), Fail> {
-    let alloc = rt.alloc();
+/// What making a list of a vector answers in a store with room for no further object, and how many objects there are
+/// then.
+fn list_made(alloc: Global) -> Result<(Answer, u32), Fail> {
     let pools = pools(alloc)?;
     let mut store = empty_store(alloc, 1, 100)?;
     let vector = add_vector(alloc, &mut store, &[TEXT])?;
     let answer = call(alloc, (Methods::Vector, 0), vector, &[], &mut store, &pools)?;
-    assert_eq!(rt; answer, Err(OpRefusal::Full));
-    assert_eq!(rt; store.objects(), 1);
+    Ok((answer, store.objects()))
+}
+
+#[test]
+fn a_full_store_makes_no_list(rt: HostRuntime) -> Result<(), Fail> {
+    assert_eq!(rt; list_made(rt.alloc())?, (FULL, 1));
     Ok(())
 }

@@ -94,27 +94,38 @@ fn a_list_of_keys(rt: HostRuntime) -> Result<(), Fail> {
     Ok(())
 }
 
-#[test]
-fn a_removed_key(rt: HostRuntime) -> Result<(), Fail> {
-    let alloc = rt.alloc();
+/// A method on the table with arguments, and the value that it answers.
+type TurnRow = (At, &'static [Holder], Holder);
+
+/// The index of the first row that isn't so, one after the other in one store.
+fn first_unlike_in_turn(alloc: Global, rows: &[TurnRow]) -> Result<Option<usize>, Fail> {
     let pools = pools(alloc)?;
     let mut store = store(alloc)?;
-    let _former = call(alloc, REMOVE, TABLE, &[SEVEN], &mut store, &pools)?;
-    let present = call(alloc, PRESENT, TABLE, &[SEVEN], &mut store, &pools)?;
-    assert_eq!(rt; present, Ok(Holder::Nil));
-    let count = call(alloc, COUNT, TABLE, &[], &mut store, &pools)?;
-    assert_eq!(rt; count, Ok(Holder::Int(1)));
+    for index in 0..rows.len() {
+        let (at, args, want) = rows[index];
+        if call(alloc, at, TABLE, args, &mut store, &pools)? != Ok(want) {
+            return Ok(Some(index));
+        }
+    }
+    Ok(None)
+}
+
+const REMOVED: [TurnRow; 3] = [
+    (REMOVE, &[SEVEN], EIGHT),
+    (PRESENT, &[SEVEN], Holder::Nil),
+    (COUNT, &[], Holder::Int(1)),
+];
+
+#[test]
+fn a_removed_key(rt: HostRuntime) -> Result<(), Fail> {
+    assert_eq!(rt; first_unlike_in_turn(rt.alloc(), &REMOVED)?, None);
     Ok(())
 }
 
+const DEFAULTS: [TurnRow; 2] = [(SET_DEFAULT, &[SEVEN], Holder::Nil), (DEFAULT, &[], SEVEN)];
+
 #[test]
 fn a_default(rt: HostRuntime) -> Result<(), Fail> {
-    let alloc = rt.alloc();
-    let pools = pools(alloc)?;
-    let mut store = store(alloc)?;
-    let set = call(alloc, SET_DEFAULT, TABLE, &[SEVEN], &mut store, &pools)?;
-    assert_eq!(rt; set, Ok(Holder::Nil));
-    let default = call(alloc, DEFAULT, TABLE, &[], &mut store, &pools)?;
-    assert_eq!(rt; default, Ok(SEVEN));
+    assert_eq!(rt; first_unlike_in_turn(rt.alloc(), &DEFAULTS)?, None);
     Ok(())
 }

@@ -4,6 +4,7 @@ use crate::fixture::{
     add_vector, call, empty_store, first_unlike, has_elements, pools,
 };
 use std::alloc::Global;
+use std::process::Abort;
 use std::test::Fail;
 use t3_holder::Holder;
 use t3_kinds::Methods;
@@ -164,10 +165,21 @@ fn a_vector_of_65535(rt: HostRuntime) -> Result<(), Fail> {
     let pools = pools(alloc)?;
     let mut store = empty_store(alloc, 10, 100_000)?;
     let vector = add_vector(alloc, &mut store, &[FOUR])?;
-    assert!(rt; has_length(alloc, vector, 65_535, &mut store, &pools)?);
-    let longer = call(alloc, APPEND, vector, &[FOUR], &mut store, &pools)?;
+    check_long(&rt, alloc, vector, &mut store, &pools)
+}
+
+/// A vector becomes as long as can be, and short again.
+fn check_long(
+    rt: &impl Abort,
+    alloc: Global,
+    vector: Holder,
+    store: &mut Store,
+    pools: &Pools,
+) -> Result<(), Fail> {
+    assert!(rt; has_length(alloc, vector, 65_535, store, pools)?);
+    let longer = call(alloc, APPEND, vector, &[FOUR], store, pools)?;
     assert_eq!(rt; longer, Err(OpRefusal::Fault(Fault::ListLong)));
-    assert!(rt; has_length(alloc, vector, 1, &mut store, &pools)?);
-    assert!(rt; has_elements(&store, vector, &[FOUR]));
+    assert!(rt; has_length(alloc, vector, 1, store, pools)?);
+    assert!(rt; has_elements(store, vector, &[FOUR]));
     Ok(())
 }
