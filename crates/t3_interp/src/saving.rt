@@ -21,7 +21,7 @@ use t3_holder::{Bytes, Holder, NoMemory};
 use t3_load::Program;
 use t3_ops::Fault;
 use t3_snapshot::{
-    SnapshotRefusal, decode, encode, good_objects_can_be_saved, savable_objects, state_text,
+    SnapshotRefusal, decode, encode_objects, good_objects_can_be_saved, savable_objects, state_text,
 };
 use t3_store::{Admit, Persistent, Store};
 
@@ -159,6 +159,6 @@ fn state_bytes(alloc: Global, program: &Program, store: &Store) -> Result<Vec<u8
     // What a store knows of its objects, and what holds of their values, makes them a state.
     good_objects_can_be_saved();
     savable_objects();
-    let state = store.persistent_copy(alloc)?;
-    encode(alloc, &state, &program.fingerprint, store.next())
+    let objects = store.persistent_objects();
+    encode_objects(alloc, &objects, &program.fingerprint, store.next())
 }

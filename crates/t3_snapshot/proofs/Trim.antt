@@ -13,7 +13,7 @@ use Rattle.t3_tables.specs.declared.pair.Pair.{Pair}
 use Rattle.t3_store.specs.Value.{Value, Objects, PropMap, Tads, Text, Items, Vector, Table, supers_of, is_class_at, props_at, text_of, items_in, length_of, entries_in, holder_at}
 use Rattle.t3_snapshot.specs.Layout.{object_text, class_text, super_text, prop_text, counted_text, value_text, IsProp, AreCounted, AreInTurn, IsSpellable}
 use Rattle.t3_snapshot.specs.State.{trimmed, trimmed_holder, trimmed_prop, trimmed_value, IsSoundState}
-use Rattle.t3_snapshot.specs.Inner.Writing.{WritableAt, IsWritable, trimmed_text, tads_written, object_written, value_written}
+use Rattle.t3_snapshot.specs.Inner.Writing.{WritableAt, IsWritable, trimmed_text, tads_written, object_written}
 use Rattle.t3_snapshot.proofs.Sorted.{mapped_are}
 use Rattle.t3_snapshot.proofs.Entries.{entries_held}
 use Rattle.t3_snapshot.proofs.Walk.{none_above}
@@ -34,7 +34,7 @@ entries_there state = entries_held state
 -- what is written of each number is the text of its object
 texts_written : (state : Objects) (es : List (ℕ × Value)) → AllByRecursion (IsThere state) es
     → flat_map (object_written state) (map (λ e. e.0) es) ≡ flat_map object_text (map (trim state) es)
-unfolding object_written value_written object_text
+unfolding object_written object_text
 texts_written state [] there = refl
 texts_written state (e ∷ es) there =
     flat_map-cons (λ n. little_endian 4 n ++ trimmed_text state (get state n)) e.0 (map (λ e. e.0) es)

@@ -7,18 +7,18 @@ ghost use Rattle.t3_snapshot.specs.State.{trimmed_holder, trimmed_entry, trimmed
 ghost use Rattle.t3_snapshot.specs.Inner.Writing.{kept_text};
 
 use t3_holder::{Holder, NoMemory, raw_bytes, raw_of, u16_bytes, u32_bytes};
-use t3_store::Persistent;
+use t3_store::ObjectsRef;
 use t3_tables::Pair;
 use t3_tadsobj::PropValue;
 use t3_undo::Key;
 
 /// Nil for a reference that names no object.
-fn trimmed_holder(state: &Persistent, holder: Holder) -> Holder
+fn trimmed_holder(state: &ObjectsRef<'_>, holder: Holder) -> Holder
     ensures { result ≡ trimmed_holder state.now holder }
 {
     match holder {
         Holder::Obj(number) => {
-            if state.kind(number).is_some() {
+            if state.at(number).is_object() {
                 Holder::Obj(number)
             } else {
                 Holder::Nil
@@ -29,11 +29,11 @@ fn trimmed_holder(state: &Persistent, holder: Holder) -> Holder
 }
 
 /// Whether a key isn't such a reference.
-fn keeps_key(state: &Persistent, key: &Key) -> bool
+fn keeps_key(state: &ObjectsRef<'_>, key: &Key) -> bool
     ensures { result ≡ keeps_key state.now key.now }
 {
     match key {
-        Key::Obj(number) => state.kind(*number).is_some(),
+        Key::Obj(number) => state.at(*number).is_object(),
         _ => true,
     }
 }
@@ -60,7 +60,7 @@ fn holder_bytes(holder: Holder) -> [u8; 5]
 
 /// Appends a holder, nil for a reference that names no object.
 pub(crate) fn append_holder(
-    state: &Persistent,
+    state: &ObjectsRef<'_>,
     holder: Holder,
     out: &mut Vec<u8>,
 ) -> Result<(), NoMemory>
@@ -72,7 +72,11 @@ pub(crate) fn append_holder(
 }
 
 /// Appends holders.
-fn append_holders(state: &Persistent, holders: &[Holder], out: &mut Vec<u8>) -> Result<(), NoMemory>
+fn append_holders(
+    state: &ObjectsRef<'_>,
+    holders: &[Holder],
+    out: &mut Vec<u8>,
+) -> Result<(), NoMemory>
     requires { AllByRecursion IsGoodHolder (map (trimmed_holder state.now) holders.now) }
     ensures { OnOk result (out.new.items ≡ out.old.items
         ++ flat_map (λ holder. holder_text (trimmed_holder state.now holder)) holders.now) }
@@ -87,7 +91,7 @@ fn append_holders(state: &Persistent, holders: &[Holder], out: &mut Vec<u8>) -> 
 /// Appends the items of a list, or the elements of a vector, after their count.
 #[tactic(auto, unfolding(crate::specs::Layout::counted_text))]
 pub(crate) fn append_list(
-    state: &Persistent,
+    state: &ObjectsRef<'_>,
     holders: &[Holder],
     out: &mut Vec<u8>,
 ) -> Result<(), NoMemory>
@@ -147,7 +151,7 @@ fn append_key(key: &Key, out: &mut Vec<u8>) -> Result<(), NoMemory>
 
 /// Appends an entry.
 #[tactic(auto, unfolding(crate::specs::Layout::entry_text))]
-fn append_entry(state: &Persistent, pair: &Pair, out: &mut Vec<u8>) -> Result<(), NoMemory>
+fn append_entry(state: &ObjectsRef<'_>, pair: &Pair, out: &mut Vec<u8>) -> Result<(), NoMemory>
     requires { IsEntry (trimmed_entry state.now pair.now) }
     ensures { OnOk result (out.new.items
         ≡ out.old.items ++ entry_text (trimmed_entry state.now pair.now)) }
@@ -157,7 +161,7 @@ fn append_entry(state: &Persistent, pair: &Pair, out: &mut Vec<u8>) -> Result<()
 }
 
 /// Appends an entry, but none under a key that refers to what isn't there.
-fn append_kept(state: &Persistent, pair: &Pair, out: &mut Vec<u8>) -> Result<(), NoMemory>
+fn append_kept(state: &ObjectsRef<'_>, pair: &Pair, out: &mut Vec<u8>) -> Result<(), NoMemory>
     requires { IsTrue (keeps_key state.now pair.now.key)
         → IsEntry (trimmed_entry state.now pair.now) }
     ensures { OnOk result (out.new.items ≡ out.old.items ++ kept_text state.now pair.now) }
@@ -169,7 +173,7 @@ fn append_kept(state: &Persistent, pair: &Pair, out: &mut Vec<u8>) -> Result<(),
 }
 
 /// Appends the entries that are kept.
-fn append_entries(state: &Persistent, pairs: &[Pair], out: &mut Vec<u8>) -> Result<(), NoMemory>
+fn append_entries(state: &ObjectsRef<'_>, pairs: &[Pair], out: &mut Vec<u8>) -> Result<(), NoMemory>
     requires { AllByRecursion (λ pair. IsTrue (keeps_key state.now pair.key)
         → IsEntry (trimmed_entry state.now pair)) pairs.now }
     ensures { OnOk result (out.new.items
@@ -182,7 +186,7 @@ fn append_entries(state: &Persistent, pairs: &[Pair], out: &mut Vec<u8>) -> Resu
 }
 
 /// How many entries are kept.
-fn count_kept(state: &Persistent, pairs: &[Pair]) -> usize
+fn count_kept(state: &ObjectsRef<'_>, pairs: &[Pair]) -> usize
     ensures { result ≡ length (filter (λ pair. keeps_key state.now pair.key) pairs.now) }
 {
     pairs
@@ -194,7 +198,7 @@ fn count_kept(state: &Persistent, pairs: &[Pair]) -> usize
 /// Appends the entries that are kept after their count.
 #[tactic(auto, unfolding(crate::specs::Layout::counted_text))]
 pub(crate) fn append_table(
-    state: &Persistent,
+    state: &ObjectsRef<'_>,
     pairs: &[Pair],
     out: &mut Vec<u8>,
 ) -> Result<(), NoMemory>
@@ -232,7 +236,7 @@ pub(crate) fn append_supers(supers: &[u32], out: &mut Vec<u8>) -> Result<(), NoM
 
 /// Appends a property: its number and its value.
 #[tactic(auto, unfolding(crate::specs::Layout::prop_text))]
-fn append_prop(state: &Persistent, prop: PropValue, out: &mut Vec<u8>) -> Result<(), NoMemory>
+fn append_prop(state: &ObjectsRef<'_>, prop: PropValue, out: &mut Vec<u8>) -> Result<(), NoMemory>
     requires { IsProp (trimmed_prop state.now (pair_of prop)) }
     ensures { OnOk result (out.new.items
         ≡ out.old.items ++ prop_text (trimmed_prop state.now (pair_of prop))) }
@@ -243,7 +247,7 @@ fn append_prop(state: &Persistent, prop: PropValue, out: &mut Vec<u8>) -> Result
 
 /// Appends properties.
 fn append_prop_values(
-    state: &Persistent,
+    state: &ObjectsRef<'_>,
     props: &[PropValue],
     out: &mut Vec<u8>,
 ) -> Result<(), NoMemory>
@@ -261,7 +265,7 @@ fn append_prop_values(
 /// Appends properties after their count.
 #[tactic(auto, unfolding(crate::specs::Layout::counted_text))]
 pub(crate) fn append_props(
-    state: &Persistent,
+    state: &ObjectsRef<'_>,
     props: &[PropValue],
     out: &mut Vec<u8>,
 ) -> Result<(), NoMemory>

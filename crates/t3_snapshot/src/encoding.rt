@@ -8,7 +8,7 @@ ghost use Rattle.t3_undo.specs.declared.cell.Cell.TheVariants.{Default, Elem};
 ghost use Rattle.t3_store.specs.Value.{Vector, Items, Text, Table, holder_at, pair_of};
 ghost use Rattle.t3_snapshot.specs.Layout.{class_text, value_text, IsSpellable, IsProp, AreCounted};
 ghost use Rattle.t3_snapshot.specs.State.{One, trimmed, trimmed_value, trimmed_prop, saved, IsSoundState, head_text, body_text, with_digest};
-ghost use Rattle.t3_snapshot.specs.Inner.Writing.{IsWritable, tads_written, object_written, value_written};
+ghost use Rattle.t3_snapshot.specs.Inner.Writing.{WritableAt, IsWritable, trimmed_text, tads_written, object_written};
 
 use crate::append::{
     append_bytes, append_holder, append_list, append_props, append_supers, append_table,
@@ -16,9 +16,9 @@ use crate::append::{
 use sha2::{Digest, Sha256};
 use std::alloc::Global;
 use t3_holder::{Holder, NoMemory, u16_bytes, u32_bytes};
-use t3_store::Persistent;
+use t3_store::{ObjectAt, ObjectsRef, Persistent};
 use t3_tables::Pair;
-use t3_tadsobj::{PropValue, Supers};
+use t3_tadsobj::PropValue;
 use t3_undo::Cell;
 
 /// The bytes of a state without what refers to what isn't there: nil for a reference that names no object of
@@ -29,6 +29,20 @@ use t3_undo::Cell;
 pub fn encode(
     alloc: Global,
     state: &Persistent,
+    fingerprint: &[u8; 32],
+    next: u32,
+) -> Result<Vec<u8>, NoMemory>
+    requires { IsSoundState (trimmed state.now) next }
+    ensures { IfOk result (λ bytes.
+        bytes.items ≡ saved One (trimmed state.now) fingerprint.now next) }
+{
+    encode_objects(alloc, &state.as_objects(), fingerprint, next)
+}
+
+/// The same of objects that are lent, without a copy of them.
+pub fn encode_objects(
+    alloc: Global,
+    state: &ObjectsRef<'_>,
     fingerprint: &[u8; 32],
     next: u32,
 ) -> Result<Vec<u8>, NoMemory>
@@ -55,7 +69,7 @@ fn append_digest(out: &mut Vec<u8>) -> Result<(), NoMemory>
 /// Appends all but the digest.
 fn append_state(
     alloc: Global,
-    state: &Persistent,
+    state: &ObjectsRef<'_>,
     fingerprint: &[u8; 32],
     next: u32,
     out: &mut Vec<u8>,
@@ -93,7 +107,7 @@ fn append_counts(next: u32, count: u32, out: &mut Vec<u8>) -> Result<(), NoMemor
 }
 
 /// The numbers of all objects, rising.
-pub fn numbers_of(alloc: Global, state: &Persistent) -> Result<Vec<u32>, NoMemory>
+fn numbers_of(alloc: Global, state: &ObjectsRef<'_>) -> Result<Vec<u32>, NoMemory>
     requires { get state.now 0 ≡ None }
     ensures { IfOk result (λ numbers. numbers.items ≡ keys state.now) }
 {
@@ -109,7 +123,7 @@ pub fn numbers_of(alloc: Global, state: &Persistent) -> Result<Vec<u32>, NoMemor
 /// Appends objects.
 fn append_objects(
     alloc: Global,
-    state: &Persistent,
+    state: &ObjectsRef<'_>,
     numbers: &[u32],
     out: &mut Vec<u8>,
 ) -> Result<(), NoMemory>
@@ -128,51 +142,52 @@ fn append_objects(
 #[tactic(auto, unfolding(crate::specs::Inner::Writing::object_written))]
 fn append_object(
     alloc: Global,
-    state: &Persistent,
+    state: &ObjectsRef<'_>,
     number: u32,
     out: &mut Vec<u8>,
 ) -> Result<(), NoMemory>
     requires { IsWritable state.now number }
     ensures { OnOk result (out.new.items ≡ out.old.items ++ object_written state.now number) }
 {
+    let object = state.at(number);
     out.extend_from_slice(&u32_bytes(number))?;
-    append_value(alloc, state, number, out)?;
+    append_value(alloc, state, &object, out)?;
     Ok(())
 }
 
-/// Appends a value.
+/// Appends the value of an object.
 fn append_value(
     alloc: Global,
-    state: &Persistent,
-    number: u32,
+    state: &ObjectsRef<'_>,
+    object: &ObjectAt<'_>,
     out: &mut Vec<u8>,
 ) -> Result<(), NoMemory>
-    requires { IsWritable state.now number }
-    ensures { OnOk result (out.new.items ≡ out.old.items ++ value_written state.now number) }
+    requires { WritableAt state.now object.now }
+    ensures { OnOk result (out.new.items ≡ out.old.items ++ trimmed_text state.now object.now) }
 {
-    if let Some(supers) = state.supers(number) {
-        let props = state.props(alloc, number)?;
-        let class = state.is_class(number);
+    if let Some(supers) = object.supers() {
+        let props = object.props(alloc)?;
+        let class = object.is_class();
         return append_tads_value(state, supers, class, props.items(), out);
     }
-    if let Some(bytes) = state.text(number) {
+    if let Some(bytes) = object.text() {
         return append_string_value(state, bytes, out);
     }
-    if let Some(items) = state.items(number) {
+    if let Some(items) = object.items() {
         return append_list_value(state, items, out);
     }
-    if let Some(count) = state.length(number) {
-        let items = elements(alloc, state, number, count)?;
+    if let Some(count) = object.length() {
+        let items = elements(alloc, object, count)?;
         return append_vector_value(state, &items, out);
     }
-    let pairs = state.entries(alloc, number)?;
-    append_table_value(state, pairs.items(), default_of(state, number), out)
+    let pairs = object.entries(alloc)?;
+    append_table_value(state, pairs.items(), default_of(object), out)
 }
 
 /// Appends a tads-object: its kind, its flags, its superclasses, its properties.
 #[tactic(auto, unfolding(crate::specs::Inner::Writing::tads_written))]
 fn append_tads_value(
-    state: &Persistent,
+    state: &ObjectsRef<'_>,
     supers: &[u32],
     class: bool,
     props: &[PropValue],
@@ -201,7 +216,11 @@ fn append_class(class: bool, out: &mut Vec<u8>) -> Result<(), NoMemory>
 
 /// Appends a string: its kind, its bytes.
 #[tactic(auto, unfolding(crate::specs::Layout::value_text))]
-fn append_string_value(state: &Persistent, bytes: &[u8], out: &mut Vec<u8>) -> Result<(), NoMemory>
+fn append_string_value(
+    state: &ObjectsRef<'_>,
+    bytes: &[u8],
+    out: &mut Vec<u8>,
+) -> Result<(), NoMemory>
     requires { IsSpellable (trimmed_value state.now (Text bytes.now)) }
     ensures { OnOk result (out.new.items
         ≡ out.old.items ++ value_text (trimmed_value state.now (Text bytes.now))) }
@@ -215,7 +234,7 @@ fn append_string_value(state: &Persistent, bytes: &[u8], out: &mut Vec<u8>) -> R
 /// Appends a list: its kind, its items.
 #[tactic(auto, unfolding(crate::specs::Layout::value_text))]
 fn append_list_value(
-    state: &Persistent,
+    state: &ObjectsRef<'_>,
     items: &[Holder],
     out: &mut Vec<u8>,
 ) -> Result<(), NoMemory>
@@ -231,7 +250,7 @@ fn append_list_value(
 /// Appends a vector: its kind, its elements.
 #[tactic(auto, unfolding(crate::specs::Layout::value_text))]
 fn append_vector_value(
-    state: &Persistent,
+    state: &ObjectsRef<'_>,
     items: &[Holder],
     out: &mut Vec<u8>,
 ) -> Result<(), NoMemory>
@@ -247,7 +266,7 @@ fn append_vector_value(
 /// Appends a table: its kind, its default, its entries.
 #[tactic(auto, unfolding(crate::specs::Layout::value_text))]
 fn append_table_value(
-    state: &Persistent,
+    state: &ObjectsRef<'_>,
     pairs: &[Pair],
     default: Holder,
     out: &mut Vec<u8>,
@@ -263,36 +282,29 @@ fn append_table_value(
 }
 
 /// The default of a table.
-fn default_of(state: &Persistent, number: u32) -> Holder
-    ensures { result ≡ unwrap_or (holder_at (get state.now number) Default) Nil }
+fn default_of(object: &ObjectAt<'_>) -> Holder
+    ensures { result ≡ unwrap_or (holder_at object.now Default) Nil }
 {
-    state.get(number, &Cell::Default).unwrap_or(Holder::Nil)
+    object.get(&Cell::Default).unwrap_or(Holder::Nil)
 }
 
 /// The elements of a vector.
-fn elements(
-    alloc: Global,
-    state: &Persistent,
-    number: u32,
-    count: u32,
-) -> Result<Vec<Holder>, NoMemory>
-    requires { (items : List AnyHolder) × (get state.now number ≡ Some (Vector items))
+fn elements(alloc: Global, object: &ObjectAt<'_>, count: u32) -> Result<Vec<Holder>, NoMemory>
+    requires { (items : List AnyHolder) × (object.now ≡ Some (Vector items))
         × (count ≡ length items) }
-    ensures { IfOk result (λ holders. get state.now number ≡ Some (Vector holders.items)) }
+    ensures { IfOk result (λ holders. object.now ≡ Some (Vector holders.items)) }
 {
     let mut holders = Vec::new(alloc);
     for index in 0..count {
-        holders.push(element(state, number, index))?;
+        holders.push(element(object, index))?;
     }
     Ok(holders)
 }
 
 /// An element of a vector, from 0 on.
-fn element(state: &Persistent, number: u32, index: u32) -> Holder
+fn element(object: &ObjectAt<'_>, index: u32) -> Holder
     requires { index + 1 < 2 ^ 32 }
-    ensures { result ≡ unwrap_or (holder_at (get state.now number) (Elem (index + 1))) Nil }
+    ensures { result ≡ unwrap_or (holder_at object.now (Elem (index + 1))) Nil }
 {
-    state
-        .get(number, &Cell::Elem(index + 1))
-        .unwrap_or(Holder::Nil)
+    object.get(&Cell::Elem(index + 1)).unwrap_or(Holder::Nil)
 }

@@ -35,7 +35,7 @@ mod saved_object;
 
 pub use builder::StateBuilder;
 pub use decoding::decode;
-pub use encoding::{encode, numbers_of};
+pub use encoding::{encode, encode_objects};
 pub use laws::{
     HolderProperty, good_objects_can_be_saved, savable_objects, state_objects_are_good, state_text,
 };

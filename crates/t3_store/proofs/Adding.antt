@@ -28,7 +28,7 @@ added-kept old new n thing own tick is none high low room young fresh changed =
       few_units = (let fits = little.1 in omega (arith, sum));
       ticks = within-insert _ old.ticks n tick (within-more (units_in (values old.objects) + 1) _ old.ticks (omega (arith, sum)) is.ticks)
           (omega arith);
-      no_empty = no-empty-insert old n tick thing own is.no_empty fresh;
+      fresh_places = no-empty-insert old n tick thing own is.fresh_places fresh;
     })
   where
     more : values (insert old.objects n thing) ≡ insert (values old.objects) n (value_of thing)
@@ -57,7 +57,7 @@ overwritten-kept old new n c g was is w same some placed = record {
   few = (let size = ap len w.values ∙ len-adjust (values old.objects) n g in let fits = is.few in omega arith);
   few_units = (let fits = is.few_units in omega arith);
   ticks = subst (λ (k : ℕ). AreWithin (k + 1) new.ticks) (sym same) (stood was some (w.ticks (units_in (values old.objects) + 1) is.ticks).1);
-  no_empty = no-empty-placed old new n c w.content w.objects placed is.no_empty;
+  fresh_places = no-empty-placed old new n c w.content w.objects placed is.fresh_places;
 }
   where
     stood : (o : Option Present) → IsSome o → AreWithin (risen (units_in (values old.objects) + 1) o) new.ticks
@@ -76,7 +76,7 @@ paired-kept old new n c g was is w sum one few placed = record {
   few_units = omega arith;
   ticks = within-more (risen (units_in (values old.objects) + 1) was) _ new.ticks
       (let most = risen-most (units_in (values old.objects) + 1) was in omega arith) (w.ticks (units_in (values old.objects) + 1) is.ticks).1;
-  no_empty = no-empty-placed old new n c w.content w.objects placed is.no_empty;
+  fresh_places = no-empty-placed old new n c w.content w.objects placed is.fresh_places;
 }
 
 -- of two that aren't both true, the first of which is, the second is false

@@ -8,10 +8,10 @@ use Rattle.std.proofs.lemmas.List.{map-append, take_more}
 use Rattle.t3_undo.specs.Content.{Parts, places_for}
 use Rattle.t3_undo.specs.Objects.{set_at}
 use Rattle.t3_store.specs.Value.{Value, Text, units_of, units_in}
-use Rattle.t3_store.specs.Inner.Shapes.{Shape, thing_of, places_of, tick_of, value_of, values, AreWithin, HasNoEmptyPlace}
-use Rattle.t3_store.specs.Inner.Bounded.{parts_of, HaveNoEmptyPlaces}
+use Rattle.t3_store.specs.Inner.Shapes.{Shape, thing_of, places_of, tick_of, value_of, values, AreWithin, HasFreshPlaces}
+use Rattle.t3_store.specs.Inner.Bounded.{parts_of, HaveFreshPlaces}
 use Rattle.t3_store.specs.Inner.Valid.{IsValid, AreValid}
-use Rattle.t3_store.specs.Inner.Entries.{IsRising, by_number, object_at, things_of, ticks_in, keyed, AreAllValid, stored_of, HaveTicksForUnits, HaveAllNoEmptyPlace}
+use Rattle.t3_store.specs.Inner.Entries.{IsRising, by_number, object_at, things_of, ticks_in, keyed, AreAllValid, stored_of, HaveTicksForUnits, HaveAllFreshPlaces}
 use Rattle.t3_store.specs.declared.object.Object.{Object}
 use Rattle.t3_store.specs.declared.entries.Entry.{Entry}
 use Rattle.t3_store.proofs.Rows.{same, same-is, same-itself, get-by_number, missed-object}
@@ -114,9 +114,9 @@ each-valid es all q thing e =
     subst IsValid found.1.1.0 found.1.1.1
 
 -- where no object of a row has an empty place, none has under its number
-pub no-empty-each : (es : List Entry) → HaveAllNoEmptyPlace es → HaveNoEmptyPlaces (stored_of es)
+pub no-empty-each : (es : List Entry) → HaveAllFreshPlaces es → HaveFreshPlaces (stored_of es)
 no-empty-each es all q own e =
-    let found = read-each places_of HasNoEmptyPlace es q own all e in
+    let found = read-each places_of HasFreshPlaces es q own all e in
     sym found.1.1.0 ∙ found.1.1.1
     ∙ ap (λ o. places_for (parts_of o)) (sym (get-by_number thing_of es q ∙ ap (option_map thing_of) found.1.0))
 

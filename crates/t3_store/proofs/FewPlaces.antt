@@ -15,7 +15,7 @@ use Rattle.t3_undo.proofs.PuttingBack.{get-below}
 use Rattle.t3_undo.proofs.Purging.{few-places}
 use Rattle.t3_undo.proofs.SlotLists.{zero_if, get-places_for}
 use Rattle.t3_store.specs.Inner.Shapes.{Shape, Stored, stamp_in, stamp_at, places_below}
-use Rattle.t3_store.specs.Inner.Bounded.{parts_of, parts_under, IsBounded, AreBounded, AreOthersBounded, HaveNoEmptyPlaces, IsPlaced}
+use Rattle.t3_store.specs.Inner.Bounded.{parts_of, parts_under, IsBounded, AreBounded, AreOthersBounded, HaveFreshPlaces, IsPlaced}
 use Rattle.t3_store.specs.Inner.Store.{NotesChange}
 use Rattle.t3_store.proofs.OwnPlaces.{OwnPlaced, Other, Kept, Made, own-placed, parts-other}
 use Rattle.t3_store.proofs.Rows.{same, same-is, differs}
@@ -46,7 +46,7 @@ len-places_for parts =
 bounded-none-empty : (r : ℕ) (parts : Parts) (own : Places) → own ≡ places_for parts → IsBounded r parts own
 bounded-none-empty r parts own is = let few = len-places_for parts in let size : len own ≡ len (places_for parts) = ap len is in omega (arith, few, size)
 
-pub bounded-afresh : (r : ℕ) (stored : Stored) → HaveNoEmptyPlaces stored → AreBounded r stored
+pub bounded-afresh : (r : ℕ) (stored : Stored) → HaveFreshPlaces stored → AreBounded r stored
 bounded-afresh r stored all number own e = bounded-none-empty r (parts_under stored.objects number) own (all number own e)
 
 -- ---- a cell is set

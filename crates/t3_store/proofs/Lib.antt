@@ -9,7 +9,7 @@ pub mod FirstFrom
 pub mod MapValues
 pub mod Outcomes
 pub mod ZeroStamps
-pub mod EmptyPlaces
+pub mod FreshPlaces
 pub mod Replacing
 pub mod Counting
 pub mod Places

@@ -26,7 +26,7 @@ use Rattle.t3_store.specs.Inner.Entries.{IsRising, by_number, object_at, things_
 use Rattle.t3_store.specs.declared.entries.Entry.{Entry}
 use Rattle.t3_store.specs.Inner.Store.{IsPersistent}
 use Rattle.t3_store.proofs.TadsValues.{props-set}
-use Rattle.t3_store.proofs.EmptyPlaces.{places-none, places-set, no-empty-none}
+use Rattle.t3_store.proofs.FreshPlaces.{places-none, places-set, no-empty-none}
 use Rattle.t3_store.proofs.KindValues.{HasApartKeys, apart-keys, held-value, value-without, present-can, units_of-with, units_of-without}
 use Rattle.t3_store.proofs.Rows.{same, same-is, differs, get-by_number, len-by_number}
 
@@ -312,7 +312,7 @@ pub record IsMade (object : Tadsobject.Tads) (supers : List ℕ) (class : Bool) 
   pub kind : object.class ≡ class
   pub within : left ≤ length items
   pub props : AreProps object.parts
-  pub no_empty : object.places ≡ places_for object.parts
+  pub fresh_places : object.places ≡ places_for object.parts
 
 drop-at : (items : List PropValue) (n : ℕ) (d : PropValue) → n < length items → drop n items ≡ get_or items n d ∷ drop (suc n) items
 drop-at [] n d h = absurd (omega arith)
@@ -335,7 +335,7 @@ made-more old new supers class items left d is h w = record {
   kind = w.class ∙ is.kind;
   within = omega (arith, is.within);
   props = subst AreProps (sym w.parts) (props-set old.parts (cells.Prop (get_or items (left - 1) d).number) _ is.props refl);
-  no_empty = w.places ∙ (λ i. insert (is.no_empty i) (cells.Prop (get_or items (left - 1) d).number) 0)
+  fresh_places = w.places ∙ (λ i. insert (is.fresh_places i) (cells.Prop (get_or items (left - 1) d).number) 0)
       ∙ places-set old.parts (cells.Prop (get_or items (left - 1) d).number) _ ∙ ap places_for (sym w.parts);
 }
 
@@ -368,7 +368,7 @@ none-persistent = record {
   few = let none = ap len values-empty ∙ len-empty nat_cmp Value in omega arith;
   few_units = let none = ap units_in values-empty ∙ units_in-empty in omega arith;
   ticks = λ q tick e. absurd (true≢false (ap is_some (sym e ∙ get-empty nat_cmp q)));
-  no_empty = no-empty-none;
+  fresh_places = no-empty-none;
 }
 
 drop-all : (items : List PropValue) → drop (length items) items ≡ []
@@ -390,5 +390,5 @@ made-none object supers class items is = record {
   kind = ap (λ (o : Tadsobject.Tads). o.class) is;
   within = omega arith;
   props = λ cell some. absurd (true≢false (sym some ∙ ap is_some (ap (λ (o : Tadsobject.Tads). get o.parts cell) is ∙ get-empty cell_cmp cell)));
-  no_empty = ap (λ (o : Tadsobject.Tads). o.places) is ∙ sym (ap (λ (o : Tadsobject.Tads). places_for o.parts) is ∙ places-none);
+  fresh_places = ap (λ (o : Tadsobject.Tads). o.places) is ∙ sym (ap (λ (o : Tadsobject.Tads). places_for o.parts) is ∙ places-none);
 }

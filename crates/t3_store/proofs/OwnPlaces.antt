@@ -12,8 +12,8 @@ use Rattle.t3_undo.specs.declared.cell.Cell.{Cell}
 use Rattle.t3_undo.proofs.Maps.{get-adjust, get-set_at}
 use Rattle.t3_store.specs.Value.{can_have_at}
 use Rattle.t3_store.specs.Inner.Shapes.{Shape, Stored, values, value_of, HasZeroStamps, HaveZeroStamps}
-use Rattle.t3_store.specs.Inner.Bounded.{parts_of, parts_under, HaveNoEmptyPlaces, IsPlaceMade, IsPlaced}
-use Rattle.t3_store.proofs.EmptyPlaces.{placed-set, kept-set}
+use Rattle.t3_store.specs.Inner.Bounded.{parts_of, parts_under, HaveFreshPlaces, IsPlaceMade, IsPlaced}
+use Rattle.t3_store.proofs.FreshPlaces.{placed-set, kept-set}
 use Rattle.t3_store.proofs.MapValues.{get-values}
 use Rattle.t3_store.proofs.NoGaps.{part-under}
 use Rattle.t3_store.proofs.Rows.{same, same-is, same-itself, differs}
@@ -146,8 +146,8 @@ own-placed old new n c o objects placed q own there = by (same q n) refl
 -- ---- that none is empty
 
 -- an object more
-pub no-empty-insert : (old : Stored) (n tick : ℕ) (thing : Shape × Parts) (own : Places) → HaveNoEmptyPlaces old → own ≡ places_for thing.1
-    → HaveNoEmptyPlaces (record { objects = insert old.objects n thing; places = insert old.places n own; ticks = insert old.ticks n tick })
+pub no-empty-insert : (old : Stored) (n tick : ℕ) (thing : Shape × Parts) (own : Places) → HaveFreshPlaces old → own ≡ places_for thing.1
+    → HaveFreshPlaces (record { objects = insert old.objects n thing; places = insert old.places n own; ticks = insert old.ticks n tick })
 no-empty-insert old n tick thing own all new number other e =
     by (same number n) (sym (get-insert nat_cmp_total old.places n own number) ∙ e)
     ∙ ap (λ o. places_for (parts_of o)) (sym (get-insert nat_cmp_total old.objects n thing number))
@@ -159,7 +159,7 @@ no-empty-insert old n tick thing own all new number other e =
 
 -- a cell is set
 pub no-empty-placed : (old new : Stored) (n : ℕ) (c : Cell) (o : Option Present) → new.objects ≡ set_cell old.objects n c o
-    → IsPlaced old new n c → HaveNoEmptyPlaces old → HaveNoEmptyPlaces new
+    → IsPlaced old new n c → HaveFreshPlaces old → HaveFreshPlaces new
 no-empty-placed old new n c o objects placed all number own e = by (own-placed old new n c o objects placed number own e)
   where
     by : OwnPlaced old new c number own → own ≡ places_for (parts_under new.objects number)
@@ -170,5 +170,5 @@ no-empty-placed old new n c o objects placed all number own e = by (own-placed o
         is ∙ ap (λ p. content.with_place p c) (all number was there) ∙ placed-set (parts_under old.objects number) c v ∙ ap places_for (sym parts)
 
 -- then all stamps are 0
-pub zero-stamps : (stored : Stored) → HaveNoEmptyPlaces stored → HaveZeroStamps stored.places
+pub zero-stamps : (stored : Stored) → HaveFreshPlaces stored → HaveZeroStamps stored.places
 zero-stamps stored all number own e = subst HasZeroStamps (sym (all number own e)) (zero-copy (parts_under stored.objects number))

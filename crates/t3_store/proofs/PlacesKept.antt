@@ -13,7 +13,7 @@ use Rattle.t3_undo.proofs.PuttingBack.{get-before}
 use Rattle.t3_store.specs.Value.{Value}
 use Rattle.t3_store.specs.Inner.Shapes.{Shape, Stored, stamp_in, stamp_at, places_below, HaveZeroStamps}
 use Rattle.t3_store.specs.Inner.Valid.{AreValid}
-use Rattle.t3_store.specs.Inner.Bounded.{parts_of, parts_under, HaveNoEmptyPlaces, AreBounded, AreOthersBounded, IsPlaced, IsTidiedAt, IsWithoutGaps, HaveNoGaps, HaveFewPlaces, is_recorded}
+use Rattle.t3_store.specs.Inner.Bounded.{parts_of, parts_under, HaveFreshPlaces, AreBounded, AreOthersBounded, IsPlaced, IsTidiedAt, IsWithoutGaps, HaveNoGaps, HaveFewPlaces, is_recorded}
 use Rattle.t3_store.specs.Inner.Store.{IsWritten, NotesChange, IsPurged, CanEachBePut, IsSound, IsStore, record_of}
 use Rattle.t3_store.specs.declared.limits.StoreLimits.{StoreLimits}
 use Rattle.t3_store.proofs.FewPlaces.{bounded-afresh, bounded-placed, bounded-noted, bounded-insert, others-kept, noted-others}
@@ -191,10 +191,10 @@ places-undone r p t new ss is objects few = record {
   few_transient = is.few_transient;
 }
 
-pub places-begun : (r : ℕ) (p t : Stored) → HaveNoEmptyPlaces p → HaveNoEmptyPlaces t → HaveFewPlaces p t r []
+pub places-begun : (r : ℕ) (p t : Stored) → HaveFreshPlaces p → HaveFreshPlaces t → HaveFewPlaces p t r []
 places-begun r p t one other = record { gaps = tt; few = bounded-afresh r p one; few_transient = bounded-afresh r t other }
 
-pub places-replaced : (r : ℕ) (p t new : Stored) (ss : List Segment) → HaveFewPlaces p t r ss → HaveNoEmptyPlaces new → HaveFewPlaces new t r []
+pub places-replaced : (r : ℕ) (p t new : Stored) (ss : List Segment) → HaveFewPlaces p t r ss → HaveFreshPlaces new → HaveFewPlaces new t r []
 places-replaced r p t new ss is one = record { gaps = tt; few = bounded-afresh r new one; few_transient = is.few_transient }
 
 -- ---- an undo

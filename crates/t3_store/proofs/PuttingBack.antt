@@ -15,8 +15,8 @@ use Rattle.t3_undo.specs.declared.cell.Cell.{Cell}
 use Rattle.t3_undo.specs.declared.cell.Cell.TheVariants as cells
 use Rattle.t3_undo.proofs.Maps.{get-adjust}
 use Rattle.t3_undo.proofs.Purging.{record-there, record-where}
-use Rattle.t3_store.specs.Inner.Shapes.{Shape, has_place, stamp_at, with_place_stamp, tick_behind, AreWithin}
-use Rattle.t3_store.specs.Inner.Bounded.{parts_of, parts_under, IsBounded, AreBounded, AreBoundedBut, IsTidiedAt, IsWithoutGaps, is_recorded}
+use Rattle.t3_store.specs.Inner.Shapes.{Shape, Stored, has_place, stamp_at, with_place_stamp, tick_behind, AreWithin}
+use Rattle.t3_store.specs.Inner.Bounded.{parts_of, parts_under, IsBounded, AreBounded, IsTidiedAt, IsWithoutGaps, is_recorded}
 use Rattle.t3_store.specs.Inner.Store.{CanBePut, CanAllBePut, CanEachBePut, HaveSamePlaces, AreRecordsWithin, IsPurged, emptied}
 use Rattle.t3_store.specs.Inner.Entries.{IsRising, things_of, places_in, ticks_in, stored_of}
 use Rattle.t3_store.specs.declared.entries.Entry.{Entry}
@@ -26,6 +26,11 @@ use Rattle.t3_store.proofs.OwnPlaces.{parts-other}
 use Rattle.t3_store.proofs.Purged.{own-stamps, purged, purged-put, stamped-purged, tidied-few}
 use Rattle.t3_store.proofs.Rows.{same, same-is, same-itself}
 use Rattle.t3_store.proofs.Stamped.{the-stamp, stamped-put, places-with_place_stamp}
+
+-- each object has few places, but where a record of it is to be put back
+abbrev pub AreBoundedBut : ℕ → List OldPart → Stored → Type 0
+AreBoundedBut records parts stored = (number : ℕ) (own : Places) → get stored.places number ≡ Some own
+    → IsBounded records (parts_under stored.objects number) own ⊎ (is_recorded number parts ≡ true)
 
 -- what is still to be put back leads to the same objects as all that was
 pub record IsPutting (records oldest : ℕ) (from es : List Entry) (before now : Held) : Type 0 where

@@ -7,7 +7,7 @@ use Rattle.t3_store.specs.Value.{Objects as Values, units_in}
 use Rattle.t3_store.specs.Store.{AreBelow}
 use Rattle.t3_store.specs.Whole.{AreApart, IsWhole, supers_in}
 use Rattle.t3_store.specs.Inner.Shapes.{Stored, values, AreWithin, HaveZeroStamps}
-use Rattle.t3_store.specs.Inner.Bounded.{HaveNoEmptyPlaces}
+use Rattle.t3_store.specs.Inner.Bounded.{HaveFreshPlaces}
 use Rattle.t3_store.proofs.Stamped.{stamped-afresh}
 use Rattle.t3_store.specs.Inner.Store.{AreNumbered, IsFront, saved_units, IsStore, IsPersistent}
 use Rattle.t3_store.specs.Inner.Whole.{supers_from}
@@ -78,15 +78,20 @@ replaced-kept p t new state next next_transient more limits j units none room wi
         by false e =
             absurd (true≢false (sym some ∙ ap is_some (unvalued new.objects state q same (below q (ltb-false q more e)))))
 
+-- the persistent objects of a store have numbers below 2^31
+pub persistent-below : (p : Stored) (next : ℕ) → ((q : ℕ) → next ≤ q → get p.objects q ≡ None) → next ≤ 2 ^ 31
+    → AreBelow (2 ^ 31) (values p.objects)
+persistent-below p next below low = λ q h. value-none p.objects q (below q (omega arith))
+
 -- a copy of the persistent objects
 pub persistent-copied : (p copy : Stored) (next : ℕ) → values copy.objects ≡ values p.objects → get p.objects 0 ≡ None
     → ((q : ℕ) → next ≤ q → get p.objects q ≡ None) → next ≤ 2 ^ 31 → len (values p.objects) ≤ 1048576 → units_in (values p.objects) ≤ 4194304
-    → AreWithin (units_in (values p.objects) + 1) copy.ticks → HaveNoEmptyPlaces copy → IsPersistent copy
+    → AreWithin (units_in (values p.objects) + 1) copy.ticks → HaveFreshPlaces copy → IsPersistent copy
 persistent-copied p copy next same from below low few little ticks needed = record {
   from_one = (λ i. get (same i) 0) ∙ value-none p.objects 0 from;
-  numbered = λ q h. (λ i. get (same i) q) ∙ value-none p.objects q (below q (omega arith));
+  numbered = λ q h. (λ i. get (same i) q) ∙ persistent-below p next below low q h;
   few = (let size = ap len same in omega arith);
   few_units = (let sum = ap units_in same in omega arith);
   ticks = subst (λ (n : ℕ). AreWithin (n + 1) copy.ticks) (sym (ap units_in same)) ticks;
-  no_empty = needed;
+  fresh_places = needed;
 }

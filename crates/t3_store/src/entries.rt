@@ -9,13 +9,13 @@ ghost use Rattle.t3_undo.specs.Journal.{old_of, newest_records};
 ghost use Rattle.t3_undo.specs.Stamps.{AreStamped};
 ghost use Rattle.t3_store.specs.Inner.Store.{CanBePut, CanEachBePut, AreRecordsWithin, emptied};
 ghost use Rattle.t3_store.specs.Value.{holder_at, can_have_at, with_cell};
-ghost use Rattle.t3_store.specs.Inner.Shapes.{thing_of, places_of, tick_of, values, has_place, stamp_at, with_place_stamp, with_place, places_below, ticks_below, tick_behind, risen, AreWithin, HasNoEmptyPlace};
+ghost use Rattle.t3_store.specs.Inner.Shapes.{thing_of, places_of, tick_of, values, has_place, stamp_at, with_place_stamp, with_place, places_below, ticks_below, tick_behind, risen, AreWithin, HasFreshPlaces};
 ghost use Rattle.t3_store.specs.Inner.Bounded.{AreBounded, IsTidiedAt, IsWithoutGaps, parts_under, is_recorded};
 ghost use Rattle.t3_store.specs.Inner.Valid.{IsValid, AreValid};
-ghost use Rattle.t3_store.specs.Inner.Entries.{IsRising, index_of, is_numbered, object_at, things_of, places_in, ticks_in, stored_of, keyed, AreAllValid, HaveTicksForUnits, HasTickForUnits, HaveAllNoEmptyPlace, IsFirstFrom};
+ghost use Rattle.t3_store.specs.Inner.Entries.{IsRising, index_of, is_numbered, object_at, things_of, places_in, ticks_in, stored_of, keyed, AreAllValid, HaveTicksForUnits, HasTickForUnits, HaveAllFreshPlaces, IsFirstFrom};
 
 use crate::object::Object;
-use crate::tidying::oldest_serial;
+use crate::tidying::purge_serial;
 use std::alloc::Global;
 use t3_holder::{Holder, NoMemory};
 use t3_undo::{Cell, Content, Journal, Kept};
@@ -223,17 +223,17 @@ pub(crate) fn set_stamp(entries: &mut Vec<Entry>, number: u32, cell: &Cell, stam
     }
 }
 
-/// Takes places of an object's absent cells away that no savepoint needs from this serial on, where there are too many.
-/// No memory is taken.
-pub(crate) fn tidy(entries: &mut Vec<Entry>, number: u32, records: u32, oldest: u64)
+/// Where an object has too many places, takes away those of absent cells whose stamps are below the oldest serial,
+/// which no savepoint needs. No memory is taken.
+pub(crate) fn tidy(entries: &mut Vec<Entry>, number: u32, record_limit: u32, oldest: u64)
     requires { IsRising entries.old.items }
     ensures rising { IsRising entries.new.items }
-    ensures places { IsTidiedAt records oldest number (stored_of entries.old.items)
+    ensures places { IsTidiedAt record_limit oldest number (stored_of entries.old.items)
         (stored_of entries.new.items) }
     ensures len { length entries.new.items ≡ length entries.old.items }
 {
     if let Some(index) = index_of(entries, number) {
-        entries[index].object.tidy(records, oldest);
+        entries[index].object.tidy(record_limit, oldest);
     }
 }
 
@@ -270,13 +270,13 @@ pub(crate) fn cut(entries: &mut Vec<Entry>, next: u32)
 
 /// Puts back what stood in the cells of the newest savepoint's records, and takes empty places away where an object
 /// has too many then. No memory is taken.
-pub(crate) fn put_back(entries: &mut Vec<Entry>, journal: &mut Journal, records: u32)
+pub(crate) fn put_back(entries: &mut Vec<Entry>, journal: &mut Journal, record_limit: u32)
     requires rising { IsRising entries.old.items }
-    requires limit { journal.old.record_limit ≡ records }
+    requires limit { journal.old.record_limit ≡ record_limit }
     requires can { CanEachBePut (places_in entries.old.items) journal.old.segments }
     requires stamped { AreStamped journal.old.marks (stamp_at (places_in entries.old.items))
         journal.old.segments }
-    requires bounded { AreBounded records (stored_of entries.old.items) }
+    requires bounded { AreBounded record_limit (stored_of entries.old.items) }
     requires gaps { (number : ℕ) → is_recorded number (newest_records journal.old.segments) ≡ true
         → IsWithoutGaps number
         (parts_under (put_back (things_of entries.old.items) (newest_records journal.old.segments)) number)
@@ -285,7 +285,7 @@ pub(crate) fn put_back(entries: &mut Vec<Entry>, journal: &mut Journal, records:
     ensures things { things_of entries.new.items
         ≡ put_back (things_of entries.old.items) (newest_records journal.old.segments) }
     ensures can { CanEachBePut (places_in entries.new.items) (drop 1 journal.old.segments) }
-    ensures bounded { AreBounded records (stored_of entries.new.items) }
+    ensures bounded { AreBounded record_limit (stored_of entries.new.items) }
     ensures stamped { AreStamped journal.new.marks (stamp_at (places_in entries.new.items))
         journal.new.segments }
     ensures ticks { (bound : ℕ) → AreWithin bound (ticks_in entries.old.items)
@@ -295,11 +295,11 @@ pub(crate) fn put_back(entries: &mut Vec<Entry>, journal: &mut Journal, records:
 {
     // Since one savepoint no cell has two records, and there are no more than the limit says.
     let _distinct = journal.records();
-    let oldest = oldest_serial(journal);
+    let oldest = purge_serial(journal);
     while let Some(kept) = journal.take_kept() {
         let number = kept.number;
         put_kept(entries, kept);
-        tidy(entries, number, records, oldest);
+        tidy(entries, number, record_limit, oldest);
     }
 }
 
@@ -360,7 +360,7 @@ pub(crate) fn copy_all(alloc: Global, entries: &[Entry]) -> Result<Vec<Entry>, N
     ensures values { IfOk result (λ copy. map keyed copy.items ≡ map keyed entries.now) }
     ensures valid { IfOk result (λ copy. AreAllValid copy.items) }
     ensures ticks { IfOk result (λ copy. HaveTicksForUnits copy.items) }
-    ensures no_empty { IfOk result (λ copy. HaveAllNoEmptyPlace copy.items) }
+    ensures fresh_places { IfOk result (λ copy. HaveAllFreshPlaces copy.items) }
 {
     let mut copy = Vec::with_capacity(alloc, entries.len())?;
     for entry in entries {
@@ -375,7 +375,7 @@ fn copy_one(alloc: Global, entry: &Entry) -> Result<Entry, NoMemory>
     ensures same { IfOk result (λ copy. keyed copy ≡ keyed entry.now) }
     ensures valid { IfOk result (λ copy. IsValid (thing_of copy.object)) }
     ensures tick { IfOk result (λ copy. HasTickForUnits copy) }
-    ensures no_empty { IfOk result (λ copy. HasNoEmptyPlace copy.object) }
+    ensures fresh_places { IfOk result (λ copy. HasFreshPlaces copy.object) }
 {
     let number = entry.number;
     let object = entry.object.copy(alloc)?;

@@ -25,9 +25,11 @@
 //! Superclasses stay whole: those of a persistent object are persistent, and no walk over superclasses comes
 //! back, whatever is made, changed and undone. [`Store::kind`] says so where a search needs it.
 //!
-//! A store gives a copy of its persistent objects, and takes a state in their place:
+//! A store lends its persistent objects, which takes no memory, or gives a copy of them, and takes a state in
+//! their place:
 //!
 //! ```text
+//! let object = store.persistent_objects().at(7);
 //! let state = store.persistent_copy(alloc)?;
 //! let next = store.next();
 //! store.admits(&state);       // Fits, or Clash with a transient object's number, or Full
@@ -49,6 +51,7 @@ mod noting;
 mod object;
 mod object_at;
 mod object_map;
+mod objects_ref;
 mod persistent;
 mod store;
 mod table_cells;
@@ -63,5 +66,6 @@ pub use law::{ValueInvariant, cell_law, invariant_law};
 pub use limits::{StoreLimits, StoreRefusal};
 pub use new_object::NewObject;
 pub use object_at::ObjectAt;
+pub use objects_ref::ObjectsRef;
 pub use persistent::Persistent;
 pub use store::Store;

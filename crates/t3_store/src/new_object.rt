@@ -5,7 +5,7 @@ ghost use Rattle.t3_lists.specs.Vector.{parts_of, filled};
 ghost use Rattle.t3_lists.specs.Vector as vectors;
 ghost use Rattle.t3_undo.specs.Content.{with_place, places_for};
 ghost use Rattle.t3_store.specs.Value.{Tads, pair_of, new_value, units_of, HasFittingLength};
-ghost use Rattle.t3_store.specs.Inner.Shapes.{thing_of, value_of, tick_of, HasNoEmptyPlace, HasElements, IsWithElement};
+ghost use Rattle.t3_store.specs.Inner.Shapes.{thing_of, value_of, tick_of, HasFreshPlaces, HasElements, IsWithElement};
 ghost use Rattle.t3_store.specs.Inner.Valid.{IsValid};
 
 use crate::object::Object;
@@ -57,7 +57,7 @@ impl NewObject {
         ensures value { IfOk result (λ object. value_of (thing_of object) ≡ new_value self) }
         ensures valid { IfOk result (λ object. IsValid (thing_of object)) }
         ensures tick { IfOk result (λ object. tick_of object ≤ 1) }
-        ensures no_empty { IfOk result (λ object. HasNoEmptyPlace object) }
+        ensures fresh_places { IfOk result (λ object. HasFreshPlaces object) }
     {
         match self {
             NewObject::Tads {
@@ -86,7 +86,7 @@ fn make_tads(alloc: Global, supers: Numbers, class: bool, props: &Props) -> Resu
         ≡ Tads supers class (from_entries (map pair_of props.now))) }
     ensures valid { IfOk result (λ object. IsValid (thing_of object)) }
     ensures tick { IfOk result (λ object. tick_of object ≤ 1) }
-    ensures no_empty { IfOk result (λ object. HasNoEmptyPlace object) }
+    ensures fresh_places { IfOk result (λ object. HasFreshPlaces object) }
 {
     let mut object = TadsObject::of(alloc, supers, class);
     let items = props.items();
@@ -102,7 +102,7 @@ fn make_tads(alloc: Global, supers: Numbers, class: bool, props: &Props) -> Resu
 fn make_vector(alloc: Global, items: &Holders) -> Result<Vector, NoMemory>
     requires { length items.now ≤ 65535 }
     ensures parts { IfOk result (λ vector. parts_of vector ≡ filled items.now) }
-    ensures no_empty { IfOk result (λ vector. vectors.places_of vector ≡ places_for (parts_of vector)) }
+    ensures fresh_places { IfOk result (λ vector. vectors.places_of vector ≡ places_for (parts_of vector)) }
 {
     let mut vector = Vector::new(alloc);
     for index in 0..items.0.len() {

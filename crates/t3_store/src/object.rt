@@ -6,7 +6,7 @@ ghost use Rattle.t3_undo.specs.Purging.{Stays};
 ghost use Rattle.t3_undo.specs.declared.cell.Cell.TheVariants.{Prop};
 ghost use Rattle.t3_undo.specs.Objects.{with_part};
 ghost use Rattle.t3_store.specs.Value.{holder_in, kind_of, supers_of, is_class_of, props_in, text_of, items_in, length_of, entries_in, with_cell, can_have, units_of};
-ghost use Rattle.t3_store.specs.Inner.Shapes.{thing_of, places_of, tick_of, value_of, tick_behind, risen, HasNoEmptyPlace};
+ghost use Rattle.t3_store.specs.Inner.Shapes.{thing_of, places_of, tick_of, value_of, tick_behind, risen, HasFreshPlaces};
 ghost use Rattle.t3_store.specs.Inner.Bounded.{IsTidied};
 ghost use Rattle.t3_store.specs.Inner.Valid.{IsValid};
 
@@ -200,22 +200,23 @@ impl Object {
     }
 
     /// Whether there are more places than twice the present cells and so many records, and 16.
-    fn has_many_places(&self, records: u32) -> bool
-        ensures { result ≡ nat_lt (2 * (len (thing_of self.now).1 + records) + 16) (len (places_of self.now)) }
+    fn has_too_many_places(&self, record_limit: u32) -> bool
+        ensures { result ≡ nat_lt (2 * (len (thing_of self.now).1 + record_limit) + 16)
+            (len (places_of self.now)) }
     {
-        let needed = self.present().saturating_add(u64::from(records));
+        let needed = self.present().saturating_add(u64::from(record_limit));
         self.places() > needed.saturating_mul(2).saturating_add(16)
     }
 
-    /// Takes places of absent cells away that no savepoint needs from the oldest serial on, where there are too
-    /// many. No memory is taken.
-    pub(crate) fn tidy(&mut self, records: u32, oldest: u64)
+    /// Where there are too many places, takes away those of absent cells whose stamps are below the oldest serial,
+    /// which no savepoint needs. No memory is taken.
+    pub(crate) fn tidy(&mut self, record_limit: u32, oldest: u64)
         ensures thing { thing_of self.new ≡ thing_of self.old }
         ensures ticks { tick_of self.new ≡ tick_of self.old }
-        ensures places { IsTidied records oldest (thing_of self.old).1 (places_of self.old)
+        ensures places { IsTidied record_limit oldest (thing_of self.old).1 (places_of self.old)
             (places_of self.new) }
     {
-        if self.has_many_places(records) {
+        if self.has_too_many_places(record_limit) {
             self.purge(oldest);
         }
     }
@@ -245,7 +246,7 @@ impl Object {
         ensures value { IfOk result (λ copy. value_of (thing_of copy) ≡ value_of (thing_of self.now)) }
         ensures valid { IfOk result (λ copy. IsValid (thing_of copy)) }
         ensures tick { IfOk result (λ copy. tick_of copy ≤ units_of (value_of (thing_of copy)) + 1) }
-        ensures no_empty { IfOk result (λ copy. HasNoEmptyPlace copy) }
+        ensures fresh_places { IfOk result (λ copy. HasFreshPlaces copy) }
     {
         match self {
             Object::Tads(object) => Ok(Object::Tads(object.copy(alloc)?)),

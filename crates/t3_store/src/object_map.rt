@@ -7,7 +7,7 @@ ghost use Rattle.t3_undo.specs.declared.cell.Cell.TheVariants.{Prop};
 ghost use Rattle.t3_undo.specs.Objects.{part_at};
 ghost use Rattle.t3_store.specs.Value.{holder_at, can_have_at, can_lose_at, with_cell, without_cell, cell_units, cells_at, units_of, units_in, IsNextAbove};
 ghost use Rattle.t3_store.specs.Inner.Shapes.{thing_of, places_of, tick_of, value_of, values, has_place, stamp_at, with_place_stamp, with_place, AreWithin, IsChanged};
-ghost use Rattle.t3_store.specs.Inner.Bounded.{HaveNoEmptyPlaces, HaveNoGaps, IsTidiedAt, IsPlaced, IsFilledBelow, AreBounded, parts_under};
+ghost use Rattle.t3_store.specs.Inner.Bounded.{HaveFreshPlaces, HaveNoGaps, IsTidiedAt, IsPlaced, IsFilledBelow, AreBounded, parts_under};
 ghost use Rattle.t3_store.specs.Inner.Valid.{IsValid, AreValid};
 ghost use Rattle.t3_store.specs.Inner.Store.{IsSound, AreRecordsWithin, HaveRisen, IsWritten};
 ghost use Rattle.t3_undo.specs.Journal.{newest_next};
@@ -202,13 +202,13 @@ impl ObjectMap {
         }
     }
 
-    /// Takes places of an object's absent cells away that no savepoint needs from this serial on, where there are
-    /// too many. No memory is taken.
-    pub(crate) fn tidy(&mut self, number: u32, records: u32, oldest: u64)
-        ensures tidied { IsTidiedAt records oldest number self.old self.new }
+    /// Where an object has too many places, takes away those of absent cells whose stamps are below the oldest
+    /// serial, which no savepoint needs. No memory is taken.
+    pub(crate) fn tidy(&mut self, number: u32, record_limit: u32, oldest: u64)
+        ensures tidied { IsTidiedAt record_limit oldest number self.old self.new }
         ensures valid { AreValid self.old.objects }
     {
-        tidy(&mut self.entries, number, records, oldest);
+        tidy(&mut self.entries, number, record_limit, oldest);
     }
 
     /// Adds an object, which counts so many units, under a number that no other has.
@@ -232,12 +232,12 @@ impl ObjectMap {
     /// The objects as they were at the newest savepoint, which ends: what stood in its records is put back, with
     /// the stamps of then, and what was made since is taken away. They count so many units then, and where one has
     /// too many places, empty ones go. No memory is taken.
-    pub(crate) fn undo(&mut self, journal: &mut Journal, next: u32, units: u32, records: u32)
-        requires limit { journal.old.record_limit ≡ records }
+    pub(crate) fn undo(&mut self, journal: &mut Journal, next: u32, units: u32, record_limit: u32)
+        requires limit { journal.old.record_limit ≡ record_limit }
         requires sound { IsSound self.old.places next journal.old.segments }
         requires stamped { AreStamped journal.old.marks (stamp_at self.old.places)
             journal.old.segments }
-        requires bounded { AreBounded records self.old }
+        requires bounded { AreBounded record_limit self.old }
         requires gaps { HaveNoGaps (undone self.old.objects journal.old.segments)
             (drop 1 journal.old.segments) }
         requires next { newest_next journal.old.segments ≡ Some next }
@@ -245,7 +245,7 @@ impl ObjectMap {
         requires valid { AreValid (undone self.old.objects journal.old.segments) }
         ensures objects { self.new.objects ≡ undone self.old.objects journal.old.segments }
         ensures sound { IsSound self.new.places next (drop 1 journal.old.segments) }
-        ensures bounded { AreBounded records self.new }
+        ensures bounded { AreBounded record_limit self.new }
         ensures stamped { AreStamped journal.new.marks (stamp_at self.new.places)
             journal.new.segments }
         ensures ticks { (bound : ℕ) → AreWithin bound self.old.ticks → AreRecordsWithin bound journal.old.segments
@@ -253,7 +253,7 @@ impl ObjectMap {
         ensures fewer { finite.len (values self.new.objects) ≤ finite.len (values self.old.objects) }
         ensures journal { journal.new ≡ record journal.old { segments = drop 1 journal.old.segments } }
     {
-        put_back(&mut self.entries, journal, records);
+        put_back(&mut self.entries, journal, record_limit);
         cut(&mut self.entries, next);
         self.units = units;
         let _ended = journal.take_mark();
@@ -286,7 +286,7 @@ impl ObjectMap {
     pub(crate) fn copy(&self, alloc: Global) -> Result<ObjectMap, NoMemory>
         ensures values { IfOk result (λ copy. values copy.objects ≡ values self.now.objects) }
         ensures ticks { IfOk result (λ copy. AreWithin (units_in (values self.now.objects) + 1) copy.ticks) }
-        ensures no_empty { IfOk result (λ copy. HaveNoEmptyPlaces copy) }
+        ensures fresh_places { IfOk result (λ copy. HaveFreshPlaces copy) }
     {
         let entries = copy_all(alloc, &self.entries)?;
         Ok(ObjectMap {

@@ -8,7 +8,7 @@ ghost use Rattle.t3_store.specs.Broken.{LacksSuper, IsOwnAncestor, IsNever, IsLe
 ghost use Rattle.t3_store.specs.Whole.{IsWhole, supers_in};
 ghost use Rattle.t3_store.specs.Distinct.{HasDistinctEntries};
 ghost use Rattle.t3_store.specs.Inner.Shapes.{values, AreWithin};
-ghost use Rattle.t3_store.specs.Inner.Bounded.{HaveNoEmptyPlaces};
+ghost use Rattle.t3_store.specs.Inner.Bounded.{HaveFreshPlaces};
 ghost use Rattle.t3_store.specs.Inner.Store.{IsPersistent};
 ghost use Rattle.t3_undo.specs.Objects.{adjust};
 
@@ -17,6 +17,7 @@ use crate::kind::Kind;
 use crate::limits::StoreRefusal;
 use crate::new_object::NewObject;
 use crate::object_map::ObjectMap;
+use crate::objects_ref::ObjectsRef;
 use crate::table_cells::cell_units;
 use crate::writing;
 use std::alloc::Global;
@@ -111,11 +112,15 @@ impl Persistent {
     pub fn after(&self, number: u32) -> Option<u32>
         ensures { IsNextAbove self.now number result }
     {
-        let objects = &self.objects;
-        if number >= 0x7FFF_FFFF {
-            return None;
-        }
-        objects.after(number)
+        self.as_objects().after(number)
+    }
+
+    /// These objects, lent. No memory is taken.
+    pub fn as_objects(&self) -> ObjectsRef<'_>
+        ensures { result ≡ self.now }
+    {
+        let _ = &self.alloc;
+        ObjectsRef::new(&self.objects)
     }
 
     /// The object with the least number of which a superclass isn't a tads-object here. If there is none, the
@@ -274,7 +279,7 @@ impl Persistent {
         ensures objects { values result.objects ≡ self }
         ensures from_one { get self 0 ≡ None }
         ensures ticks { AreWithin (units_in self + 1) result.ticks }
-        ensures no_empty { HaveNoEmptyPlaces result }
+        ensures fresh_places { HaveFreshPlaces result }
     {
         let Persistent { alloc: _, objects } = self;
         objects

@@ -12,6 +12,7 @@ use crate::kind::Kind;
 use crate::limits::StoreLimits;
 use crate::object_at::ObjectAt;
 use crate::object_map::ObjectMap;
+use crate::objects_ref::ObjectsRef;
 use crate::persistent::Persistent;
 use std::alloc::Global;
 use std::marker::Model;
@@ -235,11 +236,11 @@ impl Store {
         self.next
     }
 
-    /// A copy of the persistent objects, as it is saved. None of them is broken, there are no more of them and of
-    /// their units than a [`Persistent`] may have, no string, list or vector is too long, and no table has a key
-    /// twice.
-    pub fn persistent_copy(&self, alloc: Global) -> Result<Persistent, NoMemory>
-        ensures copy { IfOk result (λ copy. copy ≡ self.now.store.persistent) }
+    /// The persistent objects, lent. None of them is broken, there are no more of them and of their units than a
+    /// [`Persistent`] may have, no string, list or vector is too long, and no table has a key twice. No memory is
+    /// taken.
+    pub fn persistent_objects(&self) -> ObjectsRef<'_>
+        ensures objects { result ≡ self.now.store.persistent }
         ensures whole { IsWhole (supers_in self.now.store.persistent) }
         ensures few { len self.now.store.persistent ≤ 1048576 }
         ensures few_units { units_in self.now.store.persistent ≤ 4194304 }
@@ -250,6 +251,21 @@ impl Store {
     {
         // What is counted is true of each object.
         let _ = self.persistent.units();
+        ObjectsRef::new(&self.persistent)
+    }
+
+    /// A copy of the persistent objects, for which holds what does for those that are lent.
+    pub fn persistent_copy(&self, alloc: Global) -> Result<Persistent, NoMemory>
+        ensures copy { IfOk result (λ copy. copy ≡ self.now.store.persistent) }
+        ensures whole { IsWhole (supers_in self.now.store.persistent) }
+        ensures few { len self.now.store.persistent ≤ 1048576 }
+        ensures few_units { units_in self.now.store.persistent ≤ 4194304 }
+        ensures fitting { (number : ℕ) (value : Value) → get self.now.store.persistent number ≡ Some value
+            → HasFittingLength value }
+        ensures distinct { (number : ℕ) (value : Value) → get self.now.store.persistent number ≡ Some value
+            → HasDistinctEntries value }
+    {
+        let _ = self.persistent_objects();
         let objects = self.persistent.copy(alloc)?;
         Ok(Persistent::of(alloc, objects))
     }

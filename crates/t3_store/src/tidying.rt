@@ -9,24 +9,25 @@ ghost use Rattle.t3_store.specs.Inner.Store.{IsPurged};
 use crate::object_map::ObjectMap;
 use t3_undo::Journal;
 
-/// The serial of the oldest savepoint or, where none is held, a number above all that there were.
-pub(crate) fn oldest_serial(journal: &Journal) -> u64
+/// The serial below which no savepoint needs a stamp: that of the oldest one held or, where none is, a number above
+/// all that there were.
+pub(crate) fn purge_serial(journal: &Journal) -> u64
     ensures { IsOldest journal.now.marks result journal.now.segments }
 {
     journal.oldest_serial().unwrap_or(u64::MAX)
 }
 
-/// Takes away what places of an object's absent cells no savepoint has a record of, where the object has more places
-/// than twice its present cells and the records there may be, and 16. No memory is taken.
-pub(crate) fn tidy(objects: &mut ObjectMap, journal: &Journal, number: u32, records: u32)
-    requires limit { journal.now.record_limit ≡ records }
+/// Where an object has more places than twice its present cells and the records that there may be, and 16, takes
+/// away those of absent cells that no savepoint has a record of. No memory is taken.
+pub(crate) fn tidy(objects: &mut ObjectMap, journal: &Journal, number: u32, record_limit: u32)
+    requires limit { journal.now.record_limit ≡ record_limit }
     requires stamped { AreStamped journal.now.marks (stamp_at objects.old.places) journal.now.segments }
-    requires others { AreOthersBounded records number objects.old }
+    requires others { AreOthersBounded record_limit number objects.old }
     requires gaps { HaveNoGaps objects.old.objects journal.now.segments }
     ensures purged { IsPurged objects.old objects.new journal.now.segments }
-    ensures bounded { AreBounded records objects.new }
+    ensures bounded { AreBounded record_limit objects.new }
 {
     // There are no more records than the limit says.
     let _within = journal.records();
-    objects.tidy(number, records, oldest_serial(journal));
+    objects.tidy(number, record_limit, purge_serial(journal));
 }

@@ -26,13 +26,9 @@ abbrev pub trimmed_text : Objects → Option Value → List ℕ
 trimmed_text state None = []
 trimmed_text state (Some value) = value_text (trimmed_value state value)
 
--- the text of its value, where there is one
-unfoldable pub value_written : Objects → ℕ → List ℕ
-value_written state number = trimmed_text state (get state number)
-
 -- the text of the object of a number
 unfoldable pub object_written : Objects → ℕ → List ℕ
-object_written state number = little_endian 4 number ++ value_written state number
+object_written state number = little_endian 4 number ++ trimmed_text state (get state number)
 
 -- the text of a tads-object with these properties, once they are trimmed
 unfoldable pub tads_written : Objects → List ℕ → Bool → List (ℕ × Holder) → List ℕ

@@ -20,8 +20,9 @@ abbrev pub parts_under : Objects Shape → ℕ → Parts
 parts_under things number = parts_of (get things number)
 
 -- each object has a place with stamp 0 for each present cell, and no other
-abbrev pub HaveNoEmptyPlaces : Stored → Type 0
-HaveNoEmptyPlaces stored = (number : ℕ) (own : Places) → get stored.places number ≡ Some own → own ≡ places_for (parts_under stored.objects number)
+abbrev pub HaveFreshPlaces : Stored → Type 0
+HaveFreshPlaces stored = (number : ℕ) (own : Places) → get stored.places number ≡ Some own
+    → own ≡ places_for (parts_under stored.objects number)
 
 -- there are at most twice as many places as present cells and records that a journal may have, and 16
 abbrev pub IsBounded : ℕ → Parts → Places → Type 0
@@ -88,11 +89,6 @@ IsWithoutGaps number parts segments =
 -- one of the records is of this object
 abbrev pub is_recorded : ℕ → List OldPart → Bool
 is_recorded number parts = list_any (λ part. eq_by_cmp nat_cmp number part.number) parts
-
--- each object has few places, but where a record of it is to be put back
-abbrev pub AreBoundedBut : ℕ → List OldPart → Stored → Type 0
-AreBoundedBut records parts stored = (number : ℕ) (own : Places) → get stored.places number ≡ Some own
-    → IsBounded records (parts_under stored.objects number) own ⊎ (is_recorded number parts ≡ true)
 
 -- what the bound of places rests on in a store: no savepoint has a gap in its records, and each object has few places
 pub record HaveFewPlaces (persistent transient : Stored) (records : ℕ) (segments : List Segment) : Type 0 where

@@ -5,7 +5,7 @@ use Rattle.std.specs.Ordering.{nat_cmp, eq_by_cmp}
 use Rattle.std.specs.FinMap.{FinMap, empty, get}
 use Rattle.t3_undo.specs.Content.{Places}
 use Rattle.t3_undo.specs.Objects.{Objects, set_at}
-use Rattle.t3_store.specs.Inner.Shapes.{Shape, thing_of, places_of, tick_of, value_of, values, Stored, HasNoEmptyPlace}
+use Rattle.t3_store.specs.Inner.Shapes.{Shape, thing_of, places_of, tick_of, value_of, values, Stored, HasFreshPlaces}
 use Rattle.t3_store.specs.Value.{Value, units_of, units_in}
 use Rattle.t3_store.specs.Inner.Valid.{IsValid, AreValid}
 use Rattle.t3_store.specs.declared.object.Object.{Object}
@@ -76,8 +76,8 @@ abbrev pub HaveTicksForUnits : List Entry → Type 0
 HaveTicksForUnits entries = AllByRecursion HasTickForUnits entries
 
 -- each object has a place for each present cell, and no other
-abbrev pub HaveAllNoEmptyPlace : List Entry → Type 0
-HaveAllNoEmptyPlace entries = AllByRecursion (λ entry. HasNoEmptyPlace entry.object) entries
+abbrev pub HaveAllFreshPlaces : List Entry → Type 0
+HaveAllFreshPlaces entries = AllByRecursion (λ entry. HasFreshPlaces entry.object) entries
 
 -- this is the least number of an object from that one on
 abbrev pub IsFirstFrom : Objects Shape → ℕ → Option ℕ → Type 0

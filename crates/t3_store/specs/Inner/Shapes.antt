@@ -47,8 +47,8 @@ places_of (object.Vector v) = vectors.places_of v
 places_of (object.Table t) = tables.places_of t
 
 -- an object has a place for each present cell, with stamp 0, and no other
-abbrev pub HasNoEmptyPlace : Object → Type 0
-HasNoEmptyPlace object = places_of object ≡ places_for (thing_of object).1
+abbrev pub HasFreshPlaces : Object → Type 0
+HasFreshPlaces object = places_of object ≡ places_for (thing_of object).1
 
 -- a table's next tick, and 0 of other objects
 abbrev pub tick_of : Object → ℕ

@@ -12,7 +12,7 @@ use Rattle.t3_store.specs.Value.{Value, units_in}
 use Rattle.t3_store.specs.Store.{Mark, StoreValue, AreLimits}
 use Rattle.t3_store.specs.Inner.Shapes.{Shape, Stored, values, has_place, stamp_at, with_place_stamp, HaveZeroStamps, tick_behind, risen, AreWithin}
 use Rattle.t3_store.specs.Inner.Valid.{AreValidBefore}
-use Rattle.t3_store.specs.Inner.Bounded.{HaveNoEmptyPlaces, HaveFewPlaces, IsPlaceMade, IsFilledBelow}
+use Rattle.t3_store.specs.Inner.Bounded.{HaveFreshPlaces, HaveFewPlaces, IsPlaceMade, IsFilledBelow}
 use Rattle.t3_store.specs.Inner.Whole.{supers_from, supers_of_both, AreWhole}
 use Rattle.t3_store.specs.declared.limits.StoreLimits.{StoreLimits}
 
@@ -201,4 +201,4 @@ pub record IsPersistent (stored : Stored) : Type 0 where
   pub few : len (values stored.objects) ≤ 1048576
   pub few_units : units_in (values stored.objects) ≤ 4194304
   pub ticks : AreWithin (units_in (values stored.objects) + 1) stored.ticks
-  pub no_empty : HaveNoEmptyPlaces stored
+  pub fresh_places : HaveFreshPlaces stored

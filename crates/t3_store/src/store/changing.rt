@@ -3,7 +3,7 @@ ghost use Rattle.std.specs.Prelude.{◌≡◌, ◌+◌, ◌<◌, ◌≤◌, ◌^
 ghost use Rattle.t3_store.specs.Value.{holder_at, can_have_at, can_lose_at, can_be_written, new_value, HasFittingLength, units_of};
 ghost use Rattle.t3_store.specs.Store.{value_at, is_full_with, no_number, with_object, created_in, after_write, written, taken, set_cell, saved, undone, is_held};
 ghost use Rattle.t3_store.specs.Whole.{HasSupersIn, supers_in, supers_of_live, supers_for};
-ghost use Rattle.t3_store.specs.Inner.Shapes.{thing_of, tick_of, value_of, HasNoEmptyPlace};
+ghost use Rattle.t3_store.specs.Inner.Shapes.{thing_of, tick_of, value_of, HasFreshPlaces};
 ghost use Rattle.t3_store.specs.Inner.Valid.{IsValid};
 
 use crate::limits::StoreRefusal;
@@ -156,7 +156,7 @@ impl Store {
         requires supers { HasSupersIn (supers_in self.old.store.persistent) (value_of (thing_of object)) }
         requires valid { IsValid (thing_of object) }
         requires tick { tick_of object ≤ 1 }
-        requires no_empty { HasNoEmptyPlace object }
+        requires fresh_places { HasFreshPlaces object }
         ensures number { IfOk result (λ number. number ≡ self.old.store.next) }
         ensures fresh { IfOk result (λ number. value_at self.old.store number ≡ None) }
         ensures ok { OnOk result (self.new ≡ record self.old {
@@ -178,7 +178,7 @@ impl Store {
         requires supers { HasSupersIn (supers_of_live self.old.store) (value_of (thing_of object)) }
         requires valid { IsValid (thing_of object) }
         requires tick { tick_of object ≤ 1 }
-        requires no_empty { HasNoEmptyPlace object }
+        requires fresh_places { HasFreshPlaces object }
         ensures number { IfOk result (λ number. number ≡ self.old.store.next_transient) }
         ensures fresh { IfOk result (λ number. value_at self.old.store number ≡ None) }
         ensures ok { OnOk result (self.new ≡ record self.old {

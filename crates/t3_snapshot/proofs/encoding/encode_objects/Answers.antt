@@ -1,7 +1,7 @@
 use Rattle.std.proofs.Common.{ap, ◌∙◌, ◌++◌, List, ℕ}
 use Rattle.std.specs.FinMap.{entries}
 use Rattle.t3_snapshot.specs.State.{One, saved, with_digest, head_text, body_text, trimmed}
-use Rattle.t3_snapshot.proofs.encoding.encode.Goals as goal
+use Rattle.t3_snapshot.proofs.encoding.encode_objects.Goals as goal
 
 pub returns : goal.returns
 unfolding saved

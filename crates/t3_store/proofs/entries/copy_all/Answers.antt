@@ -1,7 +1,7 @@
 use Rattle.std.proofs.Common.{◌∙◌, ap, sym, subst, map, arith}
-use Rattle.t3_store.specs.Inner.Shapes.{thing_of, HasNoEmptyPlace}
+use Rattle.t3_store.specs.Inner.Shapes.{thing_of, HasFreshPlaces}
 use Rattle.t3_store.specs.Inner.Valid.{IsValid}
-use Rattle.t3_store.specs.Inner.Entries.{keyed, AreAllValid, HasTickForUnits, HaveTicksForUnits, HaveAllNoEmptyPlace}
+use Rattle.t3_store.specs.Inner.Entries.{keyed, AreAllValid, HasTickForUnits, HaveTicksForUnits, HaveAllFreshPlaces}
 use Rattle.t3_store.specs.declared.entries.Entry.{Entry}
 use Rattle.t3_store.proofs.Copying.{keyed-next, all-next, all-at}
 use Rattle.t3_store.proofs.entries.copy_all.Goals as goal
@@ -19,7 +19,7 @@ loop-entry-preserved c = record {
       (all-next (λ (e : Entry). IsValid (thing_of e.object)) c.loop-entry.copy.items _ c.loop-entry.invariant.valid c.in_ok-copy_one.ensures.valid);
   ticks = subst HaveTicksForUnits (sym c.in_ok-push.ensures.items)
       (all-next HasTickForUnits c.loop-entry.copy.items _ c.loop-entry.invariant.ticks c.in_ok-copy_one.ensures.tick);
-  no_empty = subst HaveAllNoEmptyPlace (sym c.in_ok-push.ensures.items)
-      (all-next (λ (e : Entry). HasNoEmptyPlace e.object) c.loop-entry.copy.items _ c.loop-entry.invariant.no_empty
-      c.in_ok-copy_one.ensures.no_empty);
+  fresh_places = subst HaveAllFreshPlaces (sym c.in_ok-push.ensures.items)
+      (all-next (λ (e : Entry). HasFreshPlaces e.object) c.loop-entry.copy.items _ c.loop-entry.invariant.fresh_places
+      c.in_ok-copy_one.ensures.fresh_places);
 }

@@ -28,7 +28,7 @@ returns-in-Some-clause-places c =
         places_of c.tidy.new.self,
         get-changed places_of _ _ _ _ c.tidy.new.self at,
         (let same = sym stood ∙ there in
-            subst (λ (x : Parts × Places). IsTidied c.args.records c.args.oldest x.0 x.1 (places_of c.tidy.new.self))
+            subst (λ (x : Parts × Places). IsTidied c.args.record_limit c.args.oldest x.0 x.1 (places_of c.tidy.new.self))
             (λ i. (sym (ap parts_of (get-at thing_of _ _ _ _ at)) i, some-is _ _ same i)) c.tidy.ensures.places),
       );
       none = λ gone. absurd (true≢false (ap is_some (sym stood ∙ gone)));

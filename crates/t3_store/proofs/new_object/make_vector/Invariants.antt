@@ -6,5 +6,5 @@ use Rattle.t3_store.proofs.new_object.make_vector.Given as goal
 abbrev pub invariant-loop-index : goal.invariant-loop-index
 invariant-loop-index l = record {
   parts : parts_of l.vector ≡ filled (take l.index l.items);
-  no_empty : places_of l.vector ≡ places_for (parts_of l.vector);
+  fresh_places : places_of l.vector ≡ places_for (parts_of l.vector);
 }

@@ -8,7 +8,7 @@ use Rattle.t3_undo.specs.Content.{places_for}
 use Rattle.t3_store.specs.Inner.Shapes.{TableShape, value_of}
 use Rattle.t3_store.specs.Inner.Valid.{IsWholeTable}
 use Rattle.t3_store.proofs.TableUnits.{value-new, whole-new}
-use Rattle.t3_store.proofs.EmptyPlaces.{places-none, places-table}
+use Rattle.t3_store.proofs.FreshPlaces.{places-none, places-table}
 use Rattle.t3_store.proofs.new_object.NewObject.make.Goals as goal
 
 pub returns-in_ok-make_vector-in-Vector-clause-value : goal.returns-in_ok-make_vector-in-Vector-clause-value
@@ -23,12 +23,12 @@ pub returns-in-Table-clause-valid : goal.returns-in-Table-clause-valid
 returns-in-Table-clause-valid c =
     subst (λ (t : TableValue). IsWholeTable (tables.parts_of t)) (sym c.new.ensures) whole-new
 
-pub returns-in-Text-clause-no_empty : goal.returns-in-Text-clause-no_empty
-returns-in-Text-clause-no_empty c = sym places-none
+pub returns-in-Text-clause-fresh_places : goal.returns-in-Text-clause-fresh_places
+returns-in-Text-clause-fresh_places c = sym places-none
 
-pub returns-in-List-clause-no_empty : goal.returns-in-List-clause-no_empty
-returns-in-List-clause-no_empty c = sym places-none
+pub returns-in-List-clause-fresh_places : goal.returns-in-List-clause-fresh_places
+returns-in-List-clause-fresh_places c = sym places-none
 
-pub returns-in-Table-clause-no_empty : goal.returns-in-Table-clause-no_empty
-returns-in-Table-clause-no_empty c =
+pub returns-in-Table-clause-fresh_places : goal.returns-in-Table-clause-fresh_places
+returns-in-Table-clause-fresh_places c =
     subst (λ (t : TableValue). tables.places_of t ≡ places_for (tables.parts_of t)) (sym c.new.ensures) places-table

@@ -4,7 +4,7 @@ use Rattle.t3_undo.specs.Content.{places_for}
 use Rattle.t3_store.specs.Inner.Shapes.{thing_of, value_of}
 use Rattle.t3_store.specs.declared.object.Object.TheVariants as objects
 use Rattle.t3_store.proofs.TableUnits.{IsTableCopy, table-copy}
-use Rattle.t3_store.proofs.EmptyPlaces.{places-none}
+use Rattle.t3_store.proofs.FreshPlaces.{places-none}
 use Rattle.t3_store.proofs.object.Object.copy.Goals as goal
 
 copied : (c : goal.In_ok-copy-in-Table) → IsTableCopy c.in_ok-copy-in-Table.field-0 (value_of (thing_of (objects.Table c.in-Table.table)))
@@ -20,16 +20,16 @@ returns-in_ok-copy-in-Table-clause-valid c = (copied c).whole
 pub returns-in_ok-copy-in-Table-clause-tick : goal.returns-in_ok-copy-in-Table-clause-tick
 returns-in_ok-copy-in-Table-clause-tick c = (copied c).tick
 
-pub returns-in_ok-copy-in-Tads-clause-no_empty : goal.returns-in_ok-copy-in-Tads-clause-no_empty
-returns-in_ok-copy-in-Tads-clause-no_empty c =
+pub returns-in_ok-copy-in-Tads-clause-fresh_places : goal.returns-in_ok-copy-in-Tads-clause-fresh_places
+returns-in_ok-copy-in-Tads-clause-fresh_places c =
     ap (λ (o : Tads). o.places) c.in_ok-copy-in-Tads.ensures ∙ sym (ap (λ (o : Tads). places_for o.parts) c.in_ok-copy-in-Tads.ensures)
 
-pub returns-in_ok-copy-in-Text-clause-no_empty : goal.returns-in_ok-copy-in-Text-clause-no_empty
-returns-in_ok-copy-in-Text-clause-no_empty c = sym places-none
+pub returns-in_ok-copy-in-Text-clause-fresh_places : goal.returns-in_ok-copy-in-Text-clause-fresh_places
+returns-in_ok-copy-in-Text-clause-fresh_places c = sym places-none
 
-pub returns-in_ok-copy-in-List-clause-no_empty : goal.returns-in_ok-copy-in-List-clause-no_empty
-returns-in_ok-copy-in-List-clause-no_empty c = sym places-none
+pub returns-in_ok-copy-in-List-clause-fresh_places : goal.returns-in_ok-copy-in-List-clause-fresh_places
+returns-in_ok-copy-in-List-clause-fresh_places c = sym places-none
 
-pub returns-in_ok-copy-in-Vector-clause-no_empty : goal.returns-in_ok-copy-in-Vector-clause-no_empty
-returns-in_ok-copy-in-Vector-clause-no_empty c =
+pub returns-in_ok-copy-in-Vector-clause-fresh_places : goal.returns-in_ok-copy-in-Vector-clause-fresh_places
+returns-in_ok-copy-in-Vector-clause-fresh_places c =
     c.in_ok-copy-in-Vector.ensures.places ∙ sym (ap places_for c.in_ok-copy-in-Vector.ensures.parts)

@@ -27,5 +27,5 @@ returns c =
       values = same;
       ticks = subst (λ (n : ℕ). AreWithin (n + 1) (ticks_in c.in_ok-entries.entries.items)) (ap units_in same)
           (ticks-within c.in_ok-entries.entries.items c.in_ok-entries.ensures.ticks);
-      no_empty = no-empty-each c.in_ok-entries.entries.items c.in_ok-entries.ensures.no_empty;
+      fresh_places = no-empty-each c.in_ok-entries.entries.items c.in_ok-entries.ensures.fresh_places;
     }

@@ -53,7 +53,7 @@ put_back-requires c =
           (can-each c.args.self.now.places c.args.next c.args.journal.now.segments c.requires.sound);
       stamped = subst (λ (s : Stored). AreStamped c.args.journal.now.marks (stamp_at s.places) c.args.journal.now.segments) (sym view)
           c.requires.stamped;
-      bounded = subst (AreBounded c.args.records) (sym view) c.requires.bounded;
+      bounded = subst (AreBounded c.args.record_limit) (sym view) c.requires.bounded;
       gaps = λ q noted.
           subst (λ (s : Stored). IsWithoutGaps q (parts_under (put_back s.objects (newest_records c.args.journal.now.segments)) q)
           (drop 1 c.args.journal.now.segments)) (sym view)
@@ -68,7 +68,7 @@ returns-clause-sound c =
 
 pub returns-clause-bounded : goal.returns-clause-bounded
 returns-clause-bounded c =
-    bounded-below c.args.records c.args.next (stored_of c.put_back.new.entries.items) (stored_of c.cut.new.entries.items) c.cut.ensures.things c.cut.ensures.places
+    bounded-below c.args.record_limit c.args.next (stored_of c.put_back.new.entries.items) (stored_of c.cut.new.entries.items) c.cut.ensures.things c.cut.ensures.places
     c.put_back.ensures.bounded
 
 pub returns-clause-stamped : goal.returns-clause-stamped

@@ -18,7 +18,7 @@ invariant_of-self-2 c =
     ((λ i. is_past (values c.self.inside.objects.objects) (units_of (c.in_ok-object.ensures.value i)))
     ∙ (λ i. is_past (values c.self.inside.objects.objects) (sym c.units-units.ensures i))
     ∙ sym c.is_past.ensures ∙ c.if-is_past.false)
-    c.in_ok-object.ensures.tick c.in_ok-object.ensures.no_empty c.in_ok-add.ensures.ok
+    c.in_ok-object.ensures.tick c.in_ok-object.ensures.fresh_places c.in_ok-add.ensures.ok
 
 pub returns-clause-ok : goal.returns-clause-ok
 returns-clause-ok c =

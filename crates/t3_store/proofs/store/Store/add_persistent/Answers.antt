@@ -28,9 +28,9 @@ invariant_of-self-2 c =
           (thing_of c.args.object) (places_of c.args.object) (tick_of c.args.object) c.self.invariant.is (omega arith) (omega arith) (omega arith)
           (has-supers (supers_in c.args.self.now.store.persistent) (supers_from c.self.inside.persistent.objects) (thing_of c.args.object)
           (λ q. (λ i. option_and_then supers_of (get (sym view i).persistent q)) ∙ supers-values c.self.inside.persistent.objects q)
-          c.requires.supers) c.requires.tick c.requires.no_empty c.in_ok-add.ensures.ok;
+          c.requires.supers) c.requires.tick c.requires.fresh_places c.in_ok-add.ensures.ok;
       places = places-created c.self.inside.limits.records c.self.inside.persistent c.self.inside.transient _ c.self.inside.journal.segments c.self.inside.next
-          _ _ _ c.self.invariant.places c.self.invariant.is.sound c.requires.no_empty c.in_ok-add.ensures.ok;
+          _ _ _ c.self.invariant.places c.self.invariant.is.sound c.requires.fresh_places c.in_ok-add.ensures.ok;
     }
 
 pub returns-clause-fresh : goal.returns-clause-fresh

@@ -28,9 +28,9 @@ invariant_of-self-2 c =
           (has-supers (supers_of_live c.args.self.now.store)
           (supers_of_both c.self.inside.persistent.objects c.self.inside.transient.objects) (thing_of c.args.object)
           (λ q. (λ i. option_and_then supers_of (value_at (sym view i) q))
-          ∙ supers-both c.self.inside.persistent.objects c.self.inside.transient.objects q) c.requires.supers) c.requires.tick c.requires.no_empty c.in_ok-add.ensures.ok;
+          ∙ supers-both c.self.inside.persistent.objects c.self.inside.transient.objects q) c.requires.supers) c.requires.tick c.requires.fresh_places c.in_ok-add.ensures.ok;
       places = places-made c.self.inside.limits.records c.self.inside.persistent c.self.inside.transient _ c.self.inside.journal.segments
-          c.self.inside.next_transient _ _ _ c.self.invariant.places c.requires.no_empty c.in_ok-add.ensures.ok;
+          c.self.inside.next_transient _ _ _ c.self.invariant.places c.requires.fresh_places c.in_ok-add.ensures.ok;
     }
 
 pub returns-clause-fresh : goal.returns-clause-fresh

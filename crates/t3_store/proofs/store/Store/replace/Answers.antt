@@ -35,11 +35,11 @@ invariant_of-self c =
           c.give_up.new.units.items _ _ c.self.inside.writes c.max-self-inside.result c.self.invariant.is c.into_map-persistent.ensures.objects
           (no-clash c.args.state (values c.self.inside.transient.objects) free.0) c.requires.whole (λ q h. c.requires.below q (omega (arith, more)))
           (omega (arith, more)) (omega (arith, more, c.requires.next, c.self.invariant.is.numbered.next_fits)) c.into_map-persistent.ensures.from_one
-          little.0 little.1 c.into_map-persistent.ensures.ticks (zero-stamps c.into_map-persistent.result c.into_map-persistent.ensures.no_empty) (omega (arith, units)) (omega (arith, units))
+          little.0 little.1 c.into_map-persistent.ensures.ticks (zero-stamps c.into_map-persistent.result c.into_map-persistent.ensures.fresh_places) (omega (arith, units)) (omega (arith, units))
           (omega (arith, units, little.1, c.self.invariant.is.bounded.units, c.self.invariant.is.few_writes)) c.give_up.ensures.units c.give_up.ensures.room);
       places = subst (λ (j : Held). HaveFewPlaces c.into_map-persistent.result c.self.inside.transient c.self.inside.limits.records j.segments)
           (sym c.give_up.ensures.journal) (places-replaced c.self.inside.limits.records c.self.inside.persistent c.self.inside.transient _
-          c.self.inside.journal.segments c.self.invariant.places c.into_map-persistent.ensures.no_empty);
+          c.self.inside.journal.segments c.self.invariant.places c.into_map-persistent.ensures.fresh_places);
     }
 
 pub returns-clause-store : goal.returns-clause-store

@@ -18,11 +18,11 @@ invariant_of-result c =
           c.into_map-transient.ensures.objects c.requires.limits c.requires.next.0 c.requires.next.1 c.requires.first c.requires.passing
           c.requires.objects c.requires.units c.in_ok-journal.ensures c.in_ok-units.ensures.items c.in_ok-units.ensures.capacity
           c.into_map-persistent.ensures.from_one c.into_map-transient.ensures.from_one c.into_map-persistent.ensures.ticks
-          c.into_map-transient.ensures.ticks (zero-stamps c.into_map-persistent.result c.into_map-persistent.ensures.no_empty)
-          (zero-stamps c.into_map-transient.result c.into_map-transient.ensures.no_empty) (omega (arith, c.from.ensures, c.from-2.ensures))
+          c.into_map-transient.ensures.ticks (zero-stamps c.into_map-persistent.result c.into_map-persistent.ensures.fresh_places)
+          (zero-stamps c.into_map-transient.result c.into_map-transient.ensures.fresh_places) (omega (arith, c.from.ensures, c.from-2.ensures))
           c.requires.apart c.requires.whole c.requires.both;
       places = subst (λ (j : Held). HaveFewPlaces c.into_map-persistent.result c.into_map-transient.result c.args.limits.records j.segments)
-          (sym c.in_ok-journal.ensures) (places-begun c.args.limits.records _ _ c.into_map-persistent.ensures.no_empty c.into_map-transient.ensures.no_empty);
+          (sym c.in_ok-journal.ensures) (places-begun c.args.limits.records _ _ c.into_map-persistent.ensures.fresh_places c.into_map-transient.ensures.fresh_places);
     }
 
 pub returns-clause-store : goal.returns-clause-store

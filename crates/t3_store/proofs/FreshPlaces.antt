@@ -18,7 +18,7 @@ use Rattle.t3_lists.proofs.Items.{filled-push}
 use Rattle.t3_tables.specs.Table as tables
 use Rattle.t3_tables.specs.Table.{new_table}
 use Rattle.t3_store.specs.Inner.Shapes.{IsWithElement}
-use Rattle.t3_store.specs.Inner.Bounded.{HaveNoEmptyPlaces}
+use Rattle.t3_store.specs.Inner.Bounded.{HaveFreshPlaces}
 
 -- where nothing is present
 pub places-none : places_for empty ≡ empty
@@ -92,5 +92,5 @@ places-vector =
     nothing cells.Default = refl
 
 -- where there is no object
-pub no-empty-none : HaveNoEmptyPlaces (record { objects = empty; places = empty; ticks = empty })
+pub no-empty-none : HaveFreshPlaces (record { objects = empty; places = empty; ticks = empty })
 no-empty-none number own e = absurd (true≢false (ap is_some (sym e ∙ get-empty nat_cmp number)))

@@ -1,6 +1,0 @@
-use Rattle.std.proofs.Common.{◌∙◌, sym, arith}
-use Rattle.std.specs.FinMap.{get}
-use Rattle.t3_store.proofs.persistent.Persistent.after.Goals as goal
-
-pub returns-then-number-ge2147483647 : goal.returns-then-number-ge2147483647
-returns-then-number-ge2147483647 c = λ q h. (λ i. get (sym c.self.view_is i) q) ∙ c.self.invariant.numbered q (omega (arith, c.if-number-ge2147483647.true))
