@@ -1,15 +1,16 @@
 -- What is broken is found by rising number, and where nothing is, superclasses are whole. Other crates may use these.
-use Rattle.std.proofs.Common.{◌≡◌, ◌∙◌, ap, sym, subst, refl, ℕ, zero, suc, ◌<◌, ◌≤◌, true, ⊎_elim, List, [], ◌∷◌, Option, None, Some, true≢false, arith}
-use Rattle.std.specs.Prelude.{Contains, IsSome, MatchOption, is_some, option_and_then}
+use Rattle.std.proofs.Common.{◌≡◌, ◌∙◌, ap, sym, subst, refl, ℕ, zero, suc, ◌<◌, ◌≤◌, Bool, true, false, nat_lt, length, ⊎_elim, List, [], ◌∷◌, Option, None, Some, true≢false, ltb-false, arith}
+use Rattle.std.specs.Prelude.{Contains, IsSome, MatchOption, is_some, option_and_then, filter, cond}
+use Rattle.std.specs.List.{AllByRecursion}
 use Rattle.std.specs.FinMap.{get, keys}
 use Rattle.std.proofs.lemmas.Bool.{cases_lt}
 use Rattle.std.proofs.lemmas.List.Elements.{Contains-append_cases}
-use Rattle.t3_tadsobj.specs.Order.{SupersAt, IsWalk}
+use Rattle.t3_tadsobj.specs.Order.{SupersAt, IsSuperclass, IsWalk}
 use Rattle.t3_tadsobj.specs.Cycles.{IsFirstCyclic}
 use Rattle.t3_tadsobj.proofs.OrderMembers.{each}
 use Rattle.t3_store.specs.Value.{Objects, supers_of, IsNextAbove}
 use Rattle.t3_store.specs.Whole.{AreThere, IsWhole, supers_in}
-use Rattle.t3_store.specs.Broken.{LacksSuper, IsOwnAncestor, IsNever, IsLeast, IsFirstBroken}
+use Rattle.t3_store.specs.Broken.{LacksSuper, has_superclass, supers_or_none, IsOwnAncestor, IsNever, IsLeast, IsFirstBroken}
 use Rattle.t3_store.specs.declared.broken.Broken.{Broken}
 use Rattle.t3_store.specs.declared.broken.Broken.TheVariants.{Missing, Cycle}
 use Rattle.t3_store.specs.Inner.Numbers.{has_number}
@@ -54,11 +55,69 @@ pub none-left : (objects : Objects) (P : ℕ → Type 0) (n : ℕ) → ((q : ℕ
 none-left objects P n there above none q holds =
     ⊎_elim (λ past. there q (above q past) holds) (λ before. none q before holds) (cases_lt n q)
 
--- the first of all numbers, which rise, that is its own ancestor is the least that is
-own-numbered : (objects : Objects) (n : ℕ) → IsOwnAncestor (supers_in objects) n → Contains (keys objects) n
-own-numbered objects n own = has_number objects n (own-live (supers_in objects) n own)
+-- what is its own ancestor has a superclass
+positive : (n : ℕ) → 0 < n → nat_lt 0 n ≡ true
+positive n more = by (nat_lt 0 n) refl
+  where
+    by : (b : Bool) → nat_lt 0 n ≡ b → b ≡ true
+    by true e = refl
+    by false e = absurd (let none = ltb-false 0 n e in omega arith)
 
-pub least-own : (objects : Objects) (found : Option ℕ) → IsFirstCyclic (supers_in objects) (keys objects) found
+some-supers : (supers : List ℕ) (above : ℕ) → Contains supers above → nat_lt 0 (length supers) ≡ true
+some-supers [] above has = absurd (omega (arith, has.1))
+some-supers (x ∷ supers) above has = positive (length (x ∷ supers)) (omega arith)
+
+own-subclass : (at : SupersAt) (n : ℕ) → IsOwnAncestor at n → has_superclass at n ≡ true
+own-subclass at n walk = first walk.0 n walk.1
+  where
+    step : (above : ℕ) → IsSuperclass at n above → has_superclass at n ≡ true
+    step above is = subst (λ o. nat_lt 0 (length (supers_or_none o)) ≡ true) (sym is.are) (some-supers is.supers above is.among)
+
+    first : (path : List ℕ) (above : ℕ) → IsWalk at n path above → has_superclass at n ≡ true
+    first [] above walk = step above walk
+    first (x ∷ path) above walk = step x walk.0
+
+kept-among : (p : ℕ → Bool) (n : ℕ) (ns : List ℕ) → p n ≡ true → Contains ns n → Contains (filter p ns) n
+kept-among p n [] is has = has
+kept-among p n (m ∷ ns) is (zero, less, same) =
+    let own : p m ≡ true = subst (λ k. p k ≡ true) (sym same) is in
+    subst (λ b. Contains (cond b (m ∷ filter p ns) (filter p ns)) n) (sym own) (0, omega arith, same)
+kept-among p n (m ∷ ns) is (suc k, less, same) = by (p m) (kept-among p n ns is (k, omega arith, same))
+  where
+    by : (b : Bool) → Contains (filter p ns) n → Contains (cond b (m ∷ filter p ns) (filter p ns)) n
+    by true (k, less, same) = (suc k, omega arith, same)
+    by false has = has
+
+-- and numbers of which some are left out still rise
+kept-above : (p : ℕ → Bool) (n : ℕ) (ns : List ℕ) → AllByRecursion (λ later. n < later) ns
+    → AllByRecursion (λ later. n < later) (filter p ns)
+kept-above p n [] all = tt
+kept-above p n (m ∷ ns) all = by (p m) (kept-above p n ns all.1)
+  where
+    by : (b : Bool) → AllByRecursion (λ later. n < later) (filter p ns)
+        → AllByRecursion (λ later. n < later) (cond b (m ∷ filter p ns) (filter p ns))
+    by true rest = (all.0, rest)
+    by false rest = rest
+
+kept-rise : (p : ℕ → Bool) (ns : List ℕ) → NumbersRise ns → NumbersRise (filter p ns)
+kept-rise p [] rises = tt
+kept-rise p (n ∷ ns) rises = by (p n) (kept-rise p ns rises.1)
+  where
+    by : (b : Bool) → NumbersRise (filter p ns) → NumbersRise (cond b (n ∷ filter p ns) (filter p ns))
+    by true rest = (kept-above p n ns rises.0, rest)
+    by false rest = rest
+
+-- the numbers of objects that have superclasses
+abbrev pub subclasses : Objects → List ℕ
+subclasses objects = filter (has_superclass (supers_in objects)) (keys objects)
+
+-- the first of them, which rise, that is its own ancestor is the least object that is
+own-numbered : (objects : Objects) (n : ℕ) → IsOwnAncestor (supers_in objects) n → Contains (subclasses objects) n
+own-numbered objects n own =
+    kept-among (has_superclass (supers_in objects)) n (keys objects) (own-subclass (supers_in objects) n own)
+    (has_number objects n (own-live (supers_in objects) n own))
+
+pub least-own : (objects : Objects) (found : Option ℕ) → IsFirstCyclic (supers_in objects) (subclasses objects) found
     → MatchOption found (IsNever (IsOwnAncestor (supers_in objects))) (λ n. IsLeast (IsOwnAncestor (supers_in objects)) n)
 least-own objects None none = λ n own. none n (own-numbered objects n own) own
 least-own objects (Some n) first = (
@@ -67,7 +126,8 @@ least-own objects (Some n) first = (
       ⊎_elim
       (λ before. first.none_before smaller before own)
       (λ later. (
-      let far = from-on first.before first.after n smaller (subst NumbersRise first.are (keys-rise objects)) later in
+      let far = from-on first.before first.after n smaller (subst NumbersRise first.are
+      (kept-rise (has_superclass (supers_in objects)) (keys objects) (keys-rise objects))) later in
       absurd (omega arith)
       ))
       (Contains-append_cases first.before (n ∷ first.after) smaller

@@ -1,5 +1,5 @@
 -- What is broken of superclasses: that one isn't a tads-object here, or that an object is its own ancestor.
-use Rattle.std.specs.Prelude.{◌≡◌, ◌<◌, ℕ, List, [], Option, None, Some}
+use Rattle.std.specs.Prelude.{◌≡◌, ◌<◌, ℕ, Bool, nat_lt, List, [], length, Option, None, Some}
 use Rattle.t3_tadsobj.specs.Order.{SupersAt, IsSuperclass, IsAncestor}
 use Rattle.t3_store.specs.Whole.{IsAcyclic}
 use Rattle.t3_store.specs.declared.broken.Broken.{Broken}
@@ -34,3 +34,7 @@ IsFirstBroken at (Some (number, Cycle)) = IsNever (LacksSuper at) × IsLeast (Is
 abbrev pub supers_or_none : Option (List ℕ) → List ℕ
 supers_or_none None = []
 supers_or_none (Some supers) = supers
+
+-- the object has a superclass
+abbrev pub has_superclass : SupersAt → ℕ → Bool
+has_superclass at number = nat_lt 0 (length (supers_or_none (at number)))

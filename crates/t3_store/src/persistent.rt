@@ -12,7 +12,7 @@ ghost use Rattle.t3_store.specs.Inner.Bounded.{HaveFreshPlaces};
 ghost use Rattle.t3_store.specs.Inner.Store.{IsPersistent};
 ghost use Rattle.t3_undo.specs.Objects.{adjust};
 
-use crate::broken::{Broken, lacks_super};
+use crate::broken::{Broken, lacks_super, subclasses};
 use crate::kind::Kind;
 use crate::limits::StoreRefusal;
 use crate::new_object::NewObject;
@@ -156,13 +156,14 @@ impl Persistent {
         None
     }
 
-    /// The least number of an object that is its own ancestor.
+    /// The least number of an object that is its own ancestor. One without superclasses isn't, so it is left out.
     fn first_own_ancestor(&self, alloc: Global) -> Result<Option<u32>, NoMemory>
         ensures { IfOk result (λ found. MatchOption found (IsNever (IsOwnAncestor (supers_in self.now)))
             (λ number. IsLeast (IsOwnAncestor (supers_in self.now)) number)) }
     {
         let numbers = self.objects.numbers(alloc)?;
-        first_cyclic(alloc, self, &numbers)
+        let subclasses = subclasses(alloc, self, &numbers)?;
+        first_cyclic(alloc, self, &subclasses)
     }
 
     /// How many units the objects count together. There are no more of them, and of objects, than there may be.
