@@ -1,9 +1,10 @@
 //! Sources that are assembled, and images that are listed.
+use crate::devices::{STOPS, Stop, check_outcome, halves_of, left_by};
 use std::alloc::Global;
+use std::process::Abort;
 use std::test::Fail;
-use t3_cli::{Status, t3_main};
-use t3_io::{MemoryConsole, MemoryDepot};
-use t3_testing::{lines, outcome, owned, written};
+use t3_cli::Status;
+use t3_testing::{lines, outcome, written};
 
 /// A story that says 42.
 const STORY: &str =
@@ -18,16 +19,28 @@ const OTHER: &str =
                      metaclass \"dictionary2/030001\" 2 - / block \"CPPG\" 1 / page 1 0 0 / main: / \
                      method 0 0 1 0 / retnil / end 0";
 
+/// What `asm` shows of a source, and the image that it puts.
+fn assembled(alloc: Global, source: &str) -> Result<(Vec<u8>, Vec<u8>), Fail> {
+    written(alloc, "asm", &lines(alloc, source)?)
+}
+
+/// How a run of an image ends, and what it shows.
+fn check_run(
+    rt: &impl Abort,
+    alloc: Global,
+    image: &[u8],
+    want: &str,
+    status: Status,
+) -> Result<(), Fail> {
+    check_outcome(rt, alloc, &["run", "a.t3"], Some(image), want, status)
+}
+
 #[test]
 fn assembles_and_runs_a_story(rt: HostRuntime) -> Result<(), Fail> {
-    let alloc = rt.alloc();
-    let (shown, image) = written(alloc, "asm", &lines(alloc, STORY)?)?;
+    let (shown, image) = assembled(rt.alloc(), STORY)?;
     assert_eq!(rt; shown.as_slice(), b"ok bytes=185\n".as_slice());
     assert_eq!(rt; image.get(142..), Some(PAGE));
-    let (status, shown) = outcome(alloc, &["run", "a.t3"], Some(&image))?;
-    assert_eq!(rt; shown.as_slice(), b"42\n".as_slice());
-    assert_eq!(rt; status, Status::Done);
-    Ok(())
+    check_run(&rt, rt.alloc(), &image, "42\n", Status::Done)
 }
 
 /// The page's block of that story, and the end.
@@ -35,29 +48,47 @@ const PAGE: &[u8] = b"CPPG\x17\x00\x00\x00\x01\x00\x01\x00\x00\x00\x00\x00\x00\
                       \x00\x00\x00\x00\x02\x00\x00\x00\x00\x00\x03\x2A\xB1\x01\x00\x51\
                       EOF \x00\x00\x00\x00\x00\x00";
 
+/// A source assembles to an image again.
+fn check_again(rt: &impl Abort, alloc: Global, source: &[u8], image: &[u8]) -> Result<(), Fail> {
+    let (shown, again) = written(alloc, "asm", source)?;
+    assert_eq!(rt; shown.as_slice(), b"ok bytes=185\n".as_slice());
+    assert_eq!(rt; again.as_slice(), image);
+    Ok(())
+}
+
+/// An image is listed by a source that assembles to it.
+fn check_listed(rt: &impl Abort, alloc: Global, image: &[u8]) -> Result<(), Fail> {
+    let (shown, listing) = written(alloc, "list", image)?;
+    assert_eq!(rt; shown.as_slice(), b"ok bytes=302\n".as_slice());
+    check_again(rt, alloc, &listing, image)
+}
+
 #[test]
 fn lists_what_assembles_to_the_same(rt: HostRuntime) -> Result<(), Fail> {
-    let alloc = rt.alloc();
-    let (_, image) = written(alloc, "asm", &lines(alloc, STORY)?)?;
-    let (shown, listing) = written(alloc, "list", &image)?;
-    assert_eq!(rt; shown.as_slice(), b"ok bytes=302\n".as_slice());
-    let (shown, again) = written(alloc, "asm", &listing)?;
-    assert_eq!(rt; shown.as_slice(), b"ok bytes=185\n".as_slice());
-    assert_eq!(rt; again.as_slice(), image.as_slice());
-    Ok(())
+    let (_, image) = assembled(rt.alloc(), STORY)?;
+    check_listed(&rt, rt.alloc(), &image)
+}
+
+/// An image whose metaclass isn't known is one, and no program.
+fn check_other(rt: &impl Abort, alloc: Global, image: &[u8]) -> Result<(), Fail> {
+    let want = "ok blocks=5 bytes=215\n";
+    check_outcome(
+        rt,
+        alloc,
+        &["check", "a.t3"],
+        Some(image),
+        want,
+        Status::Done,
+    )?;
+    let refused = "load refused Metaclass 1\n";
+    check_run(rt, alloc, image, refused, Status::LoadRefused)
 }
 
 #[test]
 fn assembles_metaclasses(rt: HostRuntime) -> Result<(), Fail> {
-    let alloc = rt.alloc();
-    let (shown, image) = written(alloc, "asm", &lines(alloc, OTHER)?)?;
+    let (shown, image) = assembled(rt.alloc(), OTHER)?;
     assert_eq!(rt; shown.as_slice(), b"ok bytes=215\n".as_slice());
-    let (_, shown) = outcome(alloc, &["check", "a.t3"], Some(&image))?;
-    assert_eq!(rt; shown.as_slice(), b"ok blocks=5 bytes=215\n".as_slice());
-    let (status, shown) = outcome(alloc, &["run", "a.t3"], Some(&image))?;
-    assert_eq!(rt; shown.as_slice(), b"load refused Metaclass 1\n".as_slice());
-    assert_eq!(rt; status, Status::LoadRefused);
-    Ok(())
+    check_other(&rt, rt.alloc(), &image)
 }
 
 /// The front of a source with the metaclass of tads-objects and all function sets, and its end.
@@ -69,7 +100,9 @@ const FRONT: &str =
 const BACK: &str = " / end 0";
 
 /// Objects, code, and what the run shows.
-const WITH_OBJECTS: [(&str, &str, &str); 8] = [
+type ObjectsRow = (&'static str, &'static str, &'static str);
+
+const WITH_OBJECTS: [ObjectsRow; 8] = [
     // The exception of a fault would be the next object.
     (
         PLAIN_7,
@@ -100,16 +133,28 @@ const WITH_OBJECTS: [(&str, &str, &str); 8] = [
 /// A tads-object without superclasses and properties.
 const PLAIN_7: &str = "block \"OBJS\" 1 / objects 0 0 / object 7 / u2 0 / u2 0 / u2 0";
 
+/// The image of these objects and a method of this code.
+fn image_with(alloc: Global, objects: &str, code: &str) -> Result<Vec<u8>, Fail> {
+    let source = format!(in alloc;
+        "{FRONT}{objects} / block \"CPPG\" 1 / page 1 0 0 / main: / method 0 0 4 0 / {code}{BACK}"
+    )?;
+    let (_, image) = assembled(alloc, &source)?;
+    Ok(image)
+}
+
+/// The run of a row shows what it says.
+fn check_with_objects(rt: &impl Abort, alloc: Global, row: &ObjectsRow) -> Result<(), Fail> {
+    let (objects, code, want) = *row;
+    let image = image_with(alloc, objects, code)?;
+    let (_, shown) = outcome(alloc, &["run", "a.t3"], Some(&image))?;
+    assert_eq!(rt; shown.as_slice(), want.as_bytes());
+    Ok(())
+}
+
 #[test]
 fn runs_images_with_objects(rt: HostRuntime) -> Result<(), Fail> {
-    let alloc = rt.alloc();
-    for (objects, code, want) in WITH_OBJECTS {
-        let source = format!(in alloc;
-            "{FRONT}{objects} / block \"CPPG\" 1 / page 1 0 0 / main: / method 0 0 4 0 / {code}{BACK}"
-        )?;
-        let (_, image) = written(alloc, "asm", &lines(alloc, &source)?)?;
-        let (_, shown) = outcome(alloc, &["run", "a.t3"], Some(&image))?;
-        assert_eq!(rt; shown.as_slice(), want.as_bytes());
+    for row in &WITH_OBJECTS {
+        check_with_objects(&rt, rt.alloc(), row)?;
     }
     Ok(())
 }
@@ -132,73 +177,52 @@ const REFUSED: [(&str, &str); 5] = [
     ("end 0", "refused line 1 Order\n"),
 ];
 
+/// A source is refused, and this is shown.
+fn check_refused(rt: &impl Abort, alloc: Global, source: &str, want: &str) -> Result<(), Fail> {
+    let file = lines(alloc, source)?;
+    let words = ["asm", "a.t3", "b.t3"];
+    check_outcome(rt, alloc, &words, Some(&file), want, Status::SourceRefused)
+}
+
 #[test]
 fn refuses_the_first_bad_line(rt: HostRuntime) -> Result<(), Fail> {
-    let alloc = rt.alloc();
     for (source, want) in REFUSED {
-        let (status, shown) = outcome(
-            alloc,
-            &["asm", "a.t3", "b.t3"],
-            Some(&lines(alloc, source)?),
-        )?;
-        assert_eq!(rt; shown.as_slice(), want.as_bytes());
-        assert_eq!(rt; status, Status::SourceRefused);
+        check_refused(&rt, rt.alloc(), source, want)?;
     }
+    Ok(())
+}
+
+/// A command tells that its file isn't there, but not without a word for the other.
+fn check_absent(rt: &impl Abort, alloc: Global, command: &str) -> Result<(), Fail> {
+    let words = [command, "a.t3", "b.t3"];
+    check_outcome(rt, alloc, &words, None, "absent a.t3\n", Status::Absent)?;
+    let (status, _) = outcome(alloc, &[command, "a.t3"], None)?;
+    assert_eq!(rt; status, Status::Usage);
     Ok(())
 }
 
 #[test]
 fn names_no_file_that_is_not_there(rt: HostRuntime) -> Result<(), Fail> {
-    let alloc = rt.alloc();
     for command in ["asm", "list"] {
-        let (status, shown) = outcome(alloc, &[command, "a.t3", "b.t3"], None)?;
-        assert_eq!(rt; shown.as_slice(), b"absent a.t3\n".as_slice());
-        assert_eq!(rt; status, Status::Absent);
-        let (status, _) = outcome(alloc, &[command, "a.t3"], None)?;
-        assert_eq!(rt; status, Status::Usage);
+        check_absent(&rt, rt.alloc(), command)?;
     }
     Ok(())
 }
 
-/// The status of a command where the calls of these numbers of the depot and of the console fail, what is shown, and what
-/// stands in the file that is put, which was `old`.
-fn stopped(
+/// Whether a command of this file, which puts that one, ends as a row says.
+fn stops_so(
     alloc: Global,
     command: &str,
     file: &[u8],
-    depot_call: u32,
-    console_call: u32,
-) -> Result<(Status, Vec<u8>, Vec<u8>), Fail> {
-    let mut depot = MemoryDepot::new(alloc, &[depot_call])?;
-    depot.keep(b"a.t3", file)?;
-    depot.keep(b"b.t3", b"old")?;
-    let mut console = MemoryConsole::new(alloc, b"", &[console_call])?;
-    let words = owned(alloc, &[command, "a.t3", "b.t3"])?;
-    let status = t3_main(alloc, &words, &mut depot, &mut console);
-    let put = Vec::from_slice(alloc, depot.file(b"b.t3").unwrap_or(b""))?;
-    Ok((status, Vec::from_slice(alloc, console.shown())?, put))
-}
-
-/// Calls that fail, of the depot and of the console, of which 9 is never made; the status; whether the line is shown; and
-/// how many halves of the file are put.
-type Stop = (u32, u32, Status, bool, u32);
-
-const STOPS: [Stop; 6] = [
-    (0, 9, Status::DepotFault, false, 0),
-    (1, 9, Status::DepotFault, false, 0),
-    (2, 9, Status::DepotFault, false, 1),
-    (3, 9, Status::Done, true, 2),
-    (9, 0, Status::ConsoleFault, false, 2),
-    (9, 1, Status::Done, true, 2),
-];
-
-/// What stands where so many halves of a file are put.
-fn halves_of(file: &[u8], halves: u32) -> &[u8] {
-    match halves {
-        0 => b"old",
-        1 => &file[..file.len() / 2],
-        _ => file,
-    }
+    wanted: &[u8],
+    stop: &Stop,
+) -> Result<bool, Fail> {
+    let (depot_call, console_call, status, is_shown, halves) = *stop;
+    let words = [command, "a.t3", "b.t3"];
+    let left = left_by(alloc, &words, file, &[depot_call], &[console_call])?;
+    let put = Vec::from_slice(alloc, halves_of(wanted, halves))?;
+    let is_so = left.status == status && left.shown.is_empty() != is_shown;
+    Ok(is_so && left.put == Some(put))
 }
 
 /// The first row that a command of this file, which puts that one, doesn't end by.
@@ -208,25 +232,25 @@ fn first_unlike(
     file: &[u8],
     wanted: &[u8],
 ) -> Result<Option<Stop>, Fail> {
-    for stop in STOPS {
-        let (depot_call, console_call, status, is_shown, halves) = stop;
-        let (got, shown, put) = stopped(alloc, command, file, depot_call, console_call)?;
-        let is_put = put.as_slice() == halves_of(wanted, halves);
-        if got != status || shown.is_empty() == is_shown || !is_put {
-            return Ok(Some(stop));
+    for stop in &STOPS {
+        if !stops_so(alloc, command, file, wanted, stop)? {
+            return Ok(Some(*stop));
         }
     }
     Ok(None)
 }
 
-/// A file is read twice; then one is put, and the line shown.
+/// An image is listed over devices that fail.
+fn check_stops(rt: &impl Abort, alloc: Global, image: &[u8]) -> Result<(), Fail> {
+    let (_, listing) = written(alloc, "list", image)?;
+    assert_eq!(rt; first_unlike(alloc, "list", image, &listing)?, None);
+    Ok(())
+}
+
 #[test]
 fn stops_where_a_device_fails(rt: HostRuntime) -> Result<(), Fail> {
-    let alloc = rt.alloc();
-    let source = lines(alloc, STORY)?;
-    let (_, image) = written(alloc, "asm", &source)?;
-    let (_, listing) = written(alloc, "list", &image)?;
-    assert_eq!(rt; first_unlike(alloc, "asm", &source, &image)?, None);
-    assert_eq!(rt; first_unlike(alloc, "list", &image, &listing)?, None);
-    Ok(())
+    let source = lines(rt.alloc(), STORY)?;
+    let (_, image) = written(rt.alloc(), "asm", &source)?;
+    assert_eq!(rt; first_unlike(rt.alloc(), "asm", &source, &image)?, None);
+    check_stops(&rt, rt.alloc(), &image)
 }

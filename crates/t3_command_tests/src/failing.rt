@@ -1,25 +1,50 @@
 //! Words that show a line or two and put nothing, over devices that fail at their k-th call.
-use std::alloc::Global;
-use std::test::Fail;
-use t3_cli::{Status, t3_main};
-use t3_io::{MemoryConsole, MemoryDepot};
-use t3_testing::{END, image, owned};
+ghost use Rattle.std.specs.Prelude.{◌≡◌, IfOk};
+ghost use Rattle.t3_io.specs.Failing.{no_calls};
 
-/// The status and what is shown where the calls of these numbers fail. The file `a.t3` is an image without blocks,
-/// `b.t3` is none, and `b.t3s` is a source with a bad line.
+use crate::devices::{depot_of, status_over};
+use std::alloc::Global;
+use std::process::Abort;
+use std::test::Fail;
+use t3_cli::Status;
+use t3_io::{MemoryConsole, MemoryDepot};
+use t3_testing::{END, image};
+
+/// A depot whose calls of these numbers fail. The file `a.t3` is an image without blocks, `b.t3` is
+/// none, and `b.t3s` is a source with a bad line.
+fn depot_with(alloc: Global, failing: &[u32]) -> Result<MemoryDepot, Fail>
+    ensures { IfOk result (λ depot. depot.calls ≡ no_calls failing.now) }
+{
+    let image = image(alloc, &[END])?;
+    let mut depot = depot_of(alloc, failing, &image, &[0x55; 79])?;
+    depot.keep(b"b.t3s", b"image\nfrob\n")?;
+    Ok(depot)
+}
+
+/// The status and what is shown over devices of which no call has failed.
+fn outcome_over(
+    alloc: Global,
+    words: &[&str],
+    depot: &mut MemoryDepot,
+    console: &mut MemoryConsole,
+) -> Result<(Status, Vec<u8>), Fail>
+    requires depot { depot.old.calls.faults ≡ 0 }
+    requires console { console.old.calls.faults ≡ 0 }
+{
+    let status = status_over(alloc, words, depot, console)?;
+    Ok((status, Vec::from_slice(alloc, console.shown())?))
+}
+
+/// The status and what is shown where the calls of these numbers fail.
 fn outcome_with(
     alloc: Global,
     words: &[&str],
     depot_calls: &[u32],
     console_calls: &[u32],
 ) -> Result<(Status, Vec<u8>), Fail> {
-    let mut depot = MemoryDepot::new(alloc, depot_calls)?;
-    depot.keep(b"a.t3", &image(alloc, &[END])?)?;
-    depot.keep(b"b.t3", &[0x55; 79])?;
-    depot.keep(b"b.t3s", b"image\nfrob\n")?;
+    let mut depot = depot_with(alloc, depot_calls)?;
     let mut console = MemoryConsole::new(alloc, b"", console_calls)?;
-    let status = t3_main(alloc, &owned(alloc, words)?, &mut depot, &mut console);
-    Ok((status, Vec::from_slice(alloc, console.shown())?))
+    outcome_over(alloc, words, &mut depot, &mut console)
 }
 
 const USAGE: &str = "usage: t3 check or show or list or run or rewrite or asm or drill\n";
@@ -82,33 +107,69 @@ fn is_both(text: &[u8], first: &str, second: &str) -> bool {
     }
 }
 
+/// The words of a row show and answer what it says where no call that they make is to fail.
+fn check_whole(
+    rt: &impl Abort,
+    alloc: Global,
+    row: &Row,
+    depot_calls: &[u32],
+    console_calls: &[u32],
+) -> Result<(), Fail> {
+    let (words, _, _, first, last, want) = *row;
+    let (status, shown) = outcome_with(alloc, words, depot_calls, console_calls)?;
+    assert!(rt; is_both(&shown, first, last));
+    assert_eq!(rt; status, want);
+    Ok(())
+}
+
+/// Where a call of the depot fails, nothing is shown.
+fn check_depot_fault(
+    rt: &impl Abort,
+    alloc: Global,
+    words: &[&str],
+    call: u32,
+) -> Result<(), Fail> {
+    let (status, shown) = outcome_with(alloc, words, &[call], &[])?;
+    assert_eq!(rt; shown.as_slice(), b"".as_slice(), "{call}");
+    assert_eq!(rt; status, Status::DepotFault, "{call}");
+    Ok(())
+}
+
 #[test]
 fn stops_where_the_depot_fails(rt: HostRuntime) -> Result<(), Fail> {
-    for (words, calls, _, first, last, want) in ROWS {
+    for row in &ROWS {
+        let (words, calls, _, _, _, _) = *row;
         for call in 0..calls {
-            let (status, shown) = outcome_with(rt.alloc(), words, &[call], &[])?;
-            assert_eq!(rt; shown.as_slice(), b"".as_slice(), "{call}");
-            assert_eq!(rt; status, Status::DepotFault, "{call}");
+            check_depot_fault(&rt, rt.alloc(), words, call)?;
         }
-        let (status, shown) = outcome_with(rt.alloc(), words, &[calls], &[])?;
-        assert!(rt; is_both(&shown, first, last));
-        assert_eq!(rt; status, want);
+        check_whole(&rt, rt.alloc(), row, &[calls], &[])?;
     }
+    Ok(())
+}
+
+/// Where a call of the console fails, what the calls before it show is shown.
+fn check_console_fault(
+    rt: &impl Abort,
+    alloc: Global,
+    words: &[&str],
+    call: u32,
+    before: &str,
+) -> Result<(), Fail> {
+    let (status, shown) = outcome_with(alloc, words, &[], &[call])?;
+    assert_eq!(rt; shown.as_slice(), before.as_bytes(), "{call}");
+    assert_eq!(rt; status, Status::ConsoleFault, "{call}");
     Ok(())
 }
 
 #[test]
 fn stops_where_the_console_fails(rt: HostRuntime) -> Result<(), Fail> {
-    for (words, _, calls, first, last, want) in ROWS {
+    for row in &ROWS {
+        let (words, _, calls, first, _, _) = *row;
         for call in 0..calls {
-            let (status, shown) = outcome_with(rt.alloc(), words, &[], &[call])?;
             let before = if call == 0 { "" } else { first };
-            assert_eq!(rt; shown.as_slice(), before.as_bytes(), "{call}");
-            assert_eq!(rt; status, Status::ConsoleFault, "{call}");
+            check_console_fault(&rt, rt.alloc(), words, call, before)?;
         }
-        let (status, shown) = outcome_with(rt.alloc(), words, &[], &[calls])?;
-        assert!(rt; is_both(&shown, first, last));
-        assert_eq!(rt; status, want);
+        check_whole(&rt, rt.alloc(), row, &[], &[calls])?;
     }
     Ok(())
 }

@@ -7,6 +7,8 @@ mod assemble;
 #[cfg(test)]
 mod check;
 #[cfg(test)]
+mod devices;
+#[cfg(test)]
 mod failing;
 #[cfg(test)]
 mod rewrite;

@@ -84,6 +84,11 @@ fn the_sure_devices_keep_all(rt: HostRuntime) -> Result<(), Fail> {
 
 fn check_sure_depot(rt: &impl Abort, alloc: Global) -> Result<(), Fail> {
     let mut depot = SureDepot::new(alloc);
+    check_files(rt, &mut depot)
+}
+
+/// A file that is kept and one that is put are there.
+fn check_files(rt: &impl Abort, depot: &mut SureDepot) -> Result<(), Fail> {
     depot.keep(b"a", b"kept")?;
     depot.put(b"b", b"0123456789")?;
     let mut buf = [0u8; 4];
@@ -94,15 +99,36 @@ fn check_sure_depot(rt: &impl Abort, alloc: Global) -> Result<(), Fail> {
 }
 
 fn check_sure_console(rt: &impl Abort, alloc: Global) -> Result<(), Fail> {
-    let mut buf = *b"89\0\0";
     let mut console = SureConsole::new(alloc, b"input")?;
+    check_shown(rt, &mut console)?;
+    check_input(rt, &mut console)
+}
+
+/// What is written is shown.
+fn check_shown(rt: &impl Abort, console: &mut SureConsole) -> Result<(), Fail> {
     assert_eq!(rt; console.write(b"shown")?, 5);
     assert_eq!(rt; console.shown(), b"shown".as_slice());
-    assert_eq!(rt; console.read(&mut buf)?, 4);
-    assert_eq!(rt; buf.as_slice(), b"inpu".as_slice());
-    assert_eq!(rt; console.read(&mut buf)?, 1);
-    assert_eq!(rt; buf.as_slice(), b"tnpu".as_slice());
-    assert_eq!(rt; console.read(&mut buf)?, 0);
+    Ok(())
+}
+
+/// The input is read in pieces, and then no more.
+fn check_input(rt: &impl Abort, console: &mut SureConsole) -> Result<(), Fail> {
+    let mut buf = *b"89\0\0";
+    check_piece(rt, console, &mut buf, 4, b"inpu")?;
+    check_piece(rt, console, &mut buf, 1, b"tnpu")?;
+    check_piece(rt, console, &mut buf, 0, b"tnpu")
+}
+
+/// A read gives so many bytes, and the buffer is this then.
+fn check_piece(
+    rt: &impl Abort,
+    console: &mut SureConsole,
+    buf: &mut [u8; 4],
+    count: usize,
+    want: &[u8],
+) -> Result<(), Fail> {
+    assert_eq!(rt; console.read(buf)?, count);
+    assert_eq!(rt; buf.as_slice(), want);
     Ok(())
 }
 

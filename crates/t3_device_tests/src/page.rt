@@ -154,27 +154,36 @@ fn shows_texts_as_a_renderer_of_whole_texts_does(rt: HostRuntime) -> Result<(), 
     says_all_at(&rt, rt.alloc(), 1000)
 }
 
+/// A text, and what is put out for it on lines of ten.
+type PageRow = (&'static [u8], &'static [u8]);
+
+const BY_HAND: [PageRow; 7] = [
+    (b"the quick brown fox", b"the quick\nbrown fox\n"),
+    (b"abcdefghijkl mn", b"abcdefghijkl\nmn\n"),
+    (b"mn abcdefghijkl", b"mn\nabcdefghijkl\n"),
+    (b"  a \t b  ", b"a b\n"),
+    (b"a\n\nb\n", b"a\n\nb\n"),
+    (
+        b"12345 \xc3\xa9\xc3\xa9\xc3\xa9\xc3\xa9 x",
+        b"12345 \xc3\xa9\xc3\xa9\xc3\xa9\xc3\xa9\nx\n",
+    ),
+    (b"", b""),
+];
+
+/// A text on a page of its own is put out so.
+fn check_lines(rt: &impl Abort, alloc: Global, text: &[u8], lines: &[u8]) -> Result<(), Fail> {
+    let mut page = Page::new(alloc, 10);
+    let mut out = Vec::new(alloc);
+    page.say(text, &mut out)?;
+    page.close(&mut out)?;
+    assert_eq!(rt; out.as_slice(), lines, "{text:?}");
+    Ok(())
+}
+
 #[test]
 fn shows_what_was_worked_out_by_hand(rt: HostRuntime) -> Result<(), Fail> {
-    let alloc = rt.alloc();
-    let rows: [(&[u8], &[u8]); 7] = [
-        (b"the quick brown fox", b"the quick\nbrown fox\n"),
-        (b"abcdefghijkl mn", b"abcdefghijkl\nmn\n"),
-        (b"mn abcdefghijkl", b"mn\nabcdefghijkl\n"),
-        (b"  a \t b  ", b"a b\n"),
-        (b"a\n\nb\n", b"a\n\nb\n"),
-        (
-            b"12345 \xc3\xa9\xc3\xa9\xc3\xa9\xc3\xa9 x",
-            b"12345 \xc3\xa9\xc3\xa9\xc3\xa9\xc3\xa9\nx\n",
-        ),
-        (b"", b""),
-    ];
-    for (text, lines) in rows {
-        let mut page = Page::new(alloc, 10);
-        let mut out = Vec::new(alloc);
-        page.say(text, &mut out)?;
-        page.close(&mut out)?;
-        assert_eq!(rt; out.as_slice(), lines, "{text:?}");
+    for (text, lines) in BY_HAND {
+        check_lines(&rt, rt.alloc(), text, lines)?;
     }
     Ok(())
 }

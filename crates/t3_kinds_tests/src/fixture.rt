@@ -1,6 +1,5 @@
 //! What the tests stand on: constants in a page, and a store with objects of each kind.
-ghost use Rattle.std.specs.Prelude.{◌≡◌, ◌<◌, ◌≤◌, Some, OnOk, IsTrue, IsSome};
-ghost use Rattle.t3_store.specs.Value.{new_value, supers_of};
+ghost use Rattle.std.specs.Prelude.{◌<◌, ◌≤◌, OnOk, IsTrue, IsSome};
 ghost use Rattle.t3_store.specs.Whole.{supers_for};
 
 use std::alloc::Global;
@@ -10,10 +9,11 @@ use t3_kinds::{Methods, is_listed, listed_method};
 use t3_lists::Holders;
 use t3_ops::{Fault, OpRefusal};
 use t3_pools::Pools;
-use t3_store::{Kind, NewObject, Persistent, Store, StoreLimits};
-use t3_tadsobj::{Props, Supers};
+use t3_store::{Kind, NewObject, Store, StoreLimits};
+use t3_tadsobj::Supers;
 use t3_test_images::{image, page, pool_definition};
-use t3_undo::{Cell, Key, Numbers};
+use t3_test_stores::tads;
+use t3_undo::{Cell, Key};
 
 /// The constants of [`pools`]. The values below say what stands where.
 const CONSTANTS: [u8; 64] = [
@@ -114,9 +114,7 @@ pub(crate) fn empty_store(alloc: Global, objects: u32, units: u32) -> Result<Sto
         records: 16,
         savepoints: 2,
     };
-    let first = Persistent::new(alloc);
-    let passing = Persistent::new(alloc);
-    Ok(Store::start(alloc, limits, first, passing, 1)?)
+    Ok(t3_test_stores::empty_store(alloc, limits)?)
 }
 
 /// A store with the objects above, and ample room.
@@ -147,17 +145,6 @@ fn add_passing(alloc: Global, store: &mut Store, tads: u32) -> Result<(), Fail> 
     let _undone = store.undo();
     let _table = store.create(NewObject::Table, true)?;
     Ok(())
-}
-
-/// What a tads-object without properties is made of.
-fn tads(alloc: Global, supers: Vec<u32>, class: bool) -> NewObject
-    ensures { supers_of (new_value result) ≡ Some supers.items }
-{
-    NewObject::Tads {
-        supers: Numbers(supers),
-        class,
-        props: Props(Vec::new(alloc)),
-    }
 }
 
 /// Whether a new object may have this superclass.

@@ -9,6 +9,8 @@ mod loads;
 #[cfg(test)]
 mod objects;
 #[cfg(test)]
+mod programs;
+#[cfg(test)]
 mod rules;
 #[cfg(test)]
 mod stores;

@@ -1,5 +1,6 @@
 //! Images that are loaded, whatever their objects are and whatever their entry method takes.
-use crate::images::{GOOD, Parts, loaded, refusal, with};
+use crate::images::{GOOD, Parts, Thing, program_of, refusal, refusal_with};
+use std::alloc::Global;
 use std::test::Fail;
 use t3_load::LoadRefusal;
 
@@ -17,21 +18,25 @@ const WITH_TEXT: &[u8] = &[0, 0, 1, 0, 0, 0, 3, 0, 8, 7, 0, 0, 0];
 /// A tads-object whose property 3 is the text at 7, which is shown when it is evaluated.
 const WITH_SHOWN: &[u8] = &[0, 0, 1, 0, 0, 0, 3, 0, 9, 7, 0, 0, 0];
 
+/// Objects of all kinds.
+const THINGS: [&[Thing<'static>]; 4] = [
+    &[(1, true, 7, TEXT)],
+    &[(2, false, 7, LIST)],
+    &[(0, false, 8, PLAIN), (0, false, 7, WITH_TEXT)],
+    &[(0, false, 7, WITH_SHOWN)],
+];
+
+const WITH_METHODS: Parts<'static> = Parts {
+    has_methods: true,
+    ..GOOD
+};
+
 #[test]
 fn objects_of_all_kinds_are_loaded(rt: HostRuntime) -> Result<(), Fail> {
-    let rows = [
-        with(&[(1, true, 7, TEXT)]),
-        with(&[(2, false, 7, LIST)]),
-        with(&[(0, false, 8, PLAIN), (0, false, 7, WITH_TEXT)]),
-        with(&[(0, false, 7, WITH_SHOWN)]),
-        Parts {
-            has_methods: true,
-            ..GOOD
-        },
-    ];
-    for parts in &rows {
-        assert_eq!(rt; refusal(rt.alloc(), parts)?, None);
+    for things in THINGS {
+        assert_eq!(rt; refusal_with(rt.alloc(), &GOOD, things)?, None);
     }
+    assert_eq!(rt; refusal(rt.alloc(), &WITH_METHODS)?, None);
     Ok(())
 }
 
@@ -60,24 +65,30 @@ const CODES: [&[u8]; 13] = [
     &[9, 9, 9, 9, 9],
 ];
 
+/// Where the entry method of this code stands.
+fn entry_of(alloc: Global, code: &[u8]) -> Result<u32, Fail> {
+    let program = program_of(alloc, &Parts { code, ..GOOD })?;
+    Ok(program.entry)
+}
+
 #[test]
 fn entry_methods_of_all_kinds_are_loaded(rt: HostRuntime) -> Result<(), Fail> {
     for code in CODES {
-        match loaded(rt.alloc(), &Parts { code, ..GOOD })? {
-            Ok(program) => assert_eq!(rt; program.entry, 5),
-            Err(_why) => return Err(Fail::from("a good image is refused")),
-        }
+        assert_eq!(rt; entry_of(rt.alloc(), code)?, 5);
     }
     Ok(())
 }
 
+/// There is no room for its one object.
+const FULL: Parts<'static> = Parts {
+    objects: 0,
+    code: TAKING_AND_CATCHING,
+    things: &[(1, false, 7, TEXT)],
+    ..GOOD
+};
+
 #[test]
 fn a_rule_is_told_whatever_the_entry_method_takes(rt: HostRuntime) -> Result<(), Fail> {
-    let full = Parts {
-        objects: 0,
-        code: TAKING_AND_CATCHING,
-        ..with(&[(1, false, 7, TEXT)])
-    };
-    assert_eq!(rt; refusal(rt.alloc(), &full)?, Some(LoadRefusal::Full));
+    assert_eq!(rt; refusal(rt.alloc(), &FULL)?, Some(LoadRefusal::Full));
     Ok(())
 }

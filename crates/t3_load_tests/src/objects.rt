@@ -1,6 +1,7 @@
 //! The static objects of an image: what their bytes say, and which bytes begin with an object.
-use crate::images::{GOOD, Parts, Thing, refusal_with, started, with};
+use crate::images::{GOOD, Parts, Thing, refusal_with, started};
 use std::alloc::Global;
+use std::process::Abort;
 use std::test::Fail;
 use t3_holder::Holder;
 use t3_load::LoadRefusal;
@@ -32,13 +33,16 @@ const CLASS: &[u8] = b"\x02\x00\x02\x00\x01\x00\x09\x00\x00\x00\x05\x00\x00\x00\
 const PLAIN: &[u8] = &[0, 0, 0, 0, 0, 0];
 
 /// The class as object 7, the string `\u{E4}`, and a vector whose room is less than the elements that it has.
-const THINGS: &[Thing<'static>] = &[
-    (TADS, false, 5, PLAIN),
-    (TADS, false, 9, PLAIN),
-    (TADS, false, 7, CLASS),
-    (STRING, false, 2, b"\x02\x00\xC3\xA4b"),
-    (VECTOR, false, 3, b"\x00\x00\x01\x00\x02\x00\x00\x00\x00"),
-];
+const THINGS: Parts<'static> = Parts {
+    things: &[
+        (TADS, false, 5, PLAIN),
+        (TADS, false, 9, PLAIN),
+        (TADS, false, 7, CLASS),
+        (STRING, false, 2, b"\x02\x00\xC3\xA4b"),
+        (VECTOR, false, 3, b"\x00\x00\x01\x00\x02\x00\x00\x00\x00"),
+    ],
+    ..GOOD
+};
 
 /// The properties of the class.
 const PROPS: [PropValue; 2] = [
@@ -64,14 +68,19 @@ fn has_class(alloc: Global, store: &Store) -> Result<bool, Fail> {
     Ok(object.props(alloc)?.items() == PROPS.as_slice())
 }
 
-#[test]
-fn static_objects_are_as_their_bytes_say(rt: HostRuntime) -> Result<(), Fail> {
-    let store = started(rt.alloc(), &with(THINGS))?;
-    assert!(rt; has_class(rt.alloc(), &store)?);
+/// A store has those objects.
+fn check_things(rt: &impl Abort, alloc: Global, store: &Store) -> Result<(), Fail> {
+    assert!(rt; has_class(alloc, store)?);
     assert_eq!(rt; store.text(2), Some(b"\xC3\xA4".as_slice()));
     assert_eq!(rt; store.length(3), Some(1));
     assert_eq!(rt; store.get(3, &Cell::Elem(1)), Some(Holder::True));
     Ok(())
+}
+
+#[test]
+fn static_objects_are_as_their_bytes_say(rt: HostRuntime) -> Result<(), Fail> {
+    let store = started(rt.alloc(), &THINGS)?;
+    check_things(&rt, rt.alloc(), &store)
 }
 
 /// A metaclass, bytes, and whether they begin with an object of it.
@@ -161,19 +170,18 @@ const PAIR: &[u8] = &[2, 0, 7, 1, 0, 0, 0, 7, 2, 0, 0, 0];
 const ENUMERATORS: &[u8] = &[9, 0, 1, 0, 15, 1, 0, 0, 0];
 
 /// One of each, of which the vector is transient.
-const HALVES: &[Thing<'static>] = &[
-    (STRING, false, 7, TEXT),
-    (VECTOR, true, 6, ENUMERATORS),
-    (LIST, false, 5, PAIR),
-];
+const HALVES: Parts<'static> = Parts {
+    units: 200,
+    things: &[
+        (STRING, false, 7, TEXT),
+        (VECTOR, true, 6, ENUMERATORS),
+        (LIST, false, 5, PAIR),
+    ],
+    ..GOOD
+};
 
-#[test]
-fn strings_lists_and_vectors_are_in_their_halves(rt: HostRuntime) -> Result<(), Fail> {
-    let parts = Parts {
-        units: 200,
-        ..with(HALVES)
-    };
-    let store = started(rt.alloc(), &parts)?;
+/// A store has those objects.
+fn check_contents(rt: &impl Abort, store: &Store) -> Result<(), Fail> {
     assert_eq!(rt; store.text(7), Some(b"ab".as_slice()));
     assert_eq!(rt;
         store.items(5),
@@ -181,13 +189,22 @@ fn strings_lists_and_vectors_are_in_their_halves(rt: HostRuntime) -> Result<(), 
     );
     assert_eq!(rt; store.length(6), Some(1));
     assert_eq!(rt; store.get(6, &Cell::Elem(1)), Some(Holder::Enum(1)));
-    assert_eq!(rt;
-        (
-            store.is_transient(5),
-            store.is_transient(6),
-            store.is_transient(7)
-        ),
-        (false, true, false)
-    );
+    Ok(())
+}
+
+/// Which of the objects from number 5 on are transient.
+fn transient_ones(store: &Store) -> (bool, bool, bool) {
+    (
+        store.is_transient(5),
+        store.is_transient(6),
+        store.is_transient(7),
+    )
+}
+
+#[test]
+fn strings_lists_and_vectors_are_in_their_halves(rt: HostRuntime) -> Result<(), Fail> {
+    let store = started(rt.alloc(), &HALVES)?;
+    check_contents(&rt, &store)?;
+    assert_eq!(rt; transient_ones(&store), (false, true, false));
     Ok(())
 }

@@ -1,6 +1,7 @@
 //! The tables of an image: metaclasses, function sets and symbols, each list over all blocks of its kind.
-use crate::images::loaded_behind;
+use crate::images::{loaded_behind, refusal_behind};
 use std::alloc::{AllocError, Global};
+use std::process::Abort;
 use std::test::Fail;
 use t3_holder::Raw;
 use t3_load::{LoadRefusal, MetaKind, Program, SetKind};
@@ -19,16 +20,15 @@ fn program(alloc: Global, blocks: &[Vec<u8>]) -> Result<Program, Fail> {
     }
 }
 
-/// Metaclasses and function sets over several blocks.
-fn many_tables(alloc: Global) -> Result<Program, Fail> {
-    let blocks = [
+/// Blocks of metaclasses and of function sets, mixed.
+fn many_tables(alloc: Global) -> Result<[Vec<u8>; 5], AllocError> {
+    Ok([
         metas(alloc, &[b"tads-object/030005", b"root-object"])?,
         function_sets(alloc, &[b"t3vm"])?,
         metas(alloc, &[])?,
         metas(alloc, &[b"lookuptable/a/b", b"root-object/030000"])?,
         function_sets(alloc, &[b"tads-io/030007", b"tads-gen/"])?,
-    ];
-    program(alloc, &blocks)
+    ])
 }
 
 /// The kinds of a program's metaclasses, each of which has the two properties.
@@ -57,15 +57,21 @@ fn has_sets(program: &Program, sets: &[SetKind]) -> bool {
     program.sets.0.as_slice() == sets
 }
 
-#[test]
-fn lists_over_blocks_are_one(rt: HostRuntime) -> Result<(), Fail> {
-    let program = many_tables(rt.alloc())?;
-    let Some(kinds) = kinds(rt.alloc(), &program)? else {
+/// A program has those kinds and those sets.
+fn check_lists(rt: &impl Abort, alloc: Global, program: &Program) -> Result<(), Fail> {
+    let Some(kinds) = kinds(alloc, program)? else {
         return Err(Fail::from("other properties"));
     };
     assert_eq!(rt; kinds.as_slice(), KINDS.as_slice());
-    assert!(rt; has_sets(&program, &SETS));
+    assert!(rt; has_sets(program, &SETS));
     Ok(())
+}
+
+#[test]
+fn lists_over_blocks_are_one(rt: HostRuntime) -> Result<(), Fail> {
+    let blocks = many_tables(rt.alloc())?;
+    let program = program(rt.alloc(), &blocks)?;
+    check_lists(&rt, rt.alloc(), &program)
 }
 
 /// The names of two metaclasses, and the index of the first that isn't known.
@@ -82,17 +88,22 @@ const NAMES: [NameRow; 8] = [
     (b"bignumber/030000", b"list", Some(0)),
 ];
 
+/// Whether an image of these two metaclasses is refused by the index that its row says.
+fn is_told(alloc: Global, row: &NameRow) -> Result<bool, Fail> {
+    let (first, second, unknown) = *row;
+    let blocks = [metas(alloc, &[first])?, metas(alloc, &[second])?];
+    let told = match refusal_behind(alloc, &blocks)? {
+        Some(LoadRefusal::Metaclass(index)) => Some(index),
+        Some(_why) => return Ok(false),
+        None => None,
+    };
+    Ok(told == unknown)
+}
+
 /// The first row whose unknown name isn't told so.
 fn first_unlike(alloc: Global, rows: &[NameRow]) -> Result<Option<NameRow>, Fail> {
     for row in rows {
-        let (first, second, unknown) = *row;
-        let blocks = [metas(alloc, &[first])?, metas(alloc, &[second])?];
-        let found = match loaded_behind(alloc, &blocks)? {
-            Err(LoadRefusal::Metaclass(index)) => Some(index),
-            Err(_why) => return Ok(Some(*row)),
-            Ok(_program) => None,
-        };
-        if found != unknown {
+        if !is_told(alloc, row)? {
             return Ok(Some(*row));
         }
     }
@@ -103,17 +114,15 @@ fn first_unlike(alloc: Global, rows: &[NameRow]) -> Result<Option<NameRow>, Fail
 fn the_first_unknown_name_is_told(rt: HostRuntime) -> Result<(), Fail> {
     assert_eq!(rt; first_unlike(rt.alloc(), &NAMES)?, None);
     let blocks = [function_sets(rt.alloc(), &[b"t3vm", b"tads-net", b"tads-net"])?];
-    assert!(rt;
-        matches!(
-            loaded_behind(rt.alloc(), &blocks)?,
-            Err(LoadRefusal::FunctionSet(1))
-        )
-    );
+    let refused = refusal_behind(rt.alloc(), &blocks)?;
+    assert_eq!(rt; refused, Some(LoadRefusal::FunctionSet(1)));
     Ok(())
 }
 
 /// A name, and the bits of the first symbol that has it.
-const SYMBOLS: [(&[u8], Option<u32>); 5] = [
+type SymbolRow = (&'static [u8], Option<u32>);
+
+const SYMBOLS: [SymbolRow; 5] = [
     (b"one", Some(1)),
     (b"", Some(2)),
     (b"four", Some(4)),
@@ -121,19 +130,27 @@ const SYMBOLS: [(&[u8], Option<u32>); 5] = [
     (b"fou", None),
 ];
 
-#[test]
-fn the_first_symbol_of_a_name_counts(rt: HostRuntime) -> Result<(), Fail> {
-    let alloc = rt.alloc();
-    let blocks = [
+/// Two blocks of symbols, of which some have one name.
+fn symbols_twice(alloc: Global) -> Result<[Vec<u8>; 2], AllocError> {
+    Ok([
         symbols(alloc, &[(b"one", 1), (b"", 2)])?,
         symbols(alloc, &[(b"one", 3), (b"four", 4), (b"four", 5)])?,
-    ];
-    let program = program(alloc, &blocks)?;
-    for (name, bits) in SYMBOLS {
-        assert_eq!(rt;
-            program.symbols.raw(name),
-            bits.map(|bits| Raw { tag: 7, bits })
-        );
+    ])
+}
+
+/// A program has the symbols that these rows say.
+fn check_symbols(rt: &impl Abort, program: &Program, rows: &[SymbolRow]) -> Result<(), Fail> {
+    for row in rows {
+        let (name, bits) = *row;
+        let want = bits.map(|bits| Raw { tag: 7, bits });
+        assert_eq!(rt; program.symbols.raw(name), want);
     }
     Ok(())
+}
+
+#[test]
+fn the_first_symbol_of_a_name_counts(rt: HostRuntime) -> Result<(), Fail> {
+    let blocks = symbols_twice(rt.alloc())?;
+    let program = program(rt.alloc(), &blocks)?;
+    check_symbols(&rt, &program, &SYMBOLS)
 }

@@ -73,45 +73,42 @@ fn add_new(numbers: &[u32], reached: &mut Vec<u32>) -> Result<(), NoMemory> {
     Ok(())
 }
 
+/// 1 is its own superclass. 2 and 3 are a cycle, and so are 5 and 6. 4 is between them. 7 has a
+/// superclass that isn't there, and 8, 9, 10 and 0 are a diamond.
+const BY_HAND: [&[u32]; 11] = [
+    &[],
+    &[0, 1],
+    &[3],
+    &[0, 2],
+    &[0, 2],
+    &[6, 4],
+    &[5],
+    &[11, 0],
+    &[9, 10],
+    &[0],
+    &[0],
+];
+
+/// Numbers, and the first of them that is its own ancestor.
+type Row = (&'static [u32], Option<u32>);
+
+const CYCLIC: [Row; 6] = [
+    (&[1], Some(1)),
+    (&[3, 2], Some(3)),
+    (&[0, 4, 7, 8, 9, 10, 11], None),
+    (&[4, 8, 6, 1, 5], Some(6)),
+    (&[4, 7, 2], Some(2)),
+    (&[], None),
+];
+
 #[test]
 fn tells_what_was_drawn_by_hand(rt: HostRuntime) -> Result<(), Fail> {
-    let alloc = rt.alloc();
-    // 1 is its own superclass. 2 and 3 are a cycle, and so are 5 and 6. 4 is between them. 7 has a superclass
-    // that isn't there, and 8, 9, 10 and 0 are a diamond.
-    let graph = make_graph(
-        alloc,
-        &[
-            &[],
-            &[0, 1],
-            &[3],
-            &[0, 2],
-            &[0, 2],
-            &[6, 4],
-            &[5],
-            &[11, 0],
-            &[9, 10],
-            &[0],
-            &[0],
-        ],
-    )?;
-    let rows: [(&[u32], Option<u32>); 6] = [
-        (&[1], Some(1)),
-        (&[3, 2], Some(3)),
-        (&[0, 4, 7, 8, 9, 10, 11], None),
-        (&[4, 8, 6, 1, 5], Some(6)),
-        (&[4, 7, 2], Some(2)),
-        (&[], None),
-    ];
-    check_cycles(&rt, alloc, &graph, &rows)
+    let graph = make_graph(rt.alloc(), &BY_HAND)?;
+    check_cycles(&rt, rt.alloc(), &graph, &CYCLIC)
 }
 
-/// Each row has numbers, and the first of them that is its own ancestor.
-fn check_cycles(
-    rt: &impl Abort,
-    alloc: Global,
-    graph: &Graph,
-    rows: &[(&[u32], Option<u32>)],
-) -> Result<(), Fail> {
+/// Each row is so of the graph.
+fn check_cycles(rt: &impl Abort, alloc: Global, graph: &Graph, rows: &[Row]) -> Result<(), Fail> {
     for row in rows {
         let (numbers, want) = *row;
         assert_eq!(rt; first_cyclic(alloc, graph, numbers)?, want);
@@ -127,10 +124,15 @@ fn tells_long_cycles_and_chains(rt: HostRuntime) -> Result<(), Fail> {
         (&[], &[9_999, 0], None),
     ];
     for (first, numbers, want) in rows {
-        let chain = make_chain(rt.alloc(), 9_999, first)?;
-        assert_eq!(rt; first_cyclic(rt.alloc(), &chain, numbers)?, want);
+        assert_eq!(rt; first_in_chain(rt.alloc(), first, numbers)?, want);
     }
     Ok(())
+}
+
+/// The first of the numbers that is its own ancestor, in a chain up to 9,999.
+fn first_in_chain(alloc: Global, first: &[u32], numbers: &[u32]) -> Result<Option<u32>, NoMemory> {
+    let chain = make_chain(alloc, 9_999, first)?;
+    first_cyclic(alloc, &chain, numbers)
 }
 
 fn draw_graph(alloc: Global, seed: &mut u32) -> Result<Graph, NoMemory> {
@@ -145,28 +147,44 @@ fn draw_graph(alloc: Global, seed: &mut u32) -> Result<Graph, NoMemory> {
     Ok(Graph { lists })
 }
 
+fn draw_numbers(alloc: Global, seed: &mut u32) -> Result<Vec<u32>, NoMemory> {
+    let mut numbers = Vec::new(alloc);
+    for _ in 0..5 {
+        numbers.push(drawn(seed, 9))?;
+    }
+    Ok(numbers)
+}
+
+/// The first of the numbers that is its own ancestor, by the slow program.
+fn first_by_walks(alloc: Global, graph: &Graph, numbers: &[u32]) -> Result<Option<u32>, NoMemory> {
+    for number in numbers {
+        if is_own_ancestor(alloc, graph, *number)? {
+            return Ok(Some(*number));
+        }
+    }
+    Ok(None)
+}
+
+/// Both tell the same of these numbers.
+fn check_same(rt: &impl Abort, alloc: Global, graph: &Graph, numbers: &[u32]) -> Result<(), Fail> {
+    let want = first_by_walks(alloc, graph, numbers)?;
+    assert_eq!(rt;
+        first_cyclic(alloc, graph, numbers)?,
+        want,
+        "of {:?} in {:?}",
+        numbers,
+        graph.lists
+    );
+    Ok(())
+}
+
 #[test]
 fn agrees_with_a_slow_program_on_cycles(rt: HostRuntime) -> Result<(), Fail> {
-    let alloc = rt.alloc();
     let mut seed = 1;
     for _ in 0..3000 {
-        let graph = draw_graph(alloc, &mut seed)?;
-        let mut numbers = Vec::new(alloc);
-        let mut want = None;
-        for _ in 0..5 {
-            let number = drawn(&mut seed, 9);
-            numbers.push(number)?;
-            if want.is_none() && is_own_ancestor(alloc, &graph, number)? {
-                want = Some(number);
-            }
-        }
-        assert_eq!(rt;
-            first_cyclic(alloc, &graph, &numbers)?,
-            want,
-            "of {:?} in {:?}",
-            numbers,
-            graph.lists
-        );
+        let graph = draw_graph(rt.alloc(), &mut seed)?;
+        let numbers = draw_numbers(rt.alloc(), &mut seed)?;
+        check_same(&rt, rt.alloc(), &graph, &numbers)?;
     }
     Ok(())
 }

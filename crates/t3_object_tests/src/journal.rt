@@ -12,36 +12,66 @@ fn held(number: i32) -> Content {
     Content::Held(Holder::Int(number))
 }
 
-#[test]
-fn the_only_savepoint_goes_where_its_records_fill_the_journal(rt: HostRuntime) -> Result<(), Fail> {
-    let mut journal = Journal::start(rt.alloc(), 2, 128)?;
-    journal.mark(2);
+/// Two records fill the journal of one savepoint.
+fn check_full(rt: &impl Abort, journal: &mut Journal) {
+    save(journal, 2);
     journal.note(1, Cell::Prop(1), held(0));
     journal.note(1, Cell::Prop(2), held(0));
     assert_eq!(rt; (journal.held(), journal.records()), (1, 2));
+}
+
+/// A further record costs the savepoint.
+fn check_outgrown(rt: &impl Abort, journal: &mut Journal) {
     journal.note(1, Cell::Prop(3), held(0));
     assert_eq!(rt; (journal.held(), journal.records()), (0, 0));
     assert_eq!(rt; journal.newest_next(), None);
     assert_eq!(rt; journal.marks(), 1);
+}
+
+#[test]
+fn the_only_savepoint_goes_where_its_records_fill_the_journal(rt: HostRuntime) -> Result<(), Fail> {
+    let mut journal = Journal::start(rt.alloc(), 2, 128)?;
+    check_full(&rt, &mut journal);
+    check_outgrown(&rt, &mut journal);
     Ok(())
+}
+
+/// Three savepoints, and in each a record of property 5, with 0, 1 and 2.
+fn save_three(journal: &mut Journal) {
+    for old in 0..3 {
+        save(journal, 2);
+        journal.note(1, Cell::Prop(5), held(old));
+    }
+}
+
+/// The newest record is one of this object and this property, with this number.
+fn check_newest(
+    rt: &impl Abort,
+    journal: &mut Journal,
+    number: u32,
+    property: u16,
+    old: i32,
+) -> Result<(), Fail> {
+    let kept = journal.take_kept().ok_or("a record")?;
+    assert_eq!(rt; (kept.number, kept.old), (number, held(old)));
+    assert!(rt; kept.cell == Cell::Prop(property));
+    Ok(())
+}
+
+/// All savepoints and records go, and the savepoints stay counted.
+fn check_cleared(rt: &impl Abort, journal: &mut Journal) {
+    journal.clear();
+    assert_eq!(rt; (journal.held(), journal.records()), (0, 0));
+    assert_eq!(rt; journal.marks(), 3);
 }
 
 #[test]
 fn a_further_savepoint_drops_the_oldest(rt: HostRuntime) -> Result<(), Fail> {
     let mut journal = Journal::start(rt.alloc(), 3, 2)?;
-    journal.mark(2);
-    journal.note(1, Cell::Prop(5), held(0));
-    journal.mark(2);
-    journal.note(1, Cell::Prop(5), held(1));
-    journal.mark(2);
-    journal.note(1, Cell::Prop(5), held(2));
+    save_three(&mut journal);
     assert_eq!(rt; (journal.held(), journal.records()), (2, 2));
-    let kept = journal.take_kept().ok_or("a record")?;
-    assert_eq!(rt; (kept.number, kept.old), (1, held(2)));
-    assert!(rt; kept.cell == Cell::Prop(5));
-    journal.clear();
-    assert_eq!(rt; (journal.held(), journal.records()), (0, 0));
-    assert_eq!(rt; journal.marks(), 3);
+    check_newest(&rt, &mut journal, 1, 5, 2)?;
+    check_cleared(&rt, &mut journal);
     Ok(())
 }
 
@@ -85,46 +115,56 @@ fn save(journal: &mut Journal, next: u32) {
     }
 }
 
+/// Each savepoint but the last loses its two records to the next one's second.
+fn check_round(rt: &impl Abort, journal: &mut Journal, round: u16) {
+    save(journal, 10);
+    assert_eq!(rt; journal.held(), if round == 0 { 1 } else { 2 });
+    journal.note(1, Cell::Prop(round), held(1));
+    journal.note(2, Cell::Prop(round), held(2));
+    assert_eq!(rt; (journal.held(), journal.records()), (1, 2));
+    assert_eq!(rt; journal.newest_serial(), Some(u64::from(round) + 1));
+}
+
 #[test]
 fn rings_go_round(rt: HostRuntime) -> Result<(), Fail> {
-    // Each savepoint but the last loses its two records to the next one's second.
     let mut journal = Journal::start(rt.alloc(), 3, 2)?;
     for round in 0..9u16 {
-        save(&mut journal, 10);
-        assert_eq!(rt; journal.held(), if round == 0 { 1 } else { 2 });
-        journal.note(1, Cell::Prop(round), held(1));
-        journal.note(2, Cell::Prop(round), held(2));
-        assert_eq!(rt; (journal.held(), journal.records()), (1, 2));
-        assert_eq!(rt; journal.newest_serial(), Some(u64::from(round) + 1));
+        check_round(&rt, &mut journal, round);
     }
-    let kept = journal.take_kept().ok_or("the last record")?;
-    assert_eq!(rt; (kept.number, kept.old), (2, held(2)));
-    assert!(rt; kept.cell == Cell::Prop(8));
-    let kept = journal.take_kept().ok_or("the one before")?;
-    assert_eq!(rt; (kept.number, kept.old), (1, held(1)));
-    assert!(rt; kept.cell == Cell::Prop(8));
+    check_newest(&rt, &mut journal, 2, 8, 2)?;
+    check_newest(&rt, &mut journal, 1, 8, 1)?;
     assert!(rt; journal.take_kept().is_none());
     Ok(())
 }
 
-#[test]
-fn full_rings_of_one(rt: HostRuntime) -> Result<(), Fail> {
-    let mut journal = Journal::start(rt.alloc(), 1, 1)?;
-    for round in 1..6u32 {
-        save(&mut journal, round);
-        assert_eq!(rt; (journal.held(), journal.records()), (1, 0));
-        journal.note(0, Cell::Prop(1), held(1));
-        assert_eq!(rt; (journal.held(), journal.records()), (1, 1));
-        assert_eq!(rt; journal.newest_next(), Some(round));
-        assert_eq!(rt; journal.serial_for(round), None, "made since");
-        assert_eq!(rt; journal.serial_for(0), Some(u64::from(round)));
-    }
+/// A savepoint and its record fill the journal.
+fn check_one(rt: &impl Abort, journal: &mut Journal, round: u32) {
+    save(journal, round);
+    assert_eq!(rt; (journal.held(), journal.records()), (1, 0));
+    journal.note(0, Cell::Prop(1), held(1));
+    assert_eq!(rt; (journal.held(), journal.records()), (1, 1));
+    assert_eq!(rt; journal.newest_next(), Some(round));
+    assert_eq!(rt; journal.serial_for(round), None, "made since");
+    assert_eq!(rt; journal.serial_for(0), Some(u64::from(round)));
+}
+
+/// A second record costs the savepoint.
+fn check_none_held(rt: &impl Abort, journal: &mut Journal) {
     journal.note(0, Cell::Prop(2), held(1));
     assert_eq!(rt; (journal.held(), journal.records()), (0, 0));
     assert_eq!(rt;
         (journal.newest_serial(), journal.serial_for(0)),
         (None, None)
     );
+}
+
+#[test]
+fn full_rings_of_one(rt: HostRuntime) -> Result<(), Fail> {
+    let mut journal = Journal::start(rt.alloc(), 1, 1)?;
+    for round in 1..6u32 {
+        check_one(&rt, &mut journal, round);
+    }
+    check_none_held(&rt, &mut journal);
     Ok(())
 }
 
@@ -149,21 +189,38 @@ fn save_and_note_two(journal: &mut Journal) -> (bool, bool) {
     (first, second)
 }
 
-#[test]
-fn note_fresh_tells_whether_it_noted(rt: HostRuntime) -> Result<(), Fail> {
-    let mut journal = Journal::start(rt.alloc(), 1, 1)?;
-    assert!(rt; save_and_note(&mut journal, 2, Cell::Prop(1), 0, 7));
+/// A record is added to a savepoint.
+fn check_noted(rt: &impl Abort, journal: &mut Journal) {
+    assert!(rt; save_and_note(journal, 2, Cell::Prop(1), 0, 7));
     assert_eq!(rt; (journal.held(), journal.records()), (1, 1));
     assert_eq!(rt;
         (journal.newest_serial(), journal.serial_for(1)),
         (Some(1), Some(1))
     );
-    let added = save_and_note_two(&mut journal);
+}
+
+/// Of two records the second isn't added, nor is one of an object that was made since.
+fn check_not_noted(rt: &impl Abort, journal: &mut Journal) {
+    let added = save_and_note_two(journal);
     assert_eq!(rt; added, (true, false), "the last savepoint went");
     assert_eq!(rt; (journal.held(), journal.records()), (0, 0));
-    let added = save_and_note(&mut journal, 1, Cell::Prop(1), 0, 7);
+    let added = save_and_note(journal, 1, Cell::Prop(1), 0, 7);
     assert!(rt; !added, "made since");
     assert_eq!(rt; (journal.held(), journal.records()), (1, 0));
+}
+
+#[test]
+fn note_fresh_tells_whether_it_noted(rt: HostRuntime) -> Result<(), Fail> {
+    let mut journal = Journal::start(rt.alloc(), 1, 1)?;
+    check_noted(&rt, &mut journal);
+    check_not_noted(&rt, &mut journal);
+    Ok(())
+}
+
+/// The newest record has this number and this stamp.
+fn check_stamp(rt: &impl Abort, journal: &mut Journal, old: i32, stamp: u64) -> Result<(), Fail> {
+    let kept = journal.take_kept().ok_or("a record")?;
+    assert_eq!(rt; (kept.old, kept.stamp), (held(old), stamp));
     Ok(())
 }
 
@@ -172,15 +229,13 @@ fn records_hand_out_their_stamps(rt: HostRuntime) -> Result<(), Fail> {
     let mut journal = Journal::start(rt.alloc(), 2, 1)?;
     assert!(rt; save_and_note(&mut journal, 2, Cell::Elem(1), 3, 7));
     journal.note(1, Cell::Elem(2), held(4));
-    let kept = journal.take_kept().ok_or("the record without a stamp")?;
-    assert_eq!(rt; (kept.old, kept.stamp), (held(4), 0));
-    let kept = journal.take_kept().ok_or("the record with one")?;
-    assert_eq!(rt; (kept.old, kept.stamp), (held(3), 7));
-    Ok(())
+    check_stamp(&rt, &mut journal, 4, 0)?;
+    check_stamp(&rt, &mut journal, 3, 7)
 }
 
 #[test]
 fn copies_are_equal(rt: HostRuntime) -> Result<(), Fail> {
+    let text = Bytes(Vec::from_slice(rt.alloc(), b"one")?);
     let keys = [
         Key::Nil,
         Key::True,
@@ -189,14 +244,31 @@ fn copies_are_equal(rt: HostRuntime) -> Result<(), Fail> {
         Key::Prop(1),
         Key::Func(1),
         Key::Obj(1),
-        Key::Text(Bytes(Vec::from_slice(rt.alloc(), b"one")?)),
+        Key::Text(text),
     ];
-    for (index, key) in keys.iter().enumerate() {
-        check_key(&rt, rt.alloc(), key, &keys, index)?;
-    }
+    check_keys(&rt, rt.alloc(), &keys)?;
+    check_cells(&rt, rt.alloc())
+}
+
+/// A copy of a cell without a key is equal to it.
+fn check_cells(rt: &impl Abort, alloc: Global) -> Result<(), Fail> {
     for cell in [Cell::Prop(1), Cell::Elem(1), Cell::Default] {
-        assert!(rt; cell.copy(rt.alloc())? == cell);
+        check_cell(rt, alloc, &cell)?;
     }
+    Ok(())
+}
+
+/// A copy of each key is equal to it alone.
+fn check_keys(rt: &impl Abort, alloc: Global, keys: &[Key]) -> Result<(), Fail> {
+    for (index, key) in keys.iter().enumerate() {
+        check_key(rt, alloc, key, keys, index)?;
+    }
+    Ok(())
+}
+
+/// A copy of a cell is equal to it.
+fn check_cell(rt: &impl Abort, alloc: Global, cell: &Cell) -> Result<(), Fail> {
+    assert!(rt; cell.copy(alloc)? == *cell);
     Ok(())
 }
 
@@ -213,6 +285,5 @@ fn check_key(
         assert_eq!(rt; key == other, place == index);
     }
     let cell = Cell::Key(key.copy(alloc)?);
-    assert!(rt; cell.copy(alloc)? == cell);
-    Ok(())
+    check_cell(rt, alloc, &cell)
 }

@@ -30,15 +30,19 @@ fn set_and_put_back<M: Metaclass>(
     Ok(seen)
 }
 
-#[test]
-fn what_stood_there_can_be_put_back(rt: HostRuntime) -> Result<(), Fail> {
-    let alloc = rt.alloc();
-    let mut table = Table::new(alloc);
+/// An entry under a text is set, and is absent once it is put back.
+fn check_put_back(rt: &impl Abort, alloc: Global, table: &mut Table) -> Result<(), Fail> {
     let cell = Cell::Key(Key::Text(Bytes(Vec::from_slice(alloc, b"one")?)));
-    let seen = set_and_put_back(&mut table, alloc, &cell, Content::Slot(1, Holder::True))?;
+    let seen = set_and_put_back(table, alloc, &cell, Content::Slot(1, Holder::True))?;
     assert_eq!(rt; seen.value(), Some(Holder::True));
     assert_eq!(rt; table.get(&cell), Content::Absent);
     Ok(())
+}
+
+#[test]
+fn what_stood_there_can_be_put_back(rt: HostRuntime) -> Result<(), Fail> {
+    let mut table = Table::new(rt.alloc());
+    check_put_back(&rt, rt.alloc(), &mut table)
 }
 
 /// The stamp of a cell's place, which is made where there is none.
@@ -67,36 +71,62 @@ fn stamp_and_set<M: Metaclass>(
     Ok(object.stamp(cell))
 }
 
+/// The place of a property of a new object has no stamp, and keeps the one that it is given.
+fn check_property(rt: &impl Abort, alloc: Global, object: &mut TadsObject) -> Result<(), Fail> {
+    let cell = Cell::Prop(3);
+    assert_eq!(rt; stamp_of(object, alloc, &cell)?, 0, "a new place");
+    let stamp = stamp_and_set(object, alloc, &cell, Content::Held(Holder::True), 7)?;
+    assert_eq!(rt; stamp, 7);
+    assert_eq!(rt; stamp_of(object, alloc, &cell)?, 7, "it has a place");
+    Ok(())
+}
+
+/// A copy of that object has the property, without the stamp.
+fn check_copied(rt: &impl Abort, alloc: Global, copy: &mut TadsObject) -> Result<(), Fail> {
+    assert_eq!(rt; (copy.places(), copy.present()), (1, 1));
+    assert_eq!(rt; stamp_of(copy, alloc, &Cell::Prop(3))?, 0);
+    Ok(())
+}
+
 #[test]
 fn a_property_keeps_its_stamp_and_a_copy_has_none(rt: HostRuntime) -> Result<(), Fail> {
-    let alloc = rt.alloc();
-    let mut object = TadsObject::new(alloc);
-    let cell = Cell::Prop(3);
-    assert_eq!(rt; stamp_of(&mut object, alloc, &cell)?, 0, "a new place");
-    let stamp = stamp_and_set(&mut object, alloc, &cell, Content::Held(Holder::True), 7)?;
+    let mut object = TadsObject::new(rt.alloc());
+    check_property(&rt, rt.alloc(), &mut object)?;
+    let mut copy = object.copy(rt.alloc())?;
+    check_copied(&rt, rt.alloc(), &mut copy)
+}
+
+/// An entry keeps the stamp 7.
+fn check_entry(rt: &impl Abort, alloc: Global, table: &mut Table) -> Result<(), Fail> {
+    let entry = Cell::Key(Key::Int(1));
+    let stamp = stamp_and_set(table, alloc, &entry, Content::Slot(1, Holder::True), 7)?;
     assert_eq!(rt; stamp, 7);
-    assert_eq!(rt; stamp_of(&mut object, alloc, &cell)?, 7, "it has a place");
-    let mut copy = object.copy(alloc)?;
-    assert_eq!(rt; (copy.places(), copy.present()), (1, 1));
-    assert_eq!(rt; stamp_of(&mut copy, alloc, &cell)?, 0);
+    Ok(())
+}
+
+/// A default keeps the stamp 8.
+fn check_default(rt: &impl Abort, alloc: Global, table: &mut Table) -> Result<(), Fail> {
+    let default = Content::Held(Holder::True);
+    let stamp = stamp_and_set(table, alloc, &Cell::Default, default, 8)?;
+    assert_eq!(rt; stamp, 8);
+    Ok(())
+}
+
+/// A copy of that table has both, without the stamps.
+fn check_both_copied(rt: &impl Abort, alloc: Global, copy: &mut Table) -> Result<(), Fail> {
+    assert_eq!(rt; (copy.places(), copy.present()), (2, 2));
+    assert_eq!(rt; stamp_of(copy, alloc, &Cell::Key(Key::Int(1)))?, 0);
+    assert_eq!(rt; stamp_of(copy, alloc, &Cell::Default)?, 0);
     Ok(())
 }
 
 #[test]
 fn an_entry_and_a_default_keep_their_stamps(rt: HostRuntime) -> Result<(), Fail> {
-    let alloc = rt.alloc();
-    let mut table = Table::new(alloc);
-    let entry = Cell::Key(Key::Int(1));
-    let stamp = stamp_and_set(&mut table, alloc, &entry, Content::Slot(1, Holder::True), 7)?;
-    assert_eq!(rt; stamp, 7);
-    let default = Content::Held(Holder::True);
-    let stamp = stamp_and_set(&mut table, alloc, &Cell::Default, default, 8)?;
-    assert_eq!(rt; stamp, 8);
-    let mut copy = table.copy(alloc)?;
-    assert_eq!(rt; (copy.places(), copy.present()), (2, 2));
-    assert_eq!(rt; stamp_of(&mut copy, alloc, &entry)?, 0);
-    assert_eq!(rt; stamp_of(&mut copy, alloc, &Cell::Default)?, 0);
-    Ok(())
+    let mut table = Table::new(rt.alloc());
+    check_entry(&rt, rt.alloc(), &mut table)?;
+    check_default(&rt, rt.alloc(), &mut table)?;
+    let mut copy = table.copy(rt.alloc())?;
+    check_both_copied(&rt, rt.alloc(), &mut copy)
 }
 
 #[test]
@@ -128,17 +158,27 @@ fn check_replaced(rt: &impl Abort, object: &mut TadsObject) -> Result<(), Fail> 
     Ok(())
 }
 
-#[test]
-fn a_property_is_replaced_with_its_stamp(rt: HostRuntime) -> Result<(), Fail> {
-    let alloc = rt.alloc();
+/// Property 1 is nil and has the stamp 7; 2 is absent, and has a place.
+fn with_two_places(alloc: Global) -> Result<TadsObject, NoMemory> {
     let mut object = TadsObject::new(alloc);
     object.make_place(Cell::Prop(2))?;
-    let cell = Cell::Prop(1);
-    let _seven = stamp_and_set(&mut object, alloc, &cell, Content::Held(Holder::Nil), 7)?;
-    check_replaced(&rt, &mut object)?;
-    assert_eq!(rt; stamp_of(&mut object, alloc, &Cell::Prop(2))?, 0);
+    let nil = Content::Held(Holder::Nil);
+    let _seven = stamp_and_set(&mut object, alloc, &Cell::Prop(1), nil, 7)?;
+    Ok(object)
+}
+
+/// Property 2 is absent as before, without a stamp.
+fn check_not_replaced(rt: &impl Abort, alloc: Global, object: &mut TadsObject) -> Result<(), Fail> {
+    assert_eq!(rt; stamp_of(object, alloc, &Cell::Prop(2))?, 0);
     assert_eq!(rt; (object.places(), object.present()), (2, 1));
     Ok(())
+}
+
+#[test]
+fn a_property_is_replaced_with_its_stamp(rt: HostRuntime) -> Result<(), Fail> {
+    let mut object = with_two_places(rt.alloc())?;
+    check_replaced(&rt, &mut object)?;
+    check_not_replaced(&rt, rt.alloc(), &mut object)
 }
 
 /// Property 1 is true and has the stamp 0; 2, 3 and 4 are absent, with the stamps 5, 4 and 0.
@@ -151,18 +191,28 @@ fn with_absent(alloc: Global) -> Result<TadsObject, NoMemory> {
     Ok(object)
 }
 
-#[test]
-fn absent_properties_with_older_stamps_lose_their_places(rt: HostRuntime) -> Result<(), Fail> {
-    let alloc = rt.alloc();
-    let mut object = with_absent(alloc)?;
+/// The third and the fourth, whose stamps are below 5, lose their places.
+fn check_purged_at_5(rt: &impl Abort, alloc: Global, object: &mut TadsObject) -> Result<(), Fail> {
     assert_eq!(rt; (object.places(), object.present()), (4, 1));
     object.purge(5);
     assert_eq!(rt; (object.places(), object.present()), (2, 1));
-    assert_eq!(rt; stamp_of(&mut object, alloc, &Cell::Prop(2))?, 5);
+    assert_eq!(rt; stamp_of(object, alloc, &Cell::Prop(2))?, 5);
+    Ok(())
+}
+
+/// Then the second does, and the first stays since it is present.
+fn check_purged_at_6(rt: &impl Abort, object: &mut TadsObject) -> Result<(), Fail> {
     assert_eq!(rt; object.get(&Cell::Prop(1)), Content::Held(Holder::True));
     object.purge(6);
     assert_eq!(rt; (object.places(), object.present()), (1, 1));
     Ok(())
+}
+
+#[test]
+fn absent_properties_with_older_stamps_lose_their_places(rt: HostRuntime) -> Result<(), Fail> {
+    let mut object = with_absent(rt.alloc())?;
+    check_purged_at_5(&rt, rt.alloc(), &mut object)?;
+    check_purged_at_6(&rt, &mut object)
 }
 
 /// Makes a place for a cell, gives it a stamp and sets the cell, and hands out what stood there.
@@ -180,20 +230,36 @@ fn put_stamped(
     Ok((slots.stamp(&Cell::Prop(number)), old))
 }
 
-#[test]
-fn slots_count_what_is_present(rt: HostRuntime) -> Result<(), Fail> {
-    let alloc = rt.alloc();
-    let mut slots = Slots::new(alloc);
-    let stood = put_stamped(&mut slots, 1, Content::Held(Holder::True), 7)?;
+/// One cell is set.
+fn check_slot_set(rt: &impl Abort, slots: &mut Slots) -> Result<(), Fail> {
+    let stood = put_stamped(slots, 1, Content::Held(Holder::True), 7)?;
     assert_eq!(rt; stood, (7, Content::Absent));
     assert_eq!(rt; (slots.places(), slots.present()), (1, 1));
-    let stood = put_stamped(&mut slots, 1, Content::Absent, 3)?;
+    Ok(())
+}
+
+/// It is taken away, and keeps its place with the stamp 3, which a copy hasn't.
+fn check_slot_taken(rt: &impl Abort, alloc: Global, slots: &mut Slots) -> Result<(), Fail> {
+    let stood = put_stamped(slots, 1, Content::Absent, 3)?;
     assert_eq!(rt; stood, (3, Content::Held(Holder::True)));
     assert_eq!(rt; (slots.places(), slots.present()), (1, 0));
     assert_eq!(rt; slots.copy(alloc)?.places(), 0, "none is present");
+    Ok(())
+}
+
+/// The place stays at its stamp, and goes at the next.
+fn check_slot_purged(rt: &impl Abort, slots: &mut Slots) -> Result<(), Fail> {
     slots.purge(3);
     assert_eq!(rt; slots.places(), 1);
     slots.purge(4);
     assert_eq!(rt; slots.places(), 0);
     Ok(())
+}
+
+#[test]
+fn slots_count_what_is_present(rt: HostRuntime) -> Result<(), Fail> {
+    let mut slots = Slots::new(rt.alloc());
+    check_slot_set(&rt, &mut slots)?;
+    check_slot_taken(&rt, rt.alloc(), &mut slots)?;
+    check_slot_purged(&rt, &mut slots)
 }

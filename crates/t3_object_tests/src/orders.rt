@@ -109,55 +109,68 @@ fn check_orders(
     Ok(())
 }
 
+/// Object 0 isn't live, since it is its own superclass, and there is no object 9.
+const DIAMOND: [&[u32]; 7] = [&[0], &[], &[1], &[1], &[2, 3], &[4, 1], &[2, 4, 3]];
+
+const IN_DIAMOND: [(u32, &[u32]); 6] = [
+    (4, &[4, 2, 3, 1]),
+    (5, &[5, 4, 2, 3, 1]),
+    (6, &[6, 4, 2, 3, 1]),
+    (1, &[1]),
+    (0, &[]),
+    (9, &[]),
+];
+
+/// A diamond of diamonds, a number that stands twice, and superclasses that aren't live.
+const DIAMONDS: [&[u32]; 11] = [
+    &[0],
+    &[],
+    &[1],
+    &[1],
+    &[2, 3],
+    &[4],
+    &[4],
+    &[5, 6],
+    &[2, 3, 2],
+    &[0, 3, 7],
+    &[0],
+];
+
+const IN_DIAMONDS: [(u32, &[u32]); 4] = [
+    (7, &[7, 5, 6, 4, 2, 3, 1]),
+    (8, &[8, 3, 2, 1]),
+    (9, &[9, 7, 5, 6, 4, 2, 3, 1]),
+    (10, &[10]),
+];
+
 #[test]
 fn orders_what_was_worked_out_by_hand(rt: HostRuntime) -> Result<(), Fail> {
-    // Object 0 isn't live, since it is its own superclass, and there is no object 9.
-    let diamond: [&[u32]; 7] = [&[0], &[], &[1], &[1], &[2, 3], &[4, 1], &[2, 4, 3]];
-    let rows: [(u32, &[u32]); 6] = [
-        (4, &[4, 2, 3, 1]),
-        (5, &[5, 4, 2, 3, 1]),
-        (6, &[6, 4, 2, 3, 1]),
-        (1, &[1]),
-        (0, &[]),
-        (9, &[]),
-    ];
-    check_orders(&rt, rt.alloc(), &diamond, &rows)?;
-    // A diamond of diamonds, a number that stands twice, and superclasses that aren't live.
-    let more: [&[u32]; 11] = [
-        &[0],
-        &[],
-        &[1],
-        &[1],
-        &[2, 3],
-        &[4],
-        &[4],
-        &[5, 6],
-        &[2, 3, 2],
-        &[0, 3, 7],
-        &[0],
-    ];
-    let rows: [(u32, &[u32]); 4] = [
-        (7, &[7, 5, 6, 4, 2, 3, 1]),
-        (8, &[8, 3, 2, 1]),
-        (9, &[9, 7, 5, 6, 4, 2, 3, 1]),
-        (10, &[10]),
-    ];
-    check_orders(&rt, rt.alloc(), &more, &rows)
+    check_orders(&rt, rt.alloc(), &DIAMOND, &IN_DIAMOND)?;
+    check_orders(&rt, rt.alloc(), &DIAMONDS, &IN_DIAMONDS)
+}
+
+/// Objects up to a number, each with the one before it as its superclass.
+fn make_chain(alloc: Global, last: u32) -> Result<Objects, NoMemory> {
+    let mut lists = Vec::new(alloc);
+    lists.push(Vec::new(alloc))?;
+    for above in 0..last {
+        lists.push(Vec::from_slice(alloc, &[above])?)?;
+    }
+    Ok(Objects { lists })
 }
 
 #[test]
 fn orders_a_chain_of_a_million(rt: HostRuntime) -> Result<(), Fail> {
-    let alloc = rt.alloc();
-    let mut lists = Vec::new(alloc);
-    lists.push(Vec::new(alloc))?;
-    for above in 0..1_048_575u32 {
-        lists.push(Vec::from_slice(alloc, &[above])?)?;
-    }
-    let chain = Objects { lists };
-    let order = order_of(alloc, &chain, 1_048_575)?;
+    let chain = make_chain(rt.alloc(), 1_048_575)?;
+    let order = order_of(rt.alloc(), &chain, 1_048_575)?;
+    check_falling(&rt, &order)
+}
+
+/// The numbers go from 1,048,575 down to 0.
+fn check_falling(rt: &impl Abort, order: &[u32]) -> Result<(), Fail> {
     assert_eq!(rt; order.len(), 1_048_576);
     let mut due = 1_048_576u32;
-    for number in &order {
+    for number in order {
         due = due.saturating_sub(1);
         assert_eq!(rt; *number, due);
     }
@@ -172,35 +185,67 @@ pub(crate) fn drawn(seed: &mut u32, count: u32) -> u32
     (*seed >> 16) % count
 }
 
+/// Superclasses up to an object's number. Now and then the object itself, so that it isn't live.
+fn draw_supers(alloc: Global, seed: &mut u32, number: u32) -> Result<Vec<u32>, NoMemory>
+    requires { number < 9 }
+{
+    let mut list = Vec::new(alloc);
+    for _ in 0..drawn(seed, 4) {
+        list.push(drawn(seed, number + 1))?;
+    }
+    Ok(list)
+}
+
+fn draw_objects(alloc: Global, seed: &mut u32) -> Result<Objects, NoMemory> {
+    let mut lists = Vec::new(alloc);
+    for number in 0..9u32 {
+        lists.push(draw_supers(alloc, seed, number)?)?;
+    }
+    Ok(Objects { lists })
+}
+
+/// The order of an object by the slow program, from its list with repeats.
+fn order_by_places(alloc: Global, repeats: &[Vec<u32>], number: u32) -> Result<Vec<u32>, NoMemory> {
+    match repeats.get(number as usize) {
+        Some(list) => last_places(alloc, list),
+        None => Ok(Vec::new(alloc)),
+    }
+}
+
+/// Both give the same order of an object.
+fn check_same(
+    rt: &impl Abort,
+    alloc: Global,
+    graph: &Objects,
+    repeats: &[Vec<u32>],
+    number: u32,
+) -> Result<(), Fail> {
+    let order = order_of(alloc, graph, number)?;
+    let want = order_by_places(alloc, repeats, number)?;
+    assert_eq!(rt;
+        order.as_slice(),
+        want.as_slice(),
+        "of {number} in {:?}",
+        graph.lists
+    );
+    Ok(())
+}
+
+/// Both give the same order of each object, and of one that isn't there.
+fn check_each(rt: &impl Abort, alloc: Global, graph: &Objects) -> Result<(), Fail> {
+    let repeats = lists_with_repeats(alloc, graph, 10)?;
+    for number in 0..10u32 {
+        check_same(rt, alloc, graph, &repeats, number)?;
+    }
+    Ok(())
+}
+
 #[test]
 fn agrees_with_a_slow_program(rt: HostRuntime) -> Result<(), Fail> {
-    let alloc = rt.alloc();
     let mut seed = 1;
     for _ in 0..3000 {
-        let mut lists = Vec::new(alloc);
-        for number in 0..9u32 {
-            let mut list = Vec::new(alloc);
-            for _ in 0..drawn(&mut seed, 4) {
-                // Now and then the object itself, so that it isn't live.
-                list.push(drawn(&mut seed, number + 1))?;
-            }
-            lists.push(list)?;
-        }
-        let graph = Objects { lists };
-        let repeats = lists_with_repeats(alloc, &graph, 10)?;
-        for number in 0..10u32 {
-            let order = order_of(alloc, &graph, number)?;
-            let want = match repeats.get(number as usize) {
-                Some(list) => last_places(alloc, list)?,
-                None => Vec::new(alloc),
-            };
-            assert_eq!(rt;
-                order.as_slice(),
-                want.as_slice(),
-                "of {number} in {:?}",
-                graph.lists
-            );
-        }
+        let graph = draw_objects(rt.alloc(), &mut seed)?;
+        check_each(&rt, rt.alloc(), &graph)?;
     }
     Ok(())
 }

@@ -3,6 +3,7 @@ use crate::orders::drawn;
 use crate::plain_places::{Plain, PlainPlace, Value, content};
 use crate::tried::Tried;
 use std::alloc::Global;
+use std::process::Abort;
 use std::test::Fail;
 use t3_holder::{Bytes, Holder, NoMemory};
 use t3_lists::{Holders, List, Text, Vector};
@@ -217,9 +218,27 @@ fn agree_all_along<K: Tried>(
     Ok(true)
 }
 
+/// A plain object without places.
+fn bare(alloc: Global, own: usize, is_row: bool) -> Plain {
+    Plain {
+        own,
+        is_row,
+        places: Vec::new(alloc),
+    }
+}
+
+/// Tads-objects agree in each run.
+fn check_objects(rt: &impl Abort, alloc: Global, cells: &[Cell]) -> Result<(), Fail> {
+    for seed in 0..RUNS {
+        let plain = bare(alloc, 6, false);
+        let same = agree_all_along(TadsObject::new(alloc), plain, alloc, cells, seed)?;
+        assert!(rt; same, "in run {seed}");
+    }
+    Ok(())
+}
+
 #[test]
 fn properties_are_those_of_a_plain_list(rt: HostRuntime) -> Result<(), Fail> {
-    let alloc = rt.alloc();
     let cells = [
         Cell::Prop(0),
         Cell::Prop(1),
@@ -230,14 +249,14 @@ fn properties_are_those_of_a_plain_list(rt: HostRuntime) -> Result<(), Fail> {
         Cell::Elem(1),
         Cell::Default,
     ];
+    check_objects(&rt, rt.alloc(), &cells)
+}
+
+/// Vectors agree in each run.
+fn check_vectors(rt: &impl Abort, alloc: Global, cells: &[Cell]) -> Result<(), Fail> {
     for seed in 0..RUNS {
-        let object = TadsObject::new(alloc);
-        let plain = Plain {
-            own: 6,
-            is_row: false,
-            places: Vec::new(alloc),
-        };
-        let same = agree_all_along(object, plain, alloc, &cells, seed)?;
+        let plain = bare(alloc, 6, true);
+        let same = agree_all_along(Vector::new(alloc), plain, alloc, cells, seed)?;
         assert!(rt; same, "in run {seed}");
     }
     Ok(())
@@ -245,7 +264,6 @@ fn properties_are_those_of_a_plain_list(rt: HostRuntime) -> Result<(), Fail> {
 
 #[test]
 fn elements_are_those_of_a_plain_list(rt: HostRuntime) -> Result<(), Fail> {
-    let alloc = rt.alloc();
     let cells = [
         Cell::Elem(1),
         Cell::Elem(2),
@@ -256,17 +274,7 @@ fn elements_are_those_of_a_plain_list(rt: HostRuntime) -> Result<(), Fail> {
         Cell::Elem(0),
         Cell::Prop(1),
     ];
-    for seed in 0..RUNS {
-        let object = Vector::new(alloc);
-        let plain = Plain {
-            own: 6,
-            is_row: true,
-            places: Vec::new(alloc),
-        };
-        let same = agree_all_along(object, plain, alloc, &cells, seed)?;
-        assert!(rt; same, "in run {seed}");
-    }
-    Ok(())
+    check_vectors(&rt, rt.alloc(), &cells)
 }
 
 /// A default, five keys, and two cells that no table has.
@@ -283,48 +291,53 @@ fn cells_of_tables(alloc: Global) -> Result<[Cell; 8], NoMemory> {
     ])
 }
 
-#[test]
-fn entries_are_those_of_a_plain_list(rt: HostRuntime) -> Result<(), Fail> {
-    let alloc = rt.alloc();
-    let cells = cells_of_tables(alloc)?;
+/// A plain table without entries, whose default is nil.
+fn bare_table(alloc: Global) -> Result<Plain, NoMemory> {
+    let mut plain = bare(alloc, 6, false);
+    let nil = Some(Value {
+        tick: 0,
+        holder: Holder::Nil,
+    });
+    plain.places.push(PlainPlace {
+        cell: 0,
+        stamp: 0,
+        value: nil,
+    })?;
+    Ok(plain)
+}
+
+/// Tables agree in each run.
+fn check_tables(rt: &impl Abort, alloc: Global, cells: &[Cell]) -> Result<(), Fail> {
     for seed in 0..RUNS {
-        let mut plain = Plain {
-            own: 6,
-            is_row: false,
-            places: Vec::new(alloc),
-        };
-        let nil = Some(Value {
-            tick: 0,
-            holder: Holder::Nil,
-        });
-        plain.places.push(PlainPlace {
-            cell: 0,
-            stamp: 0,
-            value: nil,
-        })?;
-        let same = agree_all_along(Table::new(alloc), plain, alloc, &cells, seed)?;
+        let plain = bare_table(alloc)?;
+        let same = agree_all_along(Table::new(alloc), plain, alloc, cells, seed)?;
         assert!(rt; same, "in run {seed}");
     }
     Ok(())
 }
 
 #[test]
-fn strings_and_lists_have_no_cell_all_along(rt: HostRuntime) -> Result<(), Fail> {
-    let alloc = rt.alloc();
-    let cells = cells_of_tables(alloc)?;
+fn entries_are_those_of_a_plain_list(rt: HostRuntime) -> Result<(), Fail> {
+    let cells = cells_of_tables(rt.alloc())?;
+    check_tables(&rt, rt.alloc(), &cells)
+}
+
+/// Whether a string agrees with a plain object that can have no place.
+fn text_agrees(alloc: Global, cells: &[Cell]) -> Result<bool, NoMemory> {
     let text = Text::of(Bytes(Vec::from_slice(alloc, b"text")?));
+    agree_all_along(text, bare(alloc, 0, false), alloc, cells, 1)
+}
+
+/// Whether a list does.
+fn list_agrees(alloc: Global, cells: &[Cell]) -> Result<bool, NoMemory> {
     let list = List::of(Holders(Vec::from_slice(alloc, &[Holder::True])?));
-    let plain = Plain {
-        own: 0,
-        is_row: false,
-        places: Vec::new(alloc),
-    };
-    assert!(rt; agree_all_along(text, plain, alloc, &cells, 1)?);
-    let plain = Plain {
-        own: 0,
-        is_row: false,
-        places: Vec::new(alloc),
-    };
-    assert!(rt; agree_all_along(list, plain, alloc, &cells, 1)?);
+    agree_all_along(list, bare(alloc, 0, false), alloc, cells, 1)
+}
+
+#[test]
+fn strings_and_lists_have_no_cell_all_along(rt: HostRuntime) -> Result<(), Fail> {
+    let cells = cells_of_tables(rt.alloc())?;
+    assert!(rt; text_agrees(rt.alloc(), &cells)?);
+    assert!(rt; list_agrees(rt.alloc(), &cells)?);
     Ok(())
 }

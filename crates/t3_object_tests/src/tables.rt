@@ -85,17 +85,26 @@ fn with_each_kind(alloc: Global) -> Result<Table, NoMemory> {
     Ok(table)
 }
 
-#[test]
-fn keys_of_each_kind_are_apart(rt: HostRuntime) -> Result<(), Fail> {
-    let alloc = rt.alloc();
-    let mut table = with_each_kind(alloc)?;
+/// The table has an entry for each kind, in the order in which they came.
+fn check_each_kind(rt: &impl Abort, alloc: Global, table: &Table) -> Result<(), Fail> {
     assert_eq!(rt; (table.next_tick(), table.places()), (10, 10));
-    check_order(&rt, alloc, &table, &[9, 8, 7, 6, 5, 4, 3, 2, 1])?;
+    check_order(rt, alloc, table, &[9, 8, 7, 6, 5, 4, 3, 2, 1])
+}
+
+/// A key like one that is there is no further key.
+fn check_same_key(rt: &impl Abort, alloc: Global, table: &mut Table) -> Result<(), Fail> {
     let same = key_of_kind(alloc, 9)?;
-    let stood = put(alloc, &mut table, same, 1, 0)?;
+    let stood = put(alloc, table, same, 1, 0)?;
     assert_eq!(rt; stood, Content::Slot(1, Holder::Int(9)), "by its bytes");
     assert_eq!(rt; (table.next_tick(), table.places()), (10, 10));
     Ok(())
+}
+
+#[test]
+fn keys_of_each_kind_are_apart(rt: HostRuntime) -> Result<(), Fail> {
+    let mut table = with_each_kind(rt.alloc())?;
+    check_each_kind(&rt, rt.alloc(), &table)?;
+    check_same_key(&rt, rt.alloc(), &mut table)
 }
 
 /// 1 under 1, 2 under 2 and 3 under 3.
@@ -107,18 +116,27 @@ fn with_three(alloc: Global) -> Result<Table, NoMemory> {
     Ok(table)
 }
 
-#[test]
-fn an_entry_goes_and_comes_back(rt: HostRuntime) -> Result<(), Fail> {
-    let alloc = rt.alloc();
-    let mut table = with_three(alloc)?;
-    let old = take_away(alloc, &mut table, Key::Int(1))?;
+/// The first entry goes, and another under its key is the last.
+fn check_gone(rt: &impl Abort, alloc: Global, table: &mut Table) -> Result<(), Fail> {
+    let old = take_away(alloc, table, Key::Int(1))?;
     assert_eq!(rt; old, Content::Slot(1, Holder::Int(1)));
-    add(alloc, &mut table, Key::Int(1), 4)?;
-    check_order(&rt, alloc, &table, &[2, 3, 4])?;
-    let _four = put(alloc, &mut table, Key::Int(1), 1, 1)?;
-    check_order(&rt, alloc, &table, &[1, 2, 3])?;
+    add(alloc, table, Key::Int(1), 4)?;
+    check_order(rt, alloc, table, &[2, 3, 4])
+}
+
+/// With its former tick it is the first again.
+fn check_back(rt: &impl Abort, alloc: Global, table: &mut Table) -> Result<(), Fail> {
+    let _four = put(alloc, table, Key::Int(1), 1, 1)?;
+    check_order(rt, alloc, table, &[1, 2, 3])?;
     assert_eq!(rt; table.next_tick(), 5, "it isn't set back");
     Ok(())
+}
+
+#[test]
+fn an_entry_goes_and_comes_back(rt: HostRuntime) -> Result<(), Fail> {
+    let mut table = with_three(rt.alloc())?;
+    check_gone(&rt, rt.alloc(), &mut table)?;
+    check_back(&rt, rt.alloc(), &mut table)
 }
 
 /// A default of 7, 2 under 2 by the tick 20, 1 under 1 by the tick 10, and a place for nil.
@@ -133,20 +151,19 @@ fn with_ticks(alloc: Global) -> Result<Table, NoMemory> {
 
 #[test]
 fn a_copy_has_new_ticks(rt: HostRuntime) -> Result<(), Fail> {
-    check_new(&rt, rt.alloc())?;
+    check_new(&rt, &mut Table::new(rt.alloc()))?;
     let table = with_ticks(rt.alloc())?;
     assert_eq!(rt; (table.next_tick(), table.places()), (21, 4));
     let copy = table.copy(rt.alloc())?;
     check_copied(&rt, rt.alloc(), &copy)
 }
 
-fn check_new(rt: &impl Abort, alloc: Global) -> Result<(), Fail> {
-    let mut table = Table::new(alloc);
+/// A new table has a place for its default from the start, with which no tick goes.
+fn check_new(rt: &impl Abort, table: &mut Table) -> Result<(), Fail> {
     assert_eq!(rt; (table.next_tick(), table.places()), (1, 1));
-    // The default's place is there from the start, and no tick goes with it.
     table.make_place(Cell::Default)?;
     assert_eq!(rt; (table.next_tick(), table.places()), (1, 1));
-    let old = set_default(&mut table, 7);
+    let old = set_default(table, 7);
     assert_eq!(rt; old, Content::Held(Holder::Nil));
     Ok(())
 }
@@ -167,14 +184,24 @@ fn empty_place(alloc: Global, table: &mut Table, key: Key, stamp: u64) -> Result
     Ok(first)
 }
 
-#[test]
-fn empty_places_go_by_their_stamps(rt: HostRuntime) -> Result<(), Fail> {
-    let alloc = rt.alloc();
-    let mut table = with_three(alloc)?;
-    assert_eq!(rt; empty_place(alloc, &mut table, Key::Int(4), 7)?, 0);
-    assert_eq!(rt; empty_place(alloc, &mut table, Key::Int(5), 8)?, 0);
+/// Two empty places, with the stamps 7 and 8.
+fn check_empty_places(rt: &impl Abort, alloc: Global, table: &mut Table) -> Result<(), Fail> {
+    assert_eq!(rt; empty_place(alloc, table, Key::Int(4), 7)?, 0);
+    assert_eq!(rt; empty_place(alloc, table, Key::Int(5), 8)?, 0);
     assert_eq!(rt; (table.places(), table.present()), (6, 4));
+    Ok(())
+}
+
+/// The one with the stamp 7 goes, and the entries stay.
+fn check_purged(rt: &impl Abort, alloc: Global, table: &mut Table) -> Result<(), Fail> {
     table.purge(8);
     assert_eq!(rt; (table.places(), table.present()), (5, 4));
-    check_order(&rt, alloc, &table, &[1, 2, 3])
+    check_order(rt, alloc, table, &[1, 2, 3])
+}
+
+#[test]
+fn empty_places_go_by_their_stamps(rt: HostRuntime) -> Result<(), Fail> {
+    let mut table = with_three(rt.alloc())?;
+    check_empty_places(&rt, rt.alloc(), &mut table)?;
+    check_purged(&rt, rt.alloc(), &mut table)
 }

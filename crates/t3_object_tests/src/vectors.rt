@@ -159,11 +159,8 @@ fn with_holes(alloc: Global) -> Result<Row, NoMemory> {
     Ok(row)
 }
 
-#[test]
-fn missing_elements_lose_their_places_from_the_end(rt: HostRuntime) -> Result<(), Fail> {
-    let row = with_holes(rt.alloc())?;
-    assert_eq!(rt; (row.stamp(1), row.stamp(2), row.stamp(3)), (0, 2, 5));
-    let mut vector = row.purged(5);
+/// Of places that were purged at 5 the third stays by its stamp, and at 6 it goes.
+fn check_purged(rt: &impl Abort, vector: &mut Vector) -> Result<(), Fail> {
     assert_eq!(rt;
         (vector.places(), vector.present()),
         (3, 1),
@@ -176,30 +173,46 @@ fn missing_elements_lose_their_places_from_the_end(rt: HostRuntime) -> Result<()
 }
 
 #[test]
-fn a_hole_stays_only_below_an_element(rt: HostRuntime) -> Result<(), Fail> {
-    let mut row = Row::with_places(rt.alloc(), 4)?;
+fn missing_elements_lose_their_places_from_the_end(rt: HostRuntime) -> Result<(), Fail> {
+    let row = with_holes(rt.alloc())?;
+    assert_eq!(rt; (row.stamp(1), row.stamp(2), row.stamp(3)), (0, 2, 5));
+    let mut vector = row.purged(5);
+    check_purged(&rt, &mut vector)
+}
+
+/// How many places and elements are left at a serial where the third of four elements was set, or set
+/// and taken away.
+fn left_of_third(alloc: Global, goes: bool, oldest: u64) -> Result<(u64, u64), NoMemory> {
+    let mut row = Row::with_places(alloc, 4)?;
     let _missing = row.set(3, Some(3));
-    let vector = row.purged(u64::MAX);
-    assert_eq!(rt;
-        (vector.places(), vector.present()),
-        (3, 1),
-        "below the third"
-    );
-    let mut row = Row::with_places(rt.alloc(), 4)?;
-    let _missing = row.set(3, Some(3));
-    let _three = row.set(3, None);
-    let vector = row.purged(1);
-    assert_eq!(rt; (vector.places(), vector.present()), (0, 0));
-    Ok(())
+    if goes {
+        let _three = row.set(3, None);
+    }
+    let vector = row.purged(oldest);
+    Ok((vector.places(), vector.present()))
 }
 
 #[test]
-fn the_greatest_element_of_a_vector(rt: HostRuntime) -> Result<(), Fail> {
-    let alloc = rt.alloc();
+fn a_hole_stays_only_below_an_element(rt: HostRuntime) -> Result<(), Fail> {
+    assert_eq!(rt;
+        left_of_third(rt.alloc(), false, u64::MAX)?,
+        (3, 1),
+        "below the third"
+    );
+    assert_eq!(rt; left_of_third(rt.alloc(), true, 1)?, (0, 0));
+    Ok(())
+}
+
+/// A copy of a vector of 65,535 sevens.
+fn copy_of_sevens(rt: &impl Abort, alloc: Global) -> Result<Vector, Fail> {
     let items = vec![in alloc; Holder::Int(7); 65535]?;
     let vector = vector_of(alloc, &items)?;
     assert_eq!(rt; (vector.length(), vector.places()), (65535, 65535));
-    let copy = vector.copy(alloc)?;
+    Ok(vector.copy(alloc)?)
+}
+
+/// It has 65,535 sevens, and nothing in other cells.
+fn check_sevens(rt: &impl Abort, copy: &Vector) -> Result<(), Fail> {
     assert_eq!(rt; (copy.length(), copy.places()), (65535, 65535));
     let last = copy.get(&Cell::Elem(65535));
     assert_eq!(rt; last, Content::Held(Holder::Int(7)));
@@ -215,30 +228,60 @@ fn the_greatest_element_of_a_vector(rt: HostRuntime) -> Result<(), Fail> {
 }
 
 #[test]
+fn the_greatest_element_of_a_vector(rt: HostRuntime) -> Result<(), Fail> {
+    let copy = copy_of_sevens(&rt, rt.alloc())?;
+    check_sevens(&rt, &copy)
+}
+
+/// A string is given no place, and what is put into one of its cells comes back.
+fn check_no_cell_of_text(rt: &impl Abort, text: &mut Text) -> Result<(), Fail> {
+    text.make_place(Cell::Elem(1))?;
+    let back = text.put(&Cell::Elem(1), Content::Held(Holder::Nil));
+    assert_eq!(rt; back, Content::Held(Holder::Nil));
+    assert_eq!(rt; text.places(), 0);
+    text.purge(u64::MAX);
+    assert_eq!(rt; text.present(), 0);
+    assert_eq!(rt; text.get(&Cell::Elem(1)), Content::Absent);
+    Ok(())
+}
+
+/// And so with a list.
+fn check_no_cell_of_list(rt: &impl Abort, list: &mut List) -> Result<(), Fail> {
+    list.make_place(Cell::Elem(1))?;
+    let back = list.put(&Cell::Elem(1), Content::Held(Holder::Nil));
+    assert_eq!(rt; back, Content::Held(Holder::Nil));
+    assert_eq!(rt; list.places(), 0);
+    list.purge(u64::MAX);
+    assert_eq!(rt; list.present(), 0);
+    assert_eq!(rt; list.get(&Cell::Elem(1)), Content::Absent);
+    Ok(())
+}
+
+/// A copy of a string keeps its bytes.
+fn check_text(rt: &impl Abort, alloc: Global) -> Result<(), Fail> {
+    let mut text = Text::of(Bytes(Vec::from_slice(alloc, "hé".as_bytes())?)).copy(alloc)?;
+    check_no_cell_of_text(rt, &mut text)?;
+    assert_eq!(rt; text.bytes(), [b'h', 0xC3, 0xA9].as_slice());
+    Ok(())
+}
+
+/// A copy of a list keeps its items.
+fn check_list(rt: &impl Abort, alloc: Global) -> Result<(), Fail> {
+    let mut list = List::of(Holders(Vec::from_slice(alloc, &[Holder::True])?)).copy(alloc)?;
+    check_no_cell_of_list(rt, &mut list)?;
+    assert_eq!(rt; list.items(), [Holder::True].as_slice());
+    Ok(())
+}
+
+#[test]
 fn strings_and_lists_have_no_cells(rt: HostRuntime) -> Result<(), Fail> {
-    let alloc = rt.alloc();
     assert_eq!(rt;
         (
-            Text::new(alloc).bytes().len(),
-            List::new(alloc).items().len()
+            Text::new(rt.alloc()).bytes().len(),
+            List::new(rt.alloc()).items().len()
         ),
         (0, 0)
     );
-    let mut text = Text::of(Bytes(Vec::from_slice(alloc, "hé".as_bytes())?)).copy(alloc)?;
-    let mut list = List::of(Holders(Vec::from_slice(alloc, &[Holder::True])?)).copy(alloc)?;
-    text.make_place(Cell::Elem(1))?;
-    list.make_place(Cell::Elem(1))?;
-    let back = text.put(&Cell::Elem(1), Content::Held(Holder::Nil));
-    assert_eq!(rt; back, Content::Held(Holder::Nil));
-    let back = list.put(&Cell::Elem(1), Content::Held(Holder::Nil));
-    assert_eq!(rt; back, Content::Held(Holder::Nil));
-    assert_eq!(rt; (text.places(), list.places()), (0, 0));
-    text.purge(u64::MAX);
-    list.purge(u64::MAX);
-    assert_eq!(rt; (text.present(), list.present()), (0, 0));
-    assert_eq!(rt; text.get(&Cell::Elem(1)), Content::Absent);
-    assert_eq!(rt; list.get(&Cell::Elem(1)), Content::Absent);
-    assert_eq!(rt; text.bytes(), [b'h', 0xC3, 0xA9].as_slice());
-    assert_eq!(rt; list.items(), [Holder::True].as_slice());
-    Ok(())
+    check_text(&rt, rt.alloc())?;
+    check_list(&rt, rt.alloc())
 }

@@ -61,13 +61,10 @@ fn is_like(
 }
 
 /// The first call that isn't as wanted.
-pub(crate) fn first_unlike(
-    alloc: Global,
-    pools: &Pools,
-    rows: &[Row],
-) -> Result<Option<Call>, Fail> {
+pub(crate) fn first_unlike(alloc: Global, rows: &[Row]) -> Result<Option<Call>, Fail> {
+    let pools = pools(alloc)?;
     for (call, want) in rows {
-        if !is_like(alloc, call.0, call.1, *want, pools)? {
+        if !is_like(alloc, call.0, call.1, *want, &pools)? {
             return Ok(Some(*call));
         }
     }
@@ -135,9 +132,7 @@ const COUNT_ROWS: [Row; 28] = [
 
 #[test]
 fn arguments_are_counted(rt: HostRuntime) -> Result<(), Fail> {
-    let alloc = rt.alloc();
-    let pools = pools(alloc)?;
-    assert_eq!(rt; first_unlike(alloc, &pools, &COUNT_ROWS)?, None);
+    assert_eq!(rt; first_unlike(rt.alloc(), &COUNT_ROWS)?, None);
     Ok(())
 }
 
@@ -234,11 +229,11 @@ const FUNCTION_ROWS: [FunctionRow; 6] = [
 /// The first function, and the first of the fixture's values, whose answer isn't what is wanted.
 fn first_unlike_function(
     alloc: Global,
-    pools: &Pools,
     rows: &[FunctionRow],
 ) -> Result<Option<(u8, Holder)>, Fail> {
+    let pools = pools(alloc)?;
     for (index, wants) in rows {
-        if let Some(value) = first_unlike_value(alloc, *index, pools, wants)? {
+        if let Some(value) = first_unlike_value(alloc, *index, &pools, wants)? {
             return Ok(Some((*index, value)));
         }
     }
@@ -247,9 +242,7 @@ fn first_unlike_function(
 
 #[test]
 fn a_value_of_each_kind(rt: HostRuntime) -> Result<(), Fail> {
-    let alloc = rt.alloc();
-    let pools = pools(alloc)?;
-    assert_eq!(rt; first_unlike_function(alloc, &pools, &FUNCTION_ROWS)?, None);
+    assert_eq!(rt; first_unlike_function(rt.alloc(), &FUNCTION_ROWS)?, None);
     Ok(())
 }
 
@@ -285,17 +278,24 @@ const INTEGER_ROWS: [IntegerRow; 24] = [
     (b"-99999999999999999999999", OVERFLOW),
 ];
 
-/// The first row of whose text another integer comes.
-fn first_unlike_integer(
+/// Whether the integer of a new text is that of its row.
+fn has_integer(
     alloc: Global,
+    row: IntegerRow,
     store: &mut Store,
     pools: &Pools,
-    rows: &[IntegerRow],
-) -> Result<Option<IntegerRow>, Fail> {
+) -> Result<bool, Fail> {
+    let (bytes, want) = row;
+    let text = add_text(alloc, store, bytes)?;
+    Ok(call(alloc, TO_INTEGER, &[text], store, pools)? == want)
+}
+
+/// The first row of whose text another integer comes, all in one store.
+fn first_unlike_integer(alloc: Global, rows: &[IntegerRow]) -> Result<Option<IntegerRow>, Fail> {
+    let pools = pools(alloc)?;
+    let mut store = store(alloc)?;
     for row in rows {
-        let (bytes, want) = *row;
-        let text = add_text(alloc, store, bytes)?;
-        if call(alloc, TO_INTEGER, &[text], store, pools)? != want {
+        if !has_integer(alloc, *row, &mut store, &pools)? {
             return Ok(Some(*row));
         }
     }
@@ -304,11 +304,7 @@ fn first_unlike_integer(
 
 #[test]
 fn the_integer_of_a_text(rt: HostRuntime) -> Result<(), Fail> {
-    let alloc = rt.alloc();
-    let pools = pools(alloc)?;
-    let mut store = store(alloc)?;
-    let unlike = first_unlike_integer(alloc, &mut store, &pools, &INTEGER_ROWS)?;
-    assert_eq!(rt; unlike, None);
+    assert_eq!(rt; first_unlike_integer(rt.alloc(), &INTEGER_ROWS)?, None);
     Ok(())
 }
 
@@ -365,18 +361,21 @@ const BEST_ROWS: [BestRow; 18] = [
     ),
 ];
 
-/// The first row of whose values another one is told.
-fn first_unlike_best(
-    alloc: Global,
-    store: &mut Store,
-    pools: &Pools,
-    rows: &[BestRow],
-) -> Result<Option<BestRow>, Fail> {
+/// Whether the greatest and the least of a row's values are told.
+fn has_best(alloc: Global, row: BestRow, store: &mut Store, pools: &Pools) -> Result<bool, Fail> {
+    let (args, max, min) = row;
+    let greatest = call(alloc, MAX, args, store, pools)?;
+    let least = call(alloc, MIN, args, store, pools)?;
+    Ok(greatest == max && least == min)
+}
+
+/// The first row of whose values another one is told, in a store that has that string too.
+fn first_unlike_best(alloc: Global, rows: &[BestRow]) -> Result<Option<BestRow>, Fail> {
+    let pools = pools(alloc)?;
+    let mut store = store(alloc)?;
+    let _same = add_text(alloc, &mut store, b"ab")?;
     for row in rows {
-        let (args, max, min) = *row;
-        if call(alloc, MAX, args, store, pools)? != max
-            || call(alloc, MIN, args, store, pools)? != min
-        {
+        if !has_best(alloc, *row, &mut store, &pools)? {
             return Ok(Some(*row));
         }
     }
@@ -385,11 +384,6 @@ fn first_unlike_best(
 
 #[test]
 fn the_greatest_and_the_least(rt: HostRuntime) -> Result<(), Fail> {
-    let alloc = rt.alloc();
-    let pools = pools(alloc)?;
-    let mut store = store(alloc)?;
-    let _same = add_text(alloc, &mut store, b"ab")?;
-    let unlike = first_unlike_best(alloc, &mut store, &pools, &BEST_ROWS)?;
-    assert_eq!(rt; unlike, None);
+    assert_eq!(rt; first_unlike_best(rt.alloc(), &BEST_ROWS)?, None);
     Ok(())
 }

@@ -4,7 +4,7 @@ ghost use Rattle.t3_ops.specs.Making.{CanBeCreated};
 
 use crate::fixture::{
     BAD_LIST, BAD_TEXT, EMPTY_LIST, EMPTY_TEXT, LIST, LIVE_LIST, LIVE_TEXT, LONG_LIST, LONG_TEXT,
-    STALE, TABLE, TADS, TEXT, VECTOR, empty_store, pools, store,
+    STALE, TABLE, TADS, TEXT, VECTOR, pools, store,
 };
 use std::alloc::Global;
 use std::test::Fail;
@@ -15,7 +15,7 @@ use t3_store::{Kind, NewObject, Store, StoreRefusal};
 use t3_undo::{Cell, Key};
 
 /// Makes the object, if there is one to be made.
-fn create(
+pub(crate) fn create(
     store: &mut Store,
     made: Result<NewObject, Fault>,
     transient: bool,
@@ -67,16 +67,27 @@ fn is_string(
     }
 }
 
-/// The arguments of the first row of which something else is made.
-fn first_unlike_string(
+/// Whether a string of these bytes is made of arguments, or there is this fault.
+fn is_string_of(
     alloc: Global,
+    args: &[Holder],
+    want: Result<&[u8], Fault>,
     store: &mut Store,
     pools: &Pools,
+) -> Result<bool, Fail> {
+    let made = new_string(alloc, args, store, pools)?;
+    Ok(is_string(store, made, want)?)
+}
+
+/// The arguments of the first row of which something else is made, all in one store.
+fn first_unlike_string(
+    alloc: Global,
     rows: &[StringRow],
 ) -> Result<Option<&'static [Holder]>, Fail> {
+    let pools = pools(alloc)?;
+    let mut store = store(alloc)?;
     for (args, want) in rows {
-        let made = new_string(alloc, args, store, pools)?;
-        if !is_string(store, made, *want)? {
+        if !is_string_of(alloc, args, *want, &mut store, &pools)? {
             return Ok(Some(*args));
         }
     }
@@ -85,11 +96,7 @@ fn first_unlike_string(
 
 #[test]
 fn new_strings(rt: HostRuntime) -> Result<(), Fail> {
-    let alloc = rt.alloc();
-    let pools = pools(alloc)?;
-    let mut store = store(alloc)?;
-    let unlike = first_unlike_string(alloc, &mut store, &pools, &STRING_ROWS)?;
-    assert_eq!(rt; unlike, None);
+    assert_eq!(rt; first_unlike_string(rt.alloc(), &STRING_ROWS)?, None);
     Ok(())
 }
 
@@ -109,35 +116,45 @@ fn is_list(
     }
 }
 
-/// The first arguments of which no list of just them is made.
+/// Whether a list of arguments is made of them.
+fn is_list_of(alloc: Global, args: &[Holder], store: &mut Store) -> Result<bool, Fail> {
+    let made = new_list(alloc, args)?;
+    Ok(is_list(store, made, args)?)
+}
+
+/// The first arguments of which no list of just them is made, all in one store.
 fn first_unlike_list(
     alloc: Global,
-    store: &mut Store,
     rows: &[&'static [Holder]],
 ) -> Result<Option<&'static [Holder]>, Fail> {
+    let mut store = store(alloc)?;
     for args in rows {
-        let made = new_list(alloc, args)?;
-        if !is_list(store, made, args)? {
+        if !is_list_of(alloc, args, &mut store)? {
             return Ok(Some(*args));
         }
     }
     Ok(None)
 }
 
-/// A list of so many nils.
-fn list_of_nils(alloc: Global, count: usize) -> Result<Result<NewObject, Fault>, Fail> {
+/// Why there is no list of so many nils.
+fn fault_of_nils(alloc: Global, count: usize) -> Result<Option<Fault>, Fail> {
     let nils = [Holder::Nil].repeat(alloc, count)?;
-    Ok(new_list(alloc, &nils)?)
+    match new_list(alloc, &nils)? {
+        Ok(_) => Ok(None),
+        Err(fault) => Ok(Some(fault)),
+    }
 }
 
 #[test]
 fn new_lists(rt: HostRuntime) -> Result<(), Fail> {
-    let alloc = rt.alloc();
-    let mut store = store(alloc)?;
-    let unlike = first_unlike_list(alloc, &mut store, &LIST_ROWS)?;
-    assert_eq!(rt; unlike, None);
-    assert!(rt; list_of_nils(alloc, 65_535)?.is_ok());
-    assert!(rt; matches!(list_of_nils(alloc, 65_536)?, Err(Fault::ListLong)));
+    assert_eq!(rt; first_unlike_list(rt.alloc(), &LIST_ROWS)?, None);
+    Ok(())
+}
+
+#[test]
+fn lists_have_65535_elements_at_most(rt: HostRuntime) -> Result<(), Fail> {
+    assert_eq!(rt; fault_of_nils(rt.alloc(), 65_535)?, None);
+    assert_eq!(rt; fault_of_nils(rt.alloc(), 65_536)?, Some(Fault::ListLong));
     Ok(())
 }
 
@@ -165,15 +182,20 @@ fn is_empty_table(store: &Store, number: u32) -> bool {
         && store.get(number, &Cell::Key(Key::Int(1))).is_none()
 }
 
-/// The first row of whose arguments no empty table is made, or another fault comes.
-fn first_unlike_table(store: &mut Store, rows: &[TableRow]) -> Result<Option<TableRow>, Fail> {
+/// Whether an empty table is made of a row's arguments, or its fault comes.
+fn is_table_of(store: &mut Store, row: TableRow) -> Result<bool, StoreRefusal> {
+    let (args, want) = row;
+    match create(store, new_table(args), false)? {
+        Ok(number) => Ok(want.is_none() && is_empty_table(store, number)),
+        Err(fault) => Ok(want == Some(fault)),
+    }
+}
+
+/// The first row that isn't so, all in one store.
+fn first_unlike_table(alloc: Global, rows: &[TableRow]) -> Result<Option<TableRow>, Fail> {
+    let mut store = store(alloc)?;
     for row in rows {
-        let (args, want) = *row;
-        let is_like = match create(store, new_table(args), false)? {
-            Ok(number) => want.is_none() && is_empty_table(store, number),
-            Err(fault) => want == Some(fault),
-        };
-        if !is_like {
+        if !is_table_of(&mut store, *row)? {
             return Ok(Some(*row));
         }
     }
@@ -182,8 +204,7 @@ fn first_unlike_table(store: &mut Store, rows: &[TableRow]) -> Result<Option<Tab
 
 #[test]
 fn new_tables(rt: HostRuntime) -> Result<(), Fail> {
-    let mut store = store(rt.alloc())?;
-    assert_eq!(rt; first_unlike_table(&mut store, &TABLE_ROWS)?, None);
+    assert_eq!(rt; first_unlike_table(rt.alloc(), &TABLE_ROWS)?, None);
     Ok(())
 }
 
@@ -272,20 +293,38 @@ fn is_vector(
     }
 }
 
-/// The arguments of the first row of which something else is made.
-fn first_unlike_vector(
+/// Whether a vector of these elements is made of arguments, or there is this fault.
+fn is_vector_of(
     alloc: Global,
+    args: &[Holder],
+    want: Result<&[Holder], Fault>,
     store: &mut Store,
     pools: &Pools,
+) -> Result<bool, Fail> {
+    let made = new_vector(alloc, args, store, pools)?;
+    Ok(is_vector(store, made, want)?)
+}
+
+/// The arguments of the first row of which something else is made, all in one store.
+fn first_unlike_vector(
+    alloc: Global,
     rows: &[VectorRow],
 ) -> Result<Option<&'static [Holder]>, Fail> {
+    let pools = pools(alloc)?;
+    let mut store = store(alloc)?;
     for (args, want) in rows {
-        let made = new_vector(alloc, args, store, pools)?;
-        if !is_vector(store, made, *want)? {
+        if !is_vector_of(alloc, args, *want, &mut store, &pools)? {
             return Ok(Some(*args));
         }
     }
     Ok(None)
+}
+
+#[test]
+fn new_vectors(rt: HostRuntime) -> Result<(), Fail> {
+    let unlike = first_unlike_vector(rt.alloc(), &VECTOR_ROWS)?;
+    assert!(rt; unlike.is_none());
+    Ok(())
 }
 
 /// The number of a vector that is made of these arguments.
@@ -300,69 +339,27 @@ fn add_made_vector(
     Ok(create(store, made, transient)??)
 }
 
-/// The lengths of a transient vector of 65,535 nils and of one that is made of it, and the last element of
-/// the first.
-fn long_vectors(
-    alloc: Global,
-    store: &mut Store,
-    pools: &Pools,
-) -> Result<(Option<u32>, Option<u32>, Option<Holder>), Fail> {
+/// The lengths of a vector and of one that is made of it, and the last element of the first.
+type LongVectors = (Option<u32>, Option<u32>, Option<Holder>);
+
+/// Makes a transient vector of 65,535 nils, and one of it.
+fn add_long_vectors(alloc: Global, store: &mut Store, pools: &Pools) -> Result<LongVectors, Fail> {
     let long = add_made_vector(alloc, &[TEN, Holder::Int(65_535)], true, store, pools)?;
     let copy = add_made_vector(alloc, &[TEN, Holder::Obj(long)], false, store, pools)?;
     let last = store.get(long, &Cell::Elem(65_535));
     Ok((store.length(long), store.length(copy), last))
 }
 
-#[test]
-fn new_vectors(rt: HostRuntime) -> Result<(), Fail> {
-    let alloc = rt.alloc();
+/// The same in a store of their own.
+fn long_vectors(alloc: Global) -> Result<LongVectors, Fail> {
     let pools = pools(alloc)?;
     let mut store = store(alloc)?;
-    let unlike = first_unlike_vector(alloc, &mut store, &pools, &VECTOR_ROWS)?;
-    assert!(rt; unlike.is_none());
-    Ok(())
+    add_long_vectors(alloc, &mut store, &pools)
 }
 
 #[test]
 fn vectors_of_65535_elements(rt: HostRuntime) -> Result<(), Fail> {
-    let alloc = rt.alloc();
-    let pools = pools(alloc)?;
-    let mut store = store(alloc)?;
-    let long = long_vectors(alloc, &mut store, &pools)?;
+    let long = long_vectors(rt.alloc())?;
     assert_eq!(rt; long, (Some(65_535), Some(65_535), Some(NIL)));
-    Ok(())
-}
-
-/// Whether a store has no room for the object.
-fn is_full(store: &mut Store, made: Result<NewObject, Fault>) -> bool
-    requires { IfOk made CanBeCreated }
-{
-    matches!(create(store, made, false), Err(StoreRefusal::Full))
-}
-
-/// Whether a store has no room for a string, for a list and for a vector that have some unit.
-fn have_no_room(alloc: Global, store: &mut Store, pools: &Pools) -> Result<[bool; 3], Fail> {
-    let text = new_string(alloc, &[TEXT], store, pools)?;
-    let list = new_list(alloc, &[NIL])?;
-    let vector = new_vector(alloc, &[Holder::Int(0), ONE], store, pools)?;
-    Ok([
-        is_full(store, text),
-        is_full(store, list),
-        is_full(store, vector),
-    ])
-}
-
-#[test]
-fn a_full_store_takes_no_object(rt: HostRuntime) -> Result<(), Fail> {
-    let alloc = rt.alloc();
-    let pools = pools(alloc)?;
-    // Room for an object, but for no unit.
-    let mut store = empty_store(alloc, 1, 0)?;
-    assert_eq!(rt; have_no_room(alloc, &mut store, &pools)?, [true; 3]);
-    assert_eq!(rt; create(&mut store, new_table(&[]), false)?, Ok(1));
-    // And now for no object.
-    assert!(rt; is_full(&mut store, new_table(&[])));
-    let empty = new_string(alloc, &[EMPTY_TEXT], &store, &pools)?;
-    assert!(rt; is_full(&mut store, empty));
     Ok(())
 }

@@ -1,4 +1,4 @@
-//! Whether two values are equal: each kind beside each, lists in lists, and the last turn.
+//! Whether two values are equal: each kind beside each, and lists in lists.
 use crate::fixture::{STALE, TABLE, TADS, VECTOR, add_list, add_text, empty_store, paged, store};
 use std::alloc::Global;
 use std::test::Fail;
@@ -50,12 +50,12 @@ const UNREAD_LIST: Holder = Holder::List(26);
 const CUT: Holder = Holder::Text(141);
 
 /// 1, 2
-const PAIR: Holder = Holder::List(29);
+pub(crate) const PAIR: Holder = Holder::List(29);
 
-const PAIR_AGAIN: Holder = Holder::List(41);
+pub(crate) const PAIR_AGAIN: Holder = Holder::List(41);
 
 /// 1, 2, 3
-const THREE: Holder = Holder::List(53);
+pub(crate) const THREE: Holder = Holder::List(53);
 
 /// A list of the second pair, and a list of that.
 const IN_LIST: Holder = Holder::List(70);
@@ -79,7 +79,7 @@ const OF_UNREAD: Holder = Holder::List(134);
 
 const BAD: Result<bool, Fault> = Err(Fault::BadConstant);
 
-const LONG: Result<bool, Fault> = Err(Fault::CompareLong);
+pub(crate) const LONG: Result<bool, Fault> = Err(Fault::CompareLong);
 
 /// The strings and lists of [`store_of_lists`]: `hallo`, and again, and one character past 7F.
 const LIVE: Holder = Holder::Obj(6);
@@ -120,9 +120,26 @@ pub(crate) fn told(
 }
 
 /// Two values, what is told of them, and the turns that it takes.
-type Row = (Holder, Holder, Result<bool, Fault>, u32);
+pub(crate) type Row = (Holder, Holder, Result<bool, Fault>, u32);
 
-/// The first row of whose values something else is told with so many turns, or that takes others.
+/// Whether of a row's values is told what it says with so many turns, and takes as many of them.
+pub(crate) fn is_told(
+    alloc: Global,
+    turns: u32,
+    row: Row,
+    store: &Store,
+    pools: &Pools,
+) -> Result<bool, Fail> {
+    let (left, right, want, takes) = row;
+    let rest = if want.is_ok() {
+        turns.wrapping_sub(takes)
+    } else {
+        0
+    };
+    Ok(told(alloc, left, right, store, pools, turns)? == (want, rest))
+}
+
+/// The first row that isn't so.
 fn first_unlike(
     alloc: Global,
     turns: u32,
@@ -131,29 +148,38 @@ fn first_unlike(
     rows: &[Row],
 ) -> Result<Option<Row>, Fail> {
     for row in rows {
-        let (left, right, want, takes) = *row;
-        let rest = if want.is_ok() {
-            turns.wrapping_sub(takes)
-        } else {
-            0
-        };
-        if told(alloc, left, right, store, pools, turns)? != (want, rest) {
+        if !is_told(alloc, turns, *row, store, pools)? {
             return Ok(Some(*row));
         }
     }
     Ok(None)
 }
 
-/// The same without objects, and with the constants on pages of several sizes.
+/// The constants on pages of so many bytes.
+pub(crate) fn laid_out(alloc: Global, size: u32) -> Result<Pools, Fail> {
+    paged(alloc, size, LAID_OUT)
+}
+
+/// The first row that isn't so without objects, and with the constants on such pages.
+fn first_unlike_on(
+    alloc: Global,
+    size: u32,
+    turns: u32,
+    rows: &[Row],
+) -> Result<Option<Row>, Fail> {
+    let pools = laid_out(alloc, size)?;
+    let store = empty_store(alloc, 1, 1)?;
+    first_unlike(alloc, turns, &store, &pools, rows)
+}
+
+/// The same on pages of several sizes.
 fn first_unlike_on_pages(
     alloc: Global,
     turns: u32,
     rows: &[Row],
 ) -> Result<Option<(u32, Row)>, Fail> {
-    let store = empty_store(alloc, 1, 1)?;
     for size in &PAGE_SIZES {
-        let pools = paged(alloc, *size, LAID_OUT)?;
-        if let Some(row) = first_unlike(alloc, turns, &store, &pools, rows)? {
+        if let Some(row) = first_unlike_on(alloc, *size, turns, rows)? {
             return Ok(Some((*size, row)));
         }
     }
@@ -214,23 +240,29 @@ fn constants_are_looked_into(rt: HostRuntime) -> Result<(), Fail> {
     Ok(())
 }
 
-/// The fixture's store with three strings and five lists more.
-fn store_of_lists(alloc: Global) -> Result<Store, Fail> {
-    let mut store = store_of_texts(alloc)?;
-    let _list = add_list(alloc, &mut store, &[Holder::Int(1), Holder::Int(2)])?;
-    let _mixed = add_list(alloc, &mut store, &[LIVE, STALE])?;
-    let _mixed_again = add_list(alloc, &mut store, &[HALLO, STALE])?;
-    let _of_unread = add_list(alloc, &mut store, &[UNREAD])?;
-    let _numbers = add_list(alloc, &mut store, &[Holder::Int(4), Holder::Int(5)])?;
-    Ok(store)
+/// Adds the three strings.
+fn add_texts(alloc: Global, store: &mut Store) -> Result<(), Fail> {
+    for bytes in &[b"hallo".as_slice(), b"hallo", b"\xC3\xA9"] {
+        let _text = add_text(alloc, store, bytes)?;
+    }
+    Ok(())
 }
 
-/// The fixture's store with the three strings.
-fn store_of_texts(alloc: Global) -> Result<Store, Fail> {
+/// Adds the five lists.
+fn add_lists(alloc: Global, store: &mut Store) -> Result<(), Fail> {
+    let _list = add_list(alloc, store, &[Holder::Int(1), Holder::Int(2)])?;
+    let _mixed = add_list(alloc, store, &[LIVE, STALE])?;
+    let _mixed_again = add_list(alloc, store, &[HALLO, STALE])?;
+    let _of_unread = add_list(alloc, store, &[UNREAD])?;
+    let _numbers = add_list(alloc, store, &[Holder::Int(4), Holder::Int(5)])?;
+    Ok(())
+}
+
+/// The fixture's store with three strings and five lists more.
+fn store_of_lists(alloc: Global) -> Result<Store, Fail> {
     let mut store = store(alloc)?;
-    for bytes in &[b"hallo".as_slice(), b"hallo", b"\xC3\xA9"] {
-        let _text = add_text(alloc, &mut store, bytes)?;
-    }
+    add_texts(alloc, &mut store)?;
+    add_lists(alloc, &mut store)?;
     Ok(store)
 }
 
@@ -266,117 +298,15 @@ const OBJECT_ROWS: [Row; 28] = [
     (Holder::Int(-1), Holder::Int(-1), Ok(true), 1),
 ];
 
+/// The first row that isn't so with ten turns in that store.
+fn first_unlike_object(alloc: Global, rows: &[Row]) -> Result<Option<Row>, Fail> {
+    let pools = laid_out(alloc, 16)?;
+    let store = store_of_lists(alloc)?;
+    first_unlike(alloc, 10, &store, &pools, rows)
+}
+
 #[test]
 fn objects_are_looked_into_where_they_are_texts_or_lists(rt: HostRuntime) -> Result<(), Fail> {
-    let alloc = rt.alloc();
-    let pools = paged(alloc, 16, LAID_OUT)?;
-    let store = store_of_lists(alloc)?;
-    assert_eq!(rt;
-        first_unlike(alloc, 10, &store, &pools, &OBJECT_ROWS)?,
-        None
-    );
-    Ok(())
-}
-
-/// Two values, what is told of them, and the turns that are left for the next row.
-type RowInTurn = (Holder, Holder, Result<bool, EqualRefusal>, u32);
-
-const REFUSED: Result<bool, EqualRefusal> = Err(EqualRefusal::Fault(Fault::CompareLong));
-
-/// With seven turns.
-const ROWS_IN_TURN: [RowInTurn; 4] = [
-    (PAIR, PAIR_AGAIN, Ok(true), 4),
-    (PAIR, THREE, Ok(false), 3),
-    (PAIR, PAIR_AGAIN, Ok(true), 0),
-    // Not even two integers are looked at without a turn.
-    (Holder::Int(1), Holder::Int(1), REFUSED, 0),
-];
-
-/// The first row of whose values something else is told with the turns that the rows before it left.
-fn first_unlike_in_turn(
-    alloc: Global,
-    turns: u32,
-    store: &Store,
-    pools: &Pools,
-    rows: &[RowInTurn],
-) -> Option<RowInTurn> {
-    let mut turns = turns;
-    for row in rows {
-        let (left, right, want, rest) = *row;
-        if equal(alloc, left, right, store, pools, &mut turns) != want || turns != rest {
-            return Some(*row);
-        }
-    }
-    None
-}
-
-#[test]
-fn turns_go_on_from_one_comparison_to_the_next(rt: HostRuntime) -> Result<(), Fail> {
-    let alloc = rt.alloc();
-    let pools = paged(alloc, 64, LAID_OUT)?;
-    let store = empty_store(alloc, 1, 1)?;
-    assert_eq!(rt;
-        first_unlike_in_turn(alloc, 7, &store, &pools, &ROWS_IN_TURN),
-        None
-    );
-    let mut two = 2;
-    assert_eq!(rt;
-        equal(alloc, PAIR, PAIR_AGAIN, &store, &pools, &mut two),
-        REFUSED
-    );
-    Ok(())
-}
-
-/// The lists of [`store_of_long_lists`]: two of 65,534 nils and true.
-const LEFT: Holder = Holder::Obj(2);
-
-const RIGHT: Holder = Holder::Obj(3);
-
-/// The same with a list of nil in the place of true.
-const LONGER: Holder = Holder::Obj(4);
-
-/// A store with a list of nil and the long ones.
-fn store_of_long_lists(alloc: Global) -> Result<Store, Fail> {
-    let mut store = empty_store(alloc, 8, 300_000)?;
-    let one = add_list(alloc, &mut store, &[Holder::Nil])?;
-    add_long_list(alloc, &mut store, Holder::True)?;
-    add_long_list(alloc, &mut store, Holder::True)?;
-    add_long_list(alloc, &mut store, one)?;
-    Ok(store)
-}
-
-/// Adds a list of 65,534 nils and this element.
-fn add_long_list(alloc: Global, store: &mut Store, last: Holder) -> Result<(), Fail> {
-    let mut items = [Holder::Nil].repeat(alloc, 65_534)?;
-    items.push(last)?;
-    let _list = add_list(alloc, store, &items)?;
-    Ok(())
-}
-
-/// With 65,536 turns: the lists, and 65,535 pairs.
-const LAST_TURN_ROWS: [Row; 3] = [
-    (LEFT, RIGHT, Ok(true), 65_536),
-    // And one pair more in a list in them, so that the last pair isn't looked at.
-    (LONGER, LONGER, LONG, 0),
-    (LEFT, LONGER, Ok(false), 65_536),
-];
-
-/// With one turn less.
-const TURN_LESS_ROWS: [Row; 1] = [(LEFT, RIGHT, LONG, 0)];
-
-/// With one turn more.
-const TURN_MORE_ROWS: [Row; 1] = [(LONGER, LONGER, Ok(true), 65_537)];
-
-#[test]
-fn the_last_turn_and_one_more(rt: HostRuntime) -> Result<(), Fail> {
-    let alloc = rt.alloc();
-    let pools = paged(alloc, 64, LAID_OUT)?;
-    let store = store_of_long_lists(alloc)?;
-    let last = first_unlike(alloc, 65_536, &store, &pools, &LAST_TURN_ROWS)?;
-    assert_eq!(rt; last, None);
-    let less = first_unlike(alloc, 65_535, &store, &pools, &TURN_LESS_ROWS)?;
-    assert_eq!(rt; less, None);
-    let more = first_unlike(alloc, 65_537, &store, &pools, &TURN_MORE_ROWS)?;
-    assert_eq!(rt; more, None);
+    assert_eq!(rt; first_unlike_object(rt.alloc(), &OBJECT_ROWS)?, None);
     Ok(())
 }

@@ -1,5 +1,5 @@
 //! What the tests stand on: constants in pages, and a store with an object of each kind.
-ghost use Rattle.std.specs.Prelude.{◌≡◌, ◌<◌, ◌≤◌, OnOk};
+ghost use Rattle.std.specs.Prelude.{◌<◌, ◌≤◌, OnOk};
 
 use std::alloc::{AllocError, Global};
 use std::test::Fail;
@@ -8,9 +8,9 @@ use t3_image_read::ImageReader;
 use t3_lists::Holders;
 use t3_ops::{Fault, OpRefusal};
 use t3_pools::Pools;
-use t3_store::{Kind, NewObject, Persistent, Store, StoreLimits};
-use t3_tadsobj::Props;
-use t3_undo::{Cell, Key, Numbers};
+use t3_store::{Kind, NewObject, Store, StoreLimits};
+use t3_test_stores::create_tads;
+use t3_undo::{Cell, Key};
 
 /// The constants of [`pools`]. The values below say what stands where.
 const CONSTANTS: [u8; 33] = [
@@ -122,19 +122,36 @@ fn page(alloc: Global, pool: u8, index: u32, bytes: &[u8]) -> Result<Vec<u8>, Al
     Ok(block)
 }
 
-/// Pools with these constants, in pages of so many bytes.
-pub(crate) fn paged(alloc: Global, size: u32, constants: &[u8]) -> Result<Pools, Fail> {
-    let mut blocks = Vec::new(alloc);
-    blocks.push(definition(alloc, 1, 1, 1)?)?;
-    blocks.push(page(alloc, 1, 0, b"\xF2")?)?;
+/// Adds the pages of these constants, and tells how many they are.
+fn add_pages(
+    alloc: Global,
+    size: u32,
+    constants: &[u8],
+    blocks: &mut Vec<Vec<u8>>,
+) -> Result<u32, AllocError> {
     let mut count = 0u32;
     for bytes in constants.chunks((size as usize).max(1)) {
         blocks.push(page(alloc, 2, count, bytes)?)?;
         count = count.wrapping_add(1);
     }
+    Ok(count)
+}
+
+/// The blocks of an image with these constants, in pages of so many bytes.
+fn blocks(alloc: Global, size: u32, constants: &[u8]) -> Result<Vec<Vec<u8>>, AllocError> {
+    let mut blocks = Vec::new(alloc);
+    blocks.push(definition(alloc, 1, 1, 1)?)?;
+    blocks.push(page(alloc, 1, 0, b"\xF2")?)?;
+    let count = add_pages(alloc, size, constants, &mut blocks)?;
     blocks.push(definition(alloc, 2, count, size)?)?;
+    Ok(blocks)
+}
+
+/// Pools with these constants, in pages of so many bytes.
+pub(crate) fn paged(alloc: Global, size: u32, constants: &[u8]) -> Result<Pools, Fail> {
+    let bytes = image(alloc, &blocks(alloc, size, constants)?)?;
     let mut reader = ImageReader::new(alloc);
-    reader.feed(&image(alloc, &blocks)?)?;
+    reader.feed(&bytes)?;
     Ok(Pools::build(alloc, &reader.finish()?)?)
 }
 
@@ -154,36 +171,23 @@ pub(crate) fn empty_store(alloc: Global, objects: u32, units: u32) -> Result<Sto
         records: 16,
         savepoints: 2,
     };
-    let first = Persistent::new(alloc);
-    let passing = Persistent::new(alloc);
-    Ok(Store::start(alloc, limits, first, passing, 1)?)
+    Ok(t3_test_stores::empty_store(alloc, limits)?)
 }
 
 /// A store with the objects above, and ample room.
 pub(crate) fn store(alloc: Global) -> Result<Store, Fail> {
     let mut store = empty_store(alloc, 1_000, 1_000_000)?;
-    add_tads(alloc, &mut store)?;
-    let _text = add_text(alloc, &mut store, b"cd")?;
-    let _list = add_list(alloc, &mut store, &[Holder::Int(3)])?;
-    let _vector = add_vector(alloc, &mut store, &[Holder::Int(4), Holder::Int(5)])?;
-    add_table(alloc, &mut store)?;
+    add_objects(alloc, &mut store)?;
     Ok(store)
 }
 
-/// No properties.
-fn no_props(alloc: Global) -> Props {
-    Props(Vec::new(alloc))
-}
-
-/// Adds a tads-object without a property.
-fn add_tads(alloc: Global, store: &mut Store) -> Result<(), Fail> {
-    let tads = NewObject::Tads {
-        supers: Numbers(Vec::new(alloc)),
-        class: false,
-        props: no_props(alloc),
-    };
-    let _tads = store.create(tads, false)?;
-    Ok(())
+/// Adds those objects.
+fn add_objects(alloc: Global, store: &mut Store) -> Result<(), Fail> {
+    let _tads = create_tads(alloc, store, false)?;
+    let _text = add_text(alloc, store, b"cd")?;
+    let _list = add_list(alloc, store, &[Holder::Int(3)])?;
+    let _vector = add_vector(alloc, store, &[Holder::Int(4), Holder::Int(5)])?;
+    add_table(alloc, store)
 }
 
 /// Adds the table with its two entries.

@@ -1,16 +1,16 @@
-//! Elements and entries by their index, lists with an element set, and vectors that grow.
+//! Elements and entries by their index, and lists with an element set.
 use crate::fixture::{
     BAD as WANT_BAD, BAD_LIST, BAD_TEXT, EMPTY_LIST, GONE, KIND as WANT_KIND, LIST, LIVE_LIST,
-    LIVE_TEXT, LONG_LIST, STALE, TABLE, TADS, TEXT, VECTOR, Want, add_list, add_text, add_vector,
-    empty_store, few_writes, is_wanted, pools, store,
+    LIVE_TEXT, LONG_LIST, STALE, TABLE, TADS, TEXT, VECTOR, Want, add_list, add_text, empty_store,
+    is_wanted, pools, store,
 };
 use std::alloc::Global;
+use std::process::Abort;
 use std::test::Fail;
 use t3_holder::Holder;
-use t3_ops::{Fault, OpRefusal, index, list_with_element, set_element, vector_index};
+use t3_ops::{Fault, OpRefusal, index, list_with_element, vector_index};
 use t3_pools::Pools;
 use t3_store::Store;
-use t3_undo::Cell;
 
 const ONE: Holder = Holder::Int(1);
 
@@ -79,12 +79,16 @@ fn first_unlike(
     Ok(None)
 }
 
-#[test]
-fn an_element_by_its_index(rt: HostRuntime) -> Result<(), Fail> {
-    let alloc = rt.alloc();
+/// The same of the fixture's containers.
+fn first_unlike_element(alloc: Global, rows: &[Row]) -> Result<Option<Row>, Fail> {
     let pools = pools(alloc)?;
     let store = store(alloc)?;
-    assert_eq!(rt; first_unlike(alloc, &store, &pools, &ROWS)?, None);
+    first_unlike(alloc, &store, &pools, rows)
+}
+
+#[test]
+fn an_element_by_its_index(rt: HostRuntime) -> Result<(), Fail> {
+    assert_eq!(rt; first_unlike_element(rt.alloc(), &ROWS)?, None);
     Ok(())
 }
 
@@ -124,17 +128,41 @@ fn first_unlike_at(
     Ok(None)
 }
 
-#[test]
-fn what_is_no_container_is_told_first(rt: HostRuntime) -> Result<(), Fail> {
-    let alloc = rt.alloc();
+/// The first of these indices with which something else is told of a row, and the row.
+fn first_unlike_other(
+    alloc: Global,
+    indices: &[Holder],
+    rows: &[OtherRow],
+) -> Result<Option<(Holder, OtherRow)>, Fail> {
     let pools = pools(alloc)?;
     let store = store(alloc)?;
-    // Before an index that is gone, and before one that can't be read.
-    for at in &[ONE, STALE, BAD_TEXT] {
-        let unlike = first_unlike_at(alloc, *at, &store, &pools, &OTHER_ROWS)?;
-        assert_eq!(rt; unlike, None, "{at:?}");
+    for at in indices {
+        if let Some(row) = first_unlike_at(alloc, *at, &store, &pools, rows)? {
+            return Ok(Some((*at, row)));
+        }
     }
+    Ok(None)
+}
+
+/// An index, one that is gone, and one that can't be read.
+const INDICES: [Holder; 3] = [ONE, STALE, BAD_TEXT];
+
+#[test]
+fn what_is_no_container_is_told_first(rt: HostRuntime) -> Result<(), Fail> {
+    let unlike = first_unlike_other(rt.alloc(), &INDICES, &OTHER_ROWS)?;
+    assert_eq!(rt; unlike, None);
     Ok(())
+}
+
+/// What is found in the fixture's table by a new text of these bytes.
+fn entry_of(
+    alloc: Global,
+    bytes: &[u8],
+    store: &mut Store,
+    pools: &Pools,
+) -> Result<Result<Holder, Fault>, Fail> {
+    let text = add_text(alloc, store, bytes)?;
+    Ok(index(alloc, TABLE, text, store, pools)?)
 }
 
 #[test]
@@ -142,8 +170,7 @@ fn an_equal_text_finds_the_entry(rt: HostRuntime) -> Result<(), Fail> {
     let alloc = rt.alloc();
     let pools = pools(alloc)?;
     let mut store = store(alloc)?;
-    let same = add_text(alloc, &mut store, b"ab")?;
-    let found = index(alloc, TABLE, same, &store, &pools)?;
+    let found = entry_of(alloc, b"ab", &mut store, &pools)?;
     assert_eq!(rt; found, Ok(Holder::True));
     Ok(())
 }
@@ -177,17 +204,20 @@ const SET_ROWS: [SetRow; 21] = [
     (STALE, Holder::Nil, GONE),
 ];
 
-/// The value and the index of the first row that isn't as wanted, each in a store of its own.
-fn first_unlike_set(
-    alloc: Global,
-    pools: &Pools,
-    rows: &[SetRow],
-) -> Result<Option<(Holder, Holder)>, Fail> {
-    for (list, at, want) in rows {
-        let mut store = store(alloc)?;
-        let answer = list_with_element(alloc, *list, *at, STALE, &mut store, pools);
-        if !is_wanted(*want, answer, &store) {
-            return Ok(Some((*list, *at)));
+/// Whether a row is as wanted, in a store of its own.
+fn is_set(alloc: Global, row: SetRow, pools: &Pools) -> Result<bool, Fail> {
+    let (list, at, want) = row;
+    let mut store = store(alloc)?;
+    let answer = list_with_element(alloc, list, at, STALE, &mut store, pools);
+    Ok(is_wanted(want, answer, &store))
+}
+
+/// The value and the index of the first row that isn't as wanted.
+fn first_unlike_set(alloc: Global, rows: &[SetRow]) -> Result<Option<(Holder, Holder)>, Fail> {
+    let pools = pools(alloc)?;
+    for row in rows {
+        if !is_set(alloc, *row, &pools)? {
+            return Ok(Some((row.0, row.1)));
         }
     }
     Ok(None)
@@ -195,18 +225,27 @@ fn first_unlike_set(
 
 #[test]
 fn a_list_with_an_element_set(rt: HostRuntime) -> Result<(), Fail> {
-    let alloc = rt.alloc();
-    let pools = pools(alloc)?;
-    assert_eq!(rt; first_unlike_set(alloc, &pools, &SET_ROWS)?, None);
+    assert_eq!(rt; first_unlike_set(rt.alloc(), &SET_ROWS)?, None);
     Ok(())
+}
+
+/// Adds a list of 65,535 nils.
+fn add_long_list(alloc: Global, store: &mut Store) -> Result<Holder, Fail> {
+    let items = [Holder::Nil].repeat(alloc, 65_535)?;
+    add_list(alloc, store, &items)
 }
 
 /// A store with room for two lists of 65,535 elements, and one of nils.
 fn store_of_long_list(alloc: Global) -> Result<Store, Fail> {
     let mut store = empty_store(alloc, 3, 131_070)?;
-    let items = [Holder::Nil].repeat(alloc, 65_535)?;
-    let _list = add_list(alloc, &mut store, &items)?;
+    let _list = add_long_list(alloc, &mut store)?;
     Ok(store)
+}
+
+/// What is told where the last element of that list is set to its number.
+fn set_last(alloc: Global, store: &mut Store, pools: &Pools) -> Result<Holder, OpRefusal> {
+    let last = Holder::Int(65_535);
+    list_with_element(alloc, Holder::Obj(1), last, last, store, pools)
 }
 
 /// The last elements of that list and of the next one.
@@ -215,20 +254,30 @@ const LAST_ROWS: [Row; 2] = [
     (Holder::Obj(1), Holder::Int(65_535), Ok(Holder::Nil)),
 ];
 
-#[test]
-fn a_list_of_65535_elements_has_one_set(rt: HostRuntime) -> Result<(), Fail> {
-    let alloc = rt.alloc();
+/// The last element is set, and the lists are as these rows say; then the store has no unit left.
+fn check_last(
+    rt: &impl Abort,
+    alloc: Global,
+    store: &mut Store,
+    pools: &Pools,
+    rows: &[Row],
+) -> Result<(), Fail> {
+    assert_eq!(rt; set_last(alloc, store, pools), Ok(Holder::Obj(2)));
+    assert_eq!(rt; first_unlike(alloc, store, pools, rows)?, None);
+    assert_eq!(rt; set_last(alloc, store, pools), Err(OpRefusal::Full));
+    Ok(())
+}
+
+/// The same of the long list in a store of its own.
+fn check_long_list(rt: &impl Abort, alloc: Global, rows: &[Row]) -> Result<(), Fail> {
     let pools = pools(alloc)?;
     let mut store = store_of_long_list(alloc)?;
-    let list = Holder::Obj(1);
-    let last = Holder::Int(65_535);
-    let made = list_with_element(alloc, list, last, last, &mut store, &pools);
-    assert_eq!(rt; made, Ok(Holder::Obj(2)));
-    assert_eq!(rt; first_unlike(alloc, &store, &pools, &LAST_ROWS)?, None);
-    // The store has no unit left.
-    let made = list_with_element(alloc, list, last, last, &mut store, &pools);
-    assert_eq!(rt; made, Err(OpRefusal::Full));
-    Ok(())
+    check_last(rt, alloc, &mut store, &pools, rows)
+}
+
+#[test]
+fn a_list_of_65535_elements_has_one_set(rt: HostRuntime) -> Result<(), Fail> {
+    check_long_list(&rt, rt.alloc(), &LAST_ROWS)
 }
 
 /// An index, and the number of the element of a vector there.
@@ -259,117 +308,4 @@ fn first_unlike_number(rows: &[NumberRow]) -> Option<NumberRow> {
 #[test]
 fn the_number_of_an_element_of_a_vector(rt: HostRuntime) {
     assert_eq!(rt; first_unlike_number(&NUMBER_ROWS), None);
-}
-
-/// Sets an element of a vector, and answers whether there was room for all writes.
-fn set(store: &mut Store, vector: Holder, at: i32, value: Holder) -> Result<bool, Fail> {
-    let Holder::Obj(number) = vector else {
-        return Err(Fail::from("an object"));
-    };
-    let Some(length) = store.length(number) else {
-        return Err(Fail::from("a vector"));
-    };
-    let at = vector_index(Holder::Int(at))?;
-    few_writes(store)?;
-    Ok(set_element(store, number, length, at, value)?)
-}
-
-/// The first elements of a vector, as many as it has up to five.
-type Elements = [Option<Holder>; 5];
-
-fn elements(store: &Store, vector: Holder) -> Elements {
-    let Holder::Obj(number) = vector else {
-        return [None; 5];
-    };
-    [
-        store.get(number, &Cell::Elem(1)),
-        store.get(number, &Cell::Elem(2)),
-        store.get(number, &Cell::Elem(3)),
-        store.get(number, &Cell::Elem(4)),
-        store.get(number, &Cell::Elem(5)),
-    ]
-}
-
-/// An index, whether true can be set there, and the elements then.
-type GrowthRow = (i32, bool, Elements);
-
-/// Whether true is set in a vector as a row says.
-fn grows(store: &mut Store, vector: Holder, row: GrowthRow) -> Result<bool, Fail> {
-    let (at, has_room, want) = row;
-    let is_set = set(store, vector, at, Holder::True)?;
-    Ok(is_set == has_room && elements(store, vector) == want)
-}
-
-const NIL: Option<Holder> = Some(Holder::Nil);
-
-const TRUE: Option<Holder> = Some(Holder::True);
-
-const FOUR: Option<Holder> = Some(Holder::Int(4));
-
-const FIVE: Option<Holder> = Some(Holder::Int(5));
-
-/// Of the fixture's vector.
-const VECTOR_ROWS: [GrowthRow; 4] = [
-    (1, true, [TRUE, FIVE, None, None, None]),
-    (2, true, [FOUR, TRUE, None, None, None]),
-    (3, true, [FOUR, FIVE, TRUE, None, None]),
-    (5, true, [FOUR, FIVE, NIL, NIL, TRUE]),
-];
-
-/// The first row that isn't so, each of a new vector.
-fn first_unlike_vector(alloc: Global, rows: &[GrowthRow]) -> Result<Option<GrowthRow>, Fail> {
-    for row in rows {
-        let mut store = store(alloc)?;
-        if !grows(&mut store, VECTOR, *row)? {
-            return Ok(Some(*row));
-        }
-    }
-    Ok(None)
-}
-
-#[test]
-fn an_element_of_a_vector_is_set(rt: HostRuntime) -> Result<(), Fail> {
-    assert_eq!(rt; first_unlike_vector(rt.alloc(), &VECTOR_ROWS)?, None);
-    Ok(())
-}
-
-/// Of a vector of 1 in a store with room for four elements, one after the other.
-const ROOM_ROWS: [GrowthRow; 2] = [
-    (5, false, [Some(ONE), NIL, NIL, NIL, None]),
-    (4, true, [Some(ONE), NIL, NIL, TRUE, None]),
-];
-
-/// The first row that isn't so, all of one vector.
-fn first_unlike_growth(
-    store: &mut Store,
-    vector: Holder,
-    rows: &[GrowthRow],
-) -> Result<Option<GrowthRow>, Fail> {
-    for row in rows {
-        if !grows(store, vector, *row)? {
-            return Ok(Some(*row));
-        }
-    }
-    Ok(None)
-}
-
-#[test]
-fn a_vector_grows_as_far_as_there_is_room(rt: HostRuntime) -> Result<(), Fail> {
-    let alloc = rt.alloc();
-    let mut store = empty_store(alloc, 1, 4)?;
-    let vector = add_vector(alloc, &mut store, &[ONE])?;
-    assert_eq!(rt; first_unlike_growth(&mut store, vector, &ROOM_ROWS)?, None);
-    Ok(())
-}
-
-#[test]
-fn a_vector_grows_to_65535_elements(rt: HostRuntime) -> Result<(), Fail> {
-    let alloc = rt.alloc();
-    let mut store = empty_store(alloc, 1, 65_535)?;
-    let vector = add_vector(alloc, &mut store, &[])?;
-    assert!(rt; set(&mut store, vector, 65_535, Holder::True)?);
-    assert_eq!(rt; store.length(1), Some(65_535));
-    assert_eq!(rt; store.get(1, &Cell::Elem(65_534)), Some(Holder::Nil));
-    assert_eq!(rt; store.get(1, &Cell::Elem(65_535)), Some(Holder::True));
-    Ok(())
 }

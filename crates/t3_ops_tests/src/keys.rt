@@ -47,19 +47,29 @@ fn has_key(
 }
 
 /// The first value that has another key.
-fn first_unlike(
-    alloc: Global,
-    store: &Store,
-    pools: &Pools,
-    rows: &[Row],
-) -> Result<Option<Holder>, Fail> {
+fn first_unlike(alloc: Global, rows: &[Row]) -> Result<Option<Holder>, Fail> {
+    let pools = pools(alloc)?;
+    let store = store(alloc)?;
     for (value, want) in rows {
-        if !has_key(alloc, *value, want, store, pools)? {
+        if !has_key(alloc, *value, want, &store, &pools)? {
             return Ok(Some(*value));
         }
     }
     Ok(None)
 }
+
+#[test]
+fn a_key_of_each_kind(rt: HostRuntime) -> Result<(), Fail> {
+    // The rows are let go of before there is a way out.
+    let unlike = first_unlike(rt.alloc(), &ROWS);
+    assert_eq!(rt; unlike?, None);
+    Ok(())
+}
+
+/// A text, and the bytes that its key has.
+type TextRow = (Holder, &'static [u8]);
+
+const TEXT_ROWS: [TextRow; 2] = [(TEXT, b"ab"), (LIVE_TEXT, b"cd")];
 
 /// Whether the key of a value is the text of these bytes.
 fn has_text_key(
@@ -73,13 +83,20 @@ fn has_text_key(
     has_key(alloc, value, &want, store, pools)
 }
 
-#[test]
-fn a_key_of_each_kind(rt: HostRuntime) -> Result<(), Fail> {
-    let alloc = rt.alloc();
+/// The first text that has another key.
+fn first_unlike_text(alloc: Global, rows: &[TextRow]) -> Result<Option<Holder>, Fail> {
     let pools = pools(alloc)?;
     let store = store(alloc)?;
-    assert_eq!(rt; first_unlike(alloc, &store, &pools, &ROWS)?, None);
-    assert!(rt; has_text_key(alloc, TEXT, &store, &pools, b"ab")?);
-    assert!(rt; has_text_key(alloc, LIVE_TEXT, &store, &pools, b"cd")?);
+    for (value, bytes) in rows {
+        if !has_text_key(alloc, *value, &store, &pools, bytes)? {
+            return Ok(Some(*value));
+        }
+    }
+    Ok(None)
+}
+
+#[test]
+fn a_key_of_a_text(rt: HostRuntime) -> Result<(), Fail> {
+    assert_eq!(rt; first_unlike_text(rt.alloc(), &TEXT_ROWS)?, None);
     Ok(())
 }

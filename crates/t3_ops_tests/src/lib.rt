@@ -13,9 +13,15 @@ mod equality;
 #[cfg(test)]
 mod fixture;
 #[cfg(test)]
+mod full_stores;
+#[cfg(test)]
+mod growth;
+#[cfg(test)]
 mod indexing;
 #[cfg(test)]
 mod keys;
+#[cfg(test)]
+mod long_sums;
 #[cfg(test)]
 mod made_strings;
 #[cfg(test)]
@@ -26,3 +32,5 @@ mod ordering;
 mod random_pairs;
 #[cfg(test)]
 mod sums;
+#[cfg(test)]
+mod turns;

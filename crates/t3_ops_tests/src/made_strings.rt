@@ -41,9 +41,7 @@ const CHARACTER_ROWS: [Row; 12] = [
 
 #[test]
 fn strings_of_characters(rt: HostRuntime) -> Result<(), Fail> {
-    let alloc = rt.alloc();
-    let pools = pools(alloc)?;
-    assert_eq!(rt; first_unlike(alloc, &pools, &CHARACTER_ROWS)?, None);
+    assert_eq!(rt; first_unlike(rt.alloc(), &CHARACTER_ROWS)?, None);
     Ok(())
 }
 
@@ -97,9 +95,7 @@ const COPY_ROWS: [Row; 26] = [
 
 #[test]
 fn strings_of_copies(rt: HostRuntime) -> Result<(), Fail> {
-    let alloc = rt.alloc();
-    let pools = pools(alloc)?;
-    assert_eq!(rt; first_unlike(alloc, &pools, &COPY_ROWS)?, None);
+    assert_eq!(rt; first_unlike(rt.alloc(), &COPY_ROWS)?, None);
     Ok(())
 }
 
@@ -126,18 +122,25 @@ fn length_made(
     Ok((made, store.text(number).map_or(0, |bytes| bytes.len())))
 }
 
-/// The first row whose string has other bytes, or can't be made a string again.
-fn first_unlike_long(
+/// Whether a row's string has its bytes, and can be made a string again.
+fn is_made_long(
     alloc: Global,
+    row: LongRow,
     store: &mut Store,
     pools: &Pools,
-    rows: &[LongRow],
-) -> Result<Option<LongRow>, Fail> {
+) -> Result<bool, Fail> {
+    let (value, count, size) = row;
+    let (made, length) = length_made(alloc, &[value, Holder::Int(count)], store, pools)?;
+    let again = call(alloc, TO_STRING, &[made], store, pools)?;
+    Ok(length == size && again.is_ok())
+}
+
+/// The first row that isn't so, all in one store.
+fn first_unlike_long(alloc: Global, rows: &[LongRow]) -> Result<Option<LongRow>, Fail> {
+    let pools = pools(alloc)?;
+    let mut store = empty_store(alloc, 10, 100_000)?;
     for row in rows {
-        let (value, count, size) = *row;
-        let (made, length) = length_made(alloc, &[value, Holder::Int(count)], store, pools)?;
-        let again = call(alloc, TO_STRING, &[made], store, pools)?;
-        if length != size || again.is_err() {
+        if !is_made_long(alloc, *row, &mut store, &pools)? {
             return Ok(Some(*row));
         }
     }
@@ -146,11 +149,7 @@ fn first_unlike_long(
 
 #[test]
 fn strings_have_65535_bytes(rt: HostRuntime) -> Result<(), Fail> {
-    let alloc = rt.alloc();
-    let pools = pools(alloc)?;
-    let mut store = empty_store(alloc, 10, 100_000)?;
-    let unlike = first_unlike_long(alloc, &mut store, &pools, &LONG_ROWS)?;
-    assert_eq!(rt; unlike, None);
+    assert_eq!(rt; first_unlike_long(rt.alloc(), &LONG_ROWS)?, None);
     Ok(())
 }
 
@@ -179,17 +178,25 @@ const FULL_ROWS: [FullRow; 8] = [
     ),
 ];
 
-/// The first call that answers something else, or after which there is an object.
-fn first_unlike_full(
+/// Whether a call answers what its row says, and makes no object.
+fn makes_nothing(
     alloc: Global,
+    row: FullRow,
     store: &mut Store,
     pools: &Pools,
-    rows: &[FullRow],
-) -> Result<Option<Call>, Fail> {
-    for (of, want) in rows {
-        let answer = call(alloc, of.0, of.1, store, pools)?;
-        if answer != *want || store.next() != 1 {
-            return Ok(Some(*of));
+) -> Result<bool, Fail> {
+    let (of, want) = row;
+    let answer = call(alloc, of.0, of.1, store, pools)?;
+    Ok(answer == want && store.next() == 1)
+}
+
+/// The first call that isn't so, in a store without room.
+fn first_unlike_full(alloc: Global, rows: &[FullRow]) -> Result<Option<Call>, Fail> {
+    let pools = pools(alloc)?;
+    let mut store = empty_store(alloc, 0, 0)?;
+    for row in rows {
+        if !makes_nothing(alloc, *row, &mut store, &pools)? {
+            return Ok(Some(row.0));
         }
     }
     Ok(None)
@@ -197,10 +204,6 @@ fn first_unlike_full(
 
 #[test]
 fn a_full_store_takes_no_string(rt: HostRuntime) -> Result<(), Fail> {
-    let alloc = rt.alloc();
-    let pools = pools(alloc)?;
-    let mut store = empty_store(alloc, 0, 0)?;
-    let unlike = first_unlike_full(alloc, &mut store, &pools, &FULL_ROWS)?;
-    assert_eq!(rt; unlike, None);
+    assert_eq!(rt; first_unlike_full(rt.alloc(), &FULL_ROWS)?, None);
     Ok(())
 }

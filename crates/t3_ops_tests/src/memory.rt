@@ -71,9 +71,10 @@ fn is_made_again(alloc: Global, which: u8, want: Want, pools: &Pools) -> Result<
 }
 
 /// The first operation that isn't made so.
-fn first_unlike(alloc: Global, pools: &Pools, rows: &[Row]) -> Result<Option<u8>, Fail> {
+fn first_unlike(alloc: Global, rows: &[Row]) -> Result<Option<u8>, Fail> {
+    let pools = pools(alloc)?;
     for (which, want) in rows {
-        if !is_made_again(alloc, *which, *want, pools)? {
+        if !is_made_again(alloc, *which, *want, &pools)? {
             return Ok(Some(*which));
         }
     }
@@ -82,18 +83,35 @@ fn first_unlike(alloc: Global, pools: &Pools, rows: &[Row]) -> Result<Option<u8>
 
 #[test]
 fn an_operation_is_made_again(rt: HostRuntime) -> Result<(), Fail> {
-    let alloc = rt.alloc();
-    let pools = pools(alloc)?;
-    assert_eq!(rt; first_unlike(alloc, &pools, &ROWS)?, None);
+    assert_eq!(rt; first_unlike(rt.alloc(), &ROWS)?, None);
     Ok(())
+}
+
+/// Whether a string is made of a text.
+fn makes_string(alloc: Global, store: &Store, pools: &Pools) -> Result<bool, NoMemory> {
+    Ok(new_string(alloc, &[TEXT], store, pools)?.is_ok())
+}
+
+/// Whether a vector is made of a list.
+fn makes_vector(alloc: Global, store: &Store, pools: &Pools) -> Result<bool, NoMemory> {
+    Ok(new_vector(alloc, &[Holder::Int(0), LIST], store, pools)?.is_ok())
 }
 
 /// What is looked up of the fixture's table by a text, and made of the fixture's values.
 fn look(alloc: Global, store: &Store, pools: &Pools) -> Result<bool, NoMemory> {
     let found = index(alloc, TABLE, TEXT, store, pools)?;
-    let string = new_string(alloc, &[TEXT], store, pools)?;
-    let vector = new_vector(alloc, &[Holder::Int(0), LIST], store, pools)?;
-    Ok(found == Ok(Holder::True) && string.is_ok() && vector.is_ok())
+    let has_string = makes_string(alloc, store, pools)?;
+    let has_vector = makes_vector(alloc, store, pools)?;
+    Ok(found == Ok(Holder::True) && has_string && has_vector)
+}
+
+/// The same, and once more where memory was wanting.
+fn look_again(alloc: Global, store: &Store, pools: &Pools) -> Result<bool, NoMemory> {
+    let looked = look(alloc, store, pools);
+    if looked.is_err() {
+        return look(alloc, store, pools);
+    }
+    looked
 }
 
 #[test]
@@ -101,10 +119,6 @@ fn a_look_is_made_again(rt: HostRuntime) -> Result<(), Fail> {
     let alloc = rt.alloc();
     let pools = pools(alloc)?;
     let store = store(alloc)?;
-    let mut looked = look(alloc, &store, &pools);
-    if looked.is_err() {
-        looked = look(alloc, &store, &pools);
-    }
-    assert!(rt; looked?);
+    assert!(rt; look_again(alloc, &store, &pools)?);
     Ok(())
 }

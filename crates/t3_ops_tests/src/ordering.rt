@@ -106,28 +106,43 @@ fn first_unlike(store: &Store, pools: &Pools, rows: &[Row]) -> Option<Row> {
     None
 }
 
-/// The same with the constants on pages of each size.
+/// The constants on pages of so many bytes.
+fn laid_out(alloc: Global, size: u32) -> Result<Pools, Fail> {
+    paged(alloc, size, LAID_OUT)
+}
+
+/// The same with the constants on such pages.
+fn first_unlike_on(
+    alloc: Global,
+    size: u32,
+    store: &Store,
+    rows: &[Row],
+) -> Result<Option<Row>, Fail> {
+    let pools = laid_out(alloc, size)?;
+    Ok(first_unlike(store, &pools, rows))
+}
+
+/// The same on pages of each size.
 fn first_unlike_on_pages(
     alloc: Global,
     sizes: &[u32],
-    store: &Store,
     rows: &[Row],
 ) -> Result<Option<(u32, Row)>, Fail> {
+    let store = store_of_two(alloc)?;
     for size in sizes {
-        let pools = paged(alloc, *size, LAID_OUT)?;
-        if let Some(row) = first_unlike(store, &pools, rows) {
+        if let Some(row) = first_unlike_on(alloc, *size, &store, rows)? {
             return Ok(Some((*size, row)));
         }
     }
     Ok(None)
 }
 
+const PAGE_SIZES: [u32; 4] = [1, 2, 5, 0x7FFF_FFFF];
+
 #[test]
 fn integers_and_texts_are_in_order(rt: HostRuntime) -> Result<(), Fail> {
-    let alloc = rt.alloc();
-    let store = store_of_two(alloc)?;
-    let sizes = [1, 2, 5, 0x7FFF_FFFF];
-    assert_eq!(rt; first_unlike_on_pages(alloc, &sizes, &store, &ROWS)?, None);
+    let unlike = first_unlike_on_pages(rt.alloc(), &PAGE_SIZES, &ROWS)?;
+    assert_eq!(rt; unlike, None);
     Ok(())
 }
 
@@ -142,14 +157,15 @@ const FAULT_ROWS: [FaultRow; 4] = [
 ];
 
 /// The first row of whose values another fault is told.
-fn first_unlike_fault(store: &Store, rows: &[FaultRow]) -> Option<FaultRow> {
+fn first_unlike_fault(alloc: Global, rows: &[FaultRow]) -> Result<Option<FaultRow>, Fail> {
+    let store = store(alloc)?;
     for row in rows {
         let (values, want) = *row;
-        if kind_fault(store, values) != want {
-            return Some(*row);
+        if kind_fault(&store, values) != want {
+            return Ok(Some(*row));
         }
     }
-    None
+    Ok(None)
 }
 
 /// Two values, and whether they are the same holder. Two texts of the same bytes are two holders, and so are
@@ -176,8 +192,7 @@ fn first_unlike_same(rows: &[SameRow]) -> Option<SameRow> {
 
 #[test]
 fn a_stale_reference_is_told_before_a_kind(rt: HostRuntime) -> Result<(), Fail> {
-    let store = store(rt.alloc())?;
-    assert_eq!(rt; first_unlike_fault(&store, &FAULT_ROWS), None);
+    assert_eq!(rt; first_unlike_fault(rt.alloc(), &FAULT_ROWS)?, None);
     assert_eq!(rt; first_unlike_same(&SAME_ROWS), None);
     Ok(())
 }

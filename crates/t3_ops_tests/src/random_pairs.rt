@@ -79,19 +79,28 @@ fn holder_bytes(value: Holder) -> [u8; 5] {
     [tag, a, b, c, d]
 }
 
+/// Adds a text, with its length.
+fn push_text(bytes: &mut Vec<u8>, text: &[u8]) -> Result<(), AllocError> {
+    bytes.extend_from_slice(&length_bytes(text.len()))?;
+    bytes.extend_from_slice(text)
+}
+
+/// Adds a list, with its count.
+fn push_list(bytes: &mut Vec<u8>, values: &[Holder]) -> Result<(), AllocError> {
+    bytes.extend_from_slice(&length_bytes(values.len()))?;
+    for value in values {
+        bytes.extend_from_slice(&holder_bytes(*value))?;
+    }
+    Ok(())
+}
+
 /// A constant in its slot: a list, or a text.
 fn slot(alloc: Global, dice: &mut Dice) -> Result<Vec<u8>, AllocError> {
     let mut bytes = Vec::new(alloc);
     if dice.roll(2) == 0 {
-        let text = dice.text(alloc)?;
-        bytes.extend_from_slice(&length_bytes(text.len()))?;
-        bytes.extend_from_slice(&text)?;
+        push_text(&mut bytes, &dice.text(alloc)?)?;
     } else {
-        let values = dice.values(alloc)?;
-        bytes.extend_from_slice(&length_bytes(values.len()))?;
-        for value in &values {
-            bytes.extend_from_slice(&holder_bytes(*value))?;
-        }
+        push_list(&mut bytes, &dice.values(alloc)?)?;
     }
     bytes.resize(SLOT as usize, 0)?;
     Ok(bytes)
@@ -150,30 +159,52 @@ fn contents(
     }
 }
 
-/// What is told of one pair: that it is the same so far, or not, or a fault. The pairs of two lists are put
-/// in front of the others, which stand last to first.
+/// Puts the pairs of two lists in front of the others, which stand last to first.
+fn push_pairs(
+    pairs: &mut Vec<(Holder, Holder)>,
+    left: &[Holder],
+    right: &[Holder],
+) -> Result<(), AllocError> {
+    for index in (0..left.len()).rev() {
+        if let (Some(x), Some(y)) = (left.get(index), right.get(index)) {
+            pairs.push((*x, *y))?;
+        }
+    }
+    Ok(())
+}
+
+/// What is told of one pair: that it is the same so far, or not, or a fault. Pairs of lists follow.
 fn tell_pair(
     pairs: &mut Vec<(Holder, Holder)>,
     same: bool,
-    left: ValueContents,
-    right: ValueContents,
+    left: &ValueContents,
+    right: &ValueContents,
 ) -> Result<Result<bool, Fault>, AllocError> {
     match (left, right) {
         (ValueContents::Text(Some(left)), ValueContents::Text(Some(right))) => {
             Ok(Ok(left.as_slice() == right.as_slice()))
         }
         (ValueContents::List(Some(left)), ValueContents::List(Some(right))) => {
-            for index in (0..left.len()).rev() {
-                if let (Some(x), Some(y)) = (left.get(index), right.get(index)) {
-                    pairs.push((*x, *y))?;
-                }
-            }
+            push_pairs(pairs, left, right)?;
             Ok(Ok(left.len() == right.len()))
         }
         (ValueContents::Text(_), ValueContents::Text(_))
         | (ValueContents::List(_), ValueContents::List(_)) => { Ok(Err(Fault::BadConstant)) }
         _ => Ok(Ok(same)),
     }
+}
+
+/// The same of two values.
+fn tell_values(
+    alloc: Global,
+    pair: (Holder, Holder),
+    pairs: &mut Vec<(Holder, Holder)>,
+    store: &Store,
+    pools: &Pools,
+) -> Result<Result<bool, Fault>, Fail> {
+    let left = contents(alloc, pair.0, store, pools)?;
+    let right = contents(alloc, pair.1, store, pools)?;
+    Ok(tell_pair(pairs, pair.0 == pair.1, &left, &right)?)
 }
 
 /// What is told of two values with some turns, and those that are left; by all pairs in a list.
@@ -188,12 +219,10 @@ fn told_plainly(
     let mut pairs = Vec::new(alloc);
     pairs.push((left, right))?;
     for taken in 1..=turns {
-        let Some((x, y)) = pairs.pop() else {
+        let Some(pair) = pairs.pop() else {
             return Ok((Ok(true), turns.wrapping_sub(taken).wrapping_add(1)));
         };
-        let left = contents(alloc, x, store, pools)?;
-        let right = contents(alloc, y, store, pools)?;
-        match tell_pair(&mut pairs, x == y, left, right)? {
+        match tell_values(alloc, pair, &mut pairs, store, pools)? {
             Ok(true) => {}
             Ok(false) => return Ok((Ok(false), turns.wrapping_sub(taken))),
             Err(fault) => return Ok((Err(fault), 0)),
@@ -213,6 +242,12 @@ fn slots(alloc: Global, dice: &mut Dice) -> Result<Vec<u8>, AllocError> {
         bytes.extend_from_slice(&slot(alloc, dice)?)?;
     }
     Ok(bytes)
+}
+
+/// The constants of a world, on pages of up to 40 bytes.
+fn constants(alloc: Global, dice: &mut Dice) -> Result<Pools, Fail> {
+    let bytes = slots(alloc, dice)?;
+    paged(alloc, dice.roll(40).wrapping_add(1), &bytes)
 }
 
 /// The objects of a world.
@@ -277,8 +312,7 @@ fn first_unlike_in_world(
     dice: &mut Dice,
     equals: &mut u32,
 ) -> Result<Option<Pair>, Fail> {
-    let bytes = slots(alloc, dice)?;
-    let pools = paged(alloc, dice.roll(40).wrapping_add(1), &bytes)?;
+    let pools = constants(alloc, dice)?;
     let store = objects(alloc, dice)?;
     first_unlike(alloc, dice, &store, &pools, equals)
 }

@@ -1,15 +1,14 @@
-//! Sums of each pair of kinds, and at the greatest lengths.
+//! Sums of each pair of kinds.
 use crate::fixture::{
     BAD, BAD_LIST, BAD_TEXT, EMPTY_LIST, EMPTY_TEXT, GONE, KIND, LIST, LIVE_LIST, LIVE_TEXT,
-    LONG_LIST, LONG_TEXT, STALE, TABLE, TADS, TEXT, VALUES, VECTOR, Want, WantRow, add_list,
-    add_text, empty_store, is_wanted, paged, pools, store, want_with,
+    LONG_LIST, LONG_TEXT, STALE, TABLE, TADS, TEXT, VALUES, VECTOR, Want, WantRow, is_wanted,
+    paged, pools, store, want_with,
 };
 use std::alloc::Global;
 use std::test::Fail;
 use t3_holder::Holder;
-use t3_ops::{Fault, OpRefusal, sum};
+use t3_ops::{Fault, sum};
 use t3_pools::Pools;
-use t3_store::Store;
 
 const NIL: Holder = Holder::Nil;
 
@@ -53,13 +52,10 @@ fn wrong_sum(
 type LeftRow = (Holder, &'static [WantRow], Want);
 
 /// The first row, and the first of the fixture's values, whose sum isn't what is wanted.
-fn wrong_sum_of(
-    alloc: Global,
-    pools: &Pools,
-    rows: &[LeftRow],
-) -> Result<Option<(Holder, Holder)>, Fail> {
+fn wrong_sum_of(alloc: Global, rows: &[LeftRow]) -> Result<Option<(Holder, Holder)>, Fail> {
+    let pools = pools(alloc)?;
     for (left, wants, others) in rows {
-        if let Some(right) = wrong_sum(alloc, pools, *left, wants, *others)? {
+        if let Some(right) = wrong_sum(alloc, &pools, *left, wants, *others)? {
             return Ok(Some((*left, right)));
         }
     }
@@ -108,9 +104,7 @@ const TEXT_ROWS: [LeftRow; 4] = [
 
 #[test]
 fn a_value_is_added_to_a_text(rt: HostRuntime) -> Result<(), Fail> {
-    let alloc = rt.alloc();
-    let pools = pools(alloc)?;
-    assert_eq!(rt; wrong_sum_of(alloc, &pools, &TEXT_ROWS)?, None);
+    assert_eq!(rt; wrong_sum_of(rt.alloc(), &TEXT_ROWS)?, None);
     Ok(())
 }
 
@@ -170,9 +164,7 @@ const LIST_ROWS: [LeftRow; 4] = [
 
 #[test]
 fn a_value_is_added_to_a_list(rt: HostRuntime) -> Result<(), Fail> {
-    let alloc = rt.alloc();
-    let pools = pools(alloc)?;
-    assert_eq!(rt; wrong_sum_of(alloc, &pools, &LIST_ROWS)?, None);
+    assert_eq!(rt; wrong_sum_of(rt.alloc(), &LIST_ROWS)?, None);
     Ok(())
 }
 
@@ -196,9 +188,7 @@ const OTHER_ROWS: [LeftRow; 12] = [
 
 #[test]
 fn a_value_is_added_to_any_other(rt: HostRuntime) -> Result<(), Fail> {
-    let alloc = rt.alloc();
-    let pools = pools(alloc)?;
-    assert_eq!(rt; wrong_sum_of(alloc, &pools, &OTHER_ROWS)?, None);
+    assert_eq!(rt; wrong_sum_of(rt.alloc(), &OTHER_ROWS)?, None);
     Ok(())
 }
 
@@ -238,94 +228,15 @@ fn first_unlike(
     Ok(None)
 }
 
-#[test]
-fn sums_at_their_ends(rt: HostRuntime) -> Result<(), Fail> {
-    let alloc = rt.alloc();
+/// The same with the fixture's constants.
+fn first_unlike_end(alloc: Global, rows: &[Row]) -> Result<Option<(Holder, Holder)>, Fail> {
     let pools = pools(alloc)?;
-    assert_eq!(rt; first_unlike(alloc, &pools, &END_ROWS)?, None);
-    Ok(())
-}
-
-/// How a sum ended: how long the new string or list is, or why there is none.
-fn length_of_sum(
-    alloc: Global,
-    left: Holder,
-    right: Holder,
-    store: &mut Store,
-    pools: &Pools,
-) -> Result<usize, OpRefusal> {
-    match sum(alloc, left, right, store, pools)? {
-        Holder::Obj(number) => match store.text(number) {
-            Some(bytes) => Ok(bytes.len()),
-            None => Ok(store.items(number).map_or(0, |items| items.len())),
-        },
-        _ => Ok(0),
-    }
-}
-
-/// The string of 65,534 bytes of [`store_of_long`].
-const LONG_BYTES: Holder = Holder::Obj(1);
-
-/// Its list of 65,533 elements.
-const LONG_ITEMS: Holder = Holder::Obj(2);
-
-/// The list of 65,534 elements that a row of [`LONG_ROWS`] makes.
-const FULL_ITEMS: Holder = Holder::Obj(6);
-
-const TEXT_LONG: Result<usize, OpRefusal> = Err(OpRefusal::Fault(Fault::TextLong));
-
-const LIST_LONG: Result<usize, OpRefusal> = Err(OpRefusal::Fault(Fault::ListLong));
-
-/// Two values, and the length of their sum.
-type LongRow = (Holder, Holder, Result<usize, OpRefusal>);
-
-/// 65,534 bytes and one more, and two more; 65,533 elements and two more, and more.
-const LONG_ROWS: [LongRow; 10] = [
-    (LONG_BYTES, ONE, Ok(65_535)),
-    (LONG_BYTES, TEXT, TEXT_LONG),
-    (TEXT, LONG_BYTES, TEXT_LONG),
-    (LONG_BYTES, LONG_BYTES, TEXT_LONG),
-    (LONG_ITEMS, LIST, Ok(65_535)),
-    (LIST, LONG_ITEMS, Ok(65_535)),
-    (LONG_ITEMS, NIL, Ok(65_534)),
-    (LONG_ITEMS, LONG_ITEMS, LIST_LONG),
-    (FULL_ITEMS, ONE, Ok(65_535)),
-    (FULL_ITEMS, LIST, LIST_LONG),
-];
-
-/// A store with a string and a list that have nearly no room.
-fn store_of_long(alloc: Global) -> Result<Store, Fail> {
-    let mut store = empty_store(alloc, 1_000, 4_000_000)?;
-    let bytes = b"x".repeat(alloc, 65_534)?;
-    let _text = add_text(alloc, &mut store, &bytes)?;
-    let items = [ONE].repeat(alloc, 65_533)?;
-    let _list = add_list(alloc, &mut store, &items)?;
-    Ok(store)
-}
-
-/// The first row whose sum has another length, one after the other in one store.
-fn first_unlike_long(
-    alloc: Global,
-    store: &mut Store,
-    pools: &Pools,
-    rows: &[LongRow],
-) -> Option<LongRow> {
-    for row in rows {
-        let (left, right, want) = *row;
-        if length_of_sum(alloc, left, right, store, pools) != want {
-            return Some(*row);
-        }
-    }
-    None
+    first_unlike(alloc, &pools, rows)
 }
 
 #[test]
-fn sums_have_65535_bytes_or_elements(rt: HostRuntime) -> Result<(), Fail> {
-    let alloc = rt.alloc();
-    let pools = pools(alloc)?;
-    let mut store = store_of_long(alloc)?;
-    let unlike = first_unlike_long(alloc, &mut store, &pools, &LONG_ROWS);
-    assert_eq!(rt; unlike, None);
+fn sums_at_their_ends(rt: HostRuntime) -> Result<(), Fail> {
+    assert_eq!(rt; first_unlike_end(rt.alloc(), &END_ROWS)?, None);
     Ok(())
 }
 
@@ -343,56 +254,14 @@ const PAGED_ROWS: [Row; 4] = [
     ((LIVE_LIST, PAGED_LIST), Want::List(&[THREE, ONE, TWO])),
 ];
 
+/// The first two values whose sum isn't what is wanted with those constants.
+fn first_unlike_paged(alloc: Global, rows: &[Row]) -> Result<Option<(Holder, Holder)>, Fail> {
+    let pools = paged(alloc, 3, PAGED)?;
+    first_unlike(alloc, &pools, rows)
+}
+
 #[test]
 fn constants_stand_across_pages(rt: HostRuntime) -> Result<(), Fail> {
-    let alloc = rt.alloc();
-    let pools = paged(alloc, 3, PAGED)?;
-    assert_eq!(rt; first_unlike(alloc, &pools, &PAGED_ROWS)?, None);
-    Ok(())
-}
-
-/// Two values, and their sum.
-type SumRow = (Holder, Holder, Result<Holder, OpRefusal>);
-
-const FULL: Result<Holder, OpRefusal> = Err(OpRefusal::Full);
-
-/// In a store with room for two objects, but for one unit alone: `abab` counts one, a list of three elements
-/// three.
-const FULL_ROWS: [SumRow; 7] = [
-    (LIST, NIL, FULL),
-    (TEXT, TEXT, Ok(Holder::Obj(1))),
-    // Room for a second one without a unit, and then for none.
-    (TEXT, TEXT, FULL),
-    (EMPTY_TEXT, NIL, Ok(Holder::Obj(2))),
-    (EMPTY_TEXT, NIL, FULL),
-    // A sum of integers makes nothing, and a fault comes before it.
-    (ONE, TWO, Ok(THREE)),
-    (TEXT, BAD_TEXT, Err(OpRefusal::Fault(Fault::BadConstant))),
-];
-
-/// The first row that has another sum, one after the other in one store.
-fn first_unlike_sum(
-    alloc: Global,
-    store: &mut Store,
-    pools: &Pools,
-    rows: &[SumRow],
-) -> Option<SumRow> {
-    for row in rows {
-        let (left, right, want) = *row;
-        if sum(alloc, left, right, store, pools) != want {
-            return Some(*row);
-        }
-    }
-    None
-}
-
-#[test]
-fn a_full_store_takes_no_sum(rt: HostRuntime) -> Result<(), Fail> {
-    let alloc = rt.alloc();
-    let pools = pools(alloc)?;
-    let mut store = empty_store(alloc, 2, 1)?;
-    let unlike = first_unlike_sum(alloc, &mut store, &pools, &FULL_ROWS);
-    assert_eq!(rt; unlike, None);
-    assert_eq!(rt; store.next(), 3);
+    assert_eq!(rt; first_unlike_paged(rt.alloc(), &PAGED_ROWS)?, None);
     Ok(())
 }

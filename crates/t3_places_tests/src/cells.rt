@@ -1,14 +1,13 @@
 //! A store, objects of each kind that has cells, and these set and taken away.
-ghost use Rattle.std.specs.Prelude.{◌≡◌, ◌<◌, ◌≤◌, ◌^◌, Some, [], OnOk};
-ghost use Rattle.t3_store.specs.Value.{new_value, supers_of, HasFittingLength};
+ghost use Rattle.std.specs.Prelude.{◌<◌, ◌≤◌, ◌^◌, OnOk};
 
 use std::alloc::Global;
 use std::test::Fail;
 use t3_holder::{Holder, NoMemory};
 use t3_lists::Holders;
-use t3_store::{Admit, Kind, NewObject, Persistent, Store, StoreLimits, StoreRefusal};
-use t3_tadsobj::Props;
-use t3_undo::{Cell, Key, Numbers};
+use t3_store::{Admit, Kind, NewObject, Store, StoreLimits, StoreRefusal};
+use t3_test_stores::create_tads;
+use t3_undo::{Cell, Key};
 
 /// Which cells an object has.
 #[derive(Clone, Copy)]
@@ -29,35 +28,7 @@ pub(crate) fn empty_store(alloc: Global, records: u32, savepoints: u32) -> Resul
         records,
         savepoints,
     };
-    Store::start(
-        alloc,
-        limits,
-        Persistent::new(alloc),
-        Persistent::new(alloc),
-        1,
-    )
-}
-
-/// No properties.
-fn no_props(alloc: Global) -> Props {
-    Props(Vec::new(alloc))
-}
-
-/// What a tads-object without anything is made of.
-fn plain(alloc: Global) -> NewObject
-    ensures supers { supers_of (new_value result) ≡ Some [] }
-    ensures length { HasFittingLength (new_value result) }
-{
-    NewObject::Tads {
-        supers: Numbers(Vec::new(alloc)),
-        class: false,
-        props: no_props(alloc),
-    }
-}
-
-/// Makes a tads-object without anything.
-fn create_tads(store: &mut Store, alloc: Global, transient: bool) -> Result<u32, StoreRefusal> {
-    store.create(plain(alloc), transient)
+    t3_test_stores::empty_store(alloc, limits)
 }
 
 /// Makes an object that has such cells, none of which is present, but for a table's default.
@@ -68,7 +39,7 @@ pub(crate) fn create(
     transient: bool,
 ) -> Result<u32, StoreRefusal> {
     match cells {
-        Cells::Props => create_tads(store, alloc, transient),
+        Cells::Props => create_tads(alloc, store, transient),
         Cells::Elements => store.create(NewObject::Vector(Holders(Vec::new(alloc))), transient),
         Cells::Keys => store.create(NewObject::Table, transient),
     }

@@ -1,15 +1,14 @@
 //! A store, and single calls of it that are sure of their conditions.
-ghost use Rattle.std.specs.Prelude.{◌≡◌, ◌≤◌, Some, []};
+ghost use Rattle.std.specs.Prelude.{◌≤◌};
 ghost use Rattle.t3_store.specs.Store.{AreLimits};
-ghost use Rattle.t3_store.specs.Value.{new_value, supers_of, HasFittingLength};
 
 use crate::runs::Failure;
 use std::alloc::Global;
 use t3_holder::Holder;
 use t3_lists::Holders;
-use t3_store::{Kind, NewObject, Persistent, Store, StoreLimits};
-use t3_tadsobj::Props;
-use t3_undo::{Cell, Key, Numbers};
+use t3_store::{Kind, NewObject, Store, StoreLimits};
+use t3_test_stores::create_tads;
+use t3_undo::{Cell, Key};
 
 /// As much room as a store may have.
 pub(crate) const LARGEST: StoreLimits = StoreLimits {
@@ -39,21 +38,7 @@ pub(crate) const WORLDS: StoreLimits = StoreLimits {
 pub(crate) fn empty_store(alloc: Global, limits: StoreLimits) -> Result<Store, Failure>
     requires { AreLimits limits }
 {
-    let first = Persistent::new(alloc);
-    let passing = Persistent::new(alloc);
-    Ok(Store::start(alloc, limits, first, passing, 1)?)
-}
-
-/// What a tads-object without anything is made of.
-fn plain(alloc: Global) -> NewObject
-    ensures supers { supers_of (new_value result) ≡ Some [] }
-    ensures length { HasFittingLength (new_value result) }
-{
-    NewObject::Tads {
-        supers: Numbers(Vec::new(alloc)),
-        class: false,
-        props: Props(Vec::new(alloc)),
-    }
+    Ok(t3_test_stores::empty_store(alloc, limits)?)
 }
 
 /// How many writes and savepoints there are at most.
@@ -61,7 +46,7 @@ const MOST_WRITES: u64 = 0x8000_0000_0000_0000;
 
 /// Makes a persistent tads-object without anything.
 pub(crate) fn create(store: &mut Store, alloc: Global) -> Result<u32, Failure> {
-    Ok(store.create(plain(alloc), false)?)
+    Ok(create_tads(alloc, store, false)?)
 }
 
 /// Sets the property of an object.

@@ -1,12 +1,12 @@
 //! What is broken of small maps that were drawn by hand, and of long chains.
 ghost use Rattle.t3_store.specs.Value.{new_value, HasFittingLength};
 
-use crate::fixture::no_props;
 use std::alloc::Global;
+use std::process::Abort;
 use std::test::Fail;
 use t3_holder::Bytes;
 use t3_store::{Broken, NewObject, Persistent};
-use t3_undo::Numbers;
+use t3_test_stores::tads;
 
 /// Adds an object.
 pub(crate) fn add(objects: &mut Persistent, number: u32, what: NewObject) -> Result<(), Fail>
@@ -28,12 +28,8 @@ fn add_tads(
     number: u32,
     supers: &[u32],
 ) -> Result<(), Fail> {
-    let what = NewObject::Tads {
-        supers: Numbers(Vec::from_slice(alloc, supers)?),
-        class: false,
-        props: no_props(alloc),
-    };
-    add(objects, number, what)
+    let supers = Vec::from_slice(alloc, supers)?;
+    add(objects, number, tads(alloc, supers, false))
 }
 
 /// Adds the tads-objects behind a number up to another, each with the one before it as its superclass.
@@ -96,11 +92,15 @@ fn a_missing_superclass_comes_before_cycles(rt: HostRuntime) -> Result<(), Fail>
 
 #[test]
 fn a_string_is_no_superclass(rt: HostRuntime) -> Result<(), Fail> {
-    let alloc = rt.alloc();
-    let mut objects = Persistent::new(alloc);
-    add(&mut objects, 1, NewObject::Text(Bytes(Vec::new(alloc))))?;
+    let mut objects = Persistent::new(rt.alloc());
+    check_string(&rt, rt.alloc(), &mut objects)
+}
+
+/// A string is whole by itself, and an object that has it as its superclass isn't.
+fn check_string(rt: &impl Abort, alloc: Global, objects: &mut Persistent) -> Result<(), Fail> {
+    add(objects, 1, NewObject::Text(Bytes(Vec::new(alloc))))?;
     assert_eq!(rt; objects.first_broken(alloc)?, None);
-    add_tads(&mut objects, alloc, 2, &[1])?;
+    add_tads(objects, alloc, 2, &[1])?;
     assert_eq!(rt; objects.first_broken(alloc)?, Some((2, Broken::Missing)));
     Ok(())
 }
@@ -108,21 +108,32 @@ fn a_string_is_no_superclass(rt: HostRuntime) -> Result<(), Fail> {
 /// What is broken first of a cycle of 12 to 61, of which 7 is a descendant.
 fn first_of_a_cycle(alloc: Global) -> Result<Option<(u32, Broken)>, Fail> {
     let mut cycle = Persistent::new(alloc);
-    add_tads(&mut cycle, alloc, 12, &[61])?;
-    add_chain(&mut cycle, alloc, 12, 61)?;
-    add_tads(&mut cycle, alloc, 7, &[61])?;
+    add_cycle(&mut cycle, alloc)?;
     Ok(cycle.first_broken(alloc)?)
+}
+
+/// Adds the cycle and its descendant.
+fn add_cycle(objects: &mut Persistent, alloc: Global) -> Result<(), Fail> {
+    add_tads(objects, alloc, 12, &[61])?;
+    add_chain(objects, alloc, 12, 61)?;
+    add_tads(objects, alloc, 7, &[61])
 }
 
 /// What is broken first of a chain of 1 to 100,000, with one more behind it if that has superclasses.
 fn first_of_a_chain(alloc: Global, supers: &[u32]) -> Result<Option<(u32, Broken)>, Fail> {
     let mut chain = Persistent::new(alloc);
-    add_tads(&mut chain, alloc, 1, &[])?;
-    add_chain(&mut chain, alloc, 1, 100_000)?;
-    if !supers.is_empty() {
-        add_tads(&mut chain, alloc, 100_001, supers)?;
-    }
+    add_long_chain(&mut chain, alloc, supers)?;
     Ok(chain.first_broken(alloc)?)
+}
+
+/// Adds the chain, and the one behind it if that has superclasses.
+fn add_long_chain(objects: &mut Persistent, alloc: Global, supers: &[u32]) -> Result<(), Fail> {
+    add_tads(objects, alloc, 1, &[])?;
+    add_chain(objects, alloc, 1, 100_000)?;
+    if !supers.is_empty() {
+        add_tads(objects, alloc, 100_001, supers)?;
+    }
+    Ok(())
 }
 
 #[test]

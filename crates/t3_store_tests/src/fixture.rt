@@ -1,31 +1,20 @@
 //! Stores and objects for the tests, and short calls of a store.
 ghost use Rattle.std.specs.Prelude.{◌≡◌, ◌<◌, ◌≤◌, length, IfOk, OnOk};
-ghost use Rattle.std.specs.Prelude.{Some, []};
-ghost use Rattle.t3_store.specs.Value.{new_value, supers_of, HasFittingLength};
+ghost use Rattle.t3_store.specs.Value.{new_value, HasFittingLength};
 
 use std::alloc::Global;
 use std::test::Fail;
 use t3_holder::{Bytes, Holder, NoMemory};
 use t3_lists::Holders;
-use t3_store::{Kind, NewObject, Persistent, Store, StoreLimits, StoreRefusal};
-use t3_tadsobj::Props;
-use t3_undo::{Cell, Key, Numbers};
-
-/// No properties.
-pub(crate) fn no_props(alloc: Global) -> Props {
-    Props(Vec::new(alloc))
-}
+use t3_store::{Kind, NewObject, Store, StoreLimits, StoreRefusal};
+use t3_test_stores::{create_tads, tads};
+use t3_undo::{Cell, Key};
 
 /// What a tads-object without anything is made of.
 pub(crate) fn plain(alloc: Global) -> NewObject
-    ensures supers { supers_of (new_value result) ≡ Some [] }
-    ensures length { HasFittingLength (new_value result) }
+    ensures { HasFittingLength (new_value result) }
 {
-    NewObject::Tads {
-        supers: Numbers(Vec::new(alloc)),
-        class: false,
-        props: no_props(alloc),
-    }
+    tads(alloc, Vec::new(alloc), false)
 }
 
 /// A store without objects, with room for so many.
@@ -47,13 +36,7 @@ pub(crate) fn empty_store(
         records,
         savepoints,
     };
-    Store::start(
-        alloc,
-        limits,
-        Persistent::new(alloc),
-        Persistent::new(alloc),
-        1,
-    )
+    t3_test_stores::empty_store(alloc, limits)
 }
 
 /// Makes an object without anything.
@@ -62,7 +45,7 @@ pub(crate) fn create(
     alloc: Global,
     transient: bool,
 ) -> Result<u32, StoreRefusal> {
-    store.create(plain(alloc), transient)
+    create_tads(alloc, store, transient)
 }
 
 /// A list of numbers.
@@ -243,10 +226,16 @@ pub(crate) fn has_numbers(store: &Store, number: u32, expected: &[i32]) -> bool 
 /// 2, under the numbers 1, 2, 3.
 pub(crate) fn three_kinds(alloc: Global) -> Result<Store, Fail> {
     let mut store = empty_store(alloc, 9, 99, 8, 2)?;
-    let _set = add_object(&mut store, alloc)?;
-    let _vector = store.create(NewObject::Vector(numbers(alloc, &[1, 2, 3])?), false)?;
-    let _set = add_table(&mut store, alloc)?;
+    add_three(&mut store, alloc)?;
     Ok(store)
+}
+
+/// Adds the three, in this order.
+fn add_three(store: &mut Store, alloc: Global) -> Result<(), Fail> {
+    let _set = add_object(store, alloc)?;
+    let _vector = store.create(NewObject::Vector(numbers(alloc, &[1, 2, 3])?), false)?;
+    let _set = add_table(store, alloc)?;
+    Ok(())
 }
 
 /// Adds an object whose property 5 is 10.

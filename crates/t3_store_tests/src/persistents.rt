@@ -9,7 +9,7 @@ use std::alloc::Global;
 use std::process::Abort;
 use std::test::Fail;
 use t3_holder::{Bytes, Holder, NoMemory};
-use t3_store::{Admit, Kind, NewObject, Persistent};
+use t3_store::{Admit, Kind, NewObject, ObjectsRef, Persistent, Store};
 use t3_tadsobj::{PropValue, Props, Supers};
 use t3_undo::{Cell, Key, Numbers};
 
@@ -82,12 +82,22 @@ fn letters(alloc: Global) -> Result<Key, NoMemory> {
 /// A class, a string, a list, a vector and a table, under the numbers 1 to 5, and the class of the first under 6.
 fn each_kind(alloc: Global) -> Result<Persistent, Fail> {
     let mut objects = Persistent::new(alloc);
-    add(&mut objects, 6, plain(alloc))?;
-    add(&mut objects, 1, class_of_six(alloc)?)?;
-    add(&mut objects, 2, text(alloc, b"house")?)?;
-    add_numbers(&mut objects, alloc)?;
+    add_class(&mut objects, alloc)?;
+    add_contents(&mut objects, alloc)?;
     add_table(&mut objects, alloc)?;
     Ok(objects)
+}
+
+/// Adds the class and its superclass.
+fn add_class(objects: &mut Persistent, alloc: Global) -> Result<(), Fail> {
+    add(objects, 6, plain(alloc))?;
+    add(objects, 1, class_of_six(alloc)?)
+}
+
+/// Adds the string, the list and the vector.
+fn add_contents(objects: &mut Persistent, alloc: Global) -> Result<(), Fail> {
+    add(objects, 2, text(alloc, b"house")?)?;
+    add_numbers(objects, alloc)
 }
 
 /// Adds the list 7, 8 and the vector 4, 5, 6.
@@ -219,12 +229,50 @@ fn a_copy_has_objects_of_each_kind(rt: HostRuntime) -> Result<(), Fail> {
     check_each(&rt, alloc, &copy)
 }
 
+/// The objects of each kind are put in a store.
+fn check_put(rt: &impl Abort, alloc: Global, store: &mut Store) -> Result<(), Fail> {
+    let state = each_kind(alloc)?;
+    assert_eq!(rt; restore(store, alloc, state, 7)?, Admit::Fits);
+    assert_eq!(rt; store.units(), 12);
+    Ok(())
+}
+
+/// The store gives a copy of them.
+fn check_given(rt: &impl Abort, alloc: Global, store: &Store) -> Result<(), Fail> {
+    let copy = store.persistent_copy(alloc)?;
+    check_each(rt, alloc, &copy)
+}
+
 #[test]
 fn a_store_gives_a_copy_of_each_kind(rt: HostRuntime) -> Result<(), Fail> {
-    let alloc = rt.alloc();
-    let mut store = empty_store(alloc, 9, 99, 8, 2)?;
-    let state = each_kind(alloc)?;
-    assert_eq!(rt; restore(&mut store, alloc, state, 7)?, Admit::Fits);
-    assert_eq!(rt; store.units(), 12);
-    check_each(&rt, alloc, &store.persistent_copy(alloc)?)
+    let mut store = empty_store(rt.alloc(), 9, 99, 8, 2)?;
+    check_put(&rt, rt.alloc(), &mut store)?;
+    check_given(&rt, rt.alloc(), &store)
+}
+
+/// The numbers are 1 to 6, and these stand under some of them.
+fn check_lent(rt: &impl Abort, objects: &ObjectsRef<'_>) {
+    for number in 0..6 {
+        assert_eq!(rt; objects.after(number), Some(number + 1));
+    }
+    assert_eq!(rt; objects.after(6), None);
+    assert_eq!(rt; objects.after(u32::MAX), None);
+    assert!(rt; objects.at(1).is_class());
+    assert_eq!(rt; objects.at(4).length(), Some(3));
+    assert!(rt; !objects.at(7).is_object());
+}
+
+#[test]
+fn objects_are_lent(rt: HostRuntime) -> Result<(), Fail> {
+    let objects = each_kind(rt.alloc())?;
+    check_lent(&rt, &objects.as_objects());
+    Ok(())
+}
+
+#[test]
+fn a_store_lends_its_persistent_objects(rt: HostRuntime) -> Result<(), Fail> {
+    let mut store = empty_store(rt.alloc(), 9, 99, 8, 2)?;
+    check_put(&rt, rt.alloc(), &mut store)?;
+    check_lent(&rt, &store.persistent_objects());
+    Ok(())
 }

@@ -1,7 +1,6 @@
 //! Random runs of a store, beside a plain program that keeps whole copies. Objects of each kind are
 //! made and changed in both halves; after each step all that can be read of both is compared.
-ghost use Rattle.std.specs.Prelude.{◌≡◌, Some, IsTrue, IfOk, IsSome, length};
-ghost use Rattle.t3_store.specs.Value.{new_value, supers_of};
+ghost use Rattle.std.specs.Prelude.{◌≡◌, IsTrue, IfOk, IsSome, length};
 ghost use Rattle.t3_store.specs.Whole.{supers_for};
 
 use crate::fixture::{answer, savepoint, set, set_element, set_key, take_last};
@@ -11,8 +10,9 @@ use std::test::Fail;
 use t3_holder::{Bytes, Holder, NoMemory};
 use t3_lists::Holders;
 use t3_store::{Kind, NewObject, Store, StoreRefusal};
-use t3_tadsobj::{Props, Supers};
-use t3_undo::{Cell, Key, Numbers};
+use t3_tadsobj::Supers;
+use t3_test_stores::tads;
+use t3_undo::{Cell, Key};
 
 /// How many objects there may be in the runs.
 pub(crate) const OBJECTS: u32 = 8;
@@ -164,17 +164,6 @@ fn make_tads(
     }
     supers.push(superclass)?;
     number_made(store.create(tads(alloc, supers, row.class), transient))
-}
-
-/// What a tads-object without properties is made of.
-fn tads(alloc: Global, supers: Vec<u32>, class: bool) -> NewObject
-    ensures { supers_of (new_value result) ≡ Some supers.items }
-{
-    NewObject::Tads {
-        supers: Numbers(supers),
-        class,
-        props: Props(Vec::new(alloc)),
-    }
 }
 
 /// Whether a new object may have this superclass.

@@ -30,6 +30,13 @@ fn check_replaced(rt: &impl Abort, store: &mut Store, object: u32) -> Result<(),
     Ok(())
 }
 
+/// A property 7 that isn't there isn't replaced, and is set.
+fn check_set(rt: &impl Abort, store: &mut Store, object: u32) -> Result<(), Fail> {
+    assert!(rt; !replaces(store, object, 7, 1)?);
+    assert!(rt; set(store, object, 7, Some(1))?);
+    Ok(())
+}
+
 /// Replaces a property of a new object of one half over a savepoint, and has this value after undo.
 fn check_half(
     rt: &impl Abort,
@@ -39,8 +46,7 @@ fn check_half(
     after_undo: i32,
 ) -> Result<(), Fail> {
     let object = create(store, alloc, transient)?;
-    assert!(rt; !replaces(store, object, 7, 1)?);
-    assert!(rt; set(store, object, 7, Some(1))?);
+    check_set(rt, store, object)?;
     savepoint(store)?;
     check_replaced(rt, store, object)?;
     assert!(rt; store.undo());
@@ -61,11 +67,15 @@ fn a_present_property_is_replaced(rt: HostRuntime) -> Result<(), Fail> {
 
 #[test]
 fn nothing_else_has_a_property_to_replace(rt: HostRuntime) -> Result<(), Fail> {
-    let alloc = rt.alloc();
-    let mut store = empty_store(alloc, 9, 9, 8, 2)?;
-    let vector = vector(&mut store, alloc)?;
-    assert!(rt; !replaces(&mut store, vector, 1, 2)?);
-    assert!(rt; !replaces(&mut store, 9, 1, 2)?);
+    let mut store = empty_store(rt.alloc(), 9, 9, 8, 2)?;
+    check_none_replaced(&rt, rt.alloc(), &mut store)
+}
+
+/// Neither a vector has a property to replace nor an object that isn't there.
+fn check_none_replaced(rt: &impl Abort, alloc: Global, store: &mut Store) -> Result<(), Fail> {
+    let vector = vector(store, alloc)?;
+    assert!(rt; !replaces(store, vector, 1, 2)?);
+    assert!(rt; !replaces(store, 9, 1, 2)?);
     assert_eq!(rt; store.get(vector, &Cell::Elem(1)), Some(Holder::Int(1)));
     Ok(())
 }

@@ -65,25 +65,53 @@ fn small_store(alloc: Global) -> Result<Store, Fail> {
     Ok(store)
 }
 
-#[test]
-fn a_state_is_full_behind_the_limit_of_objects(rt: HostRuntime) -> Result<(), Fail> {
-    let alloc = rt.alloc();
-    let store = small_store(alloc)?;
-    assert_eq!(rt; store.admits(&objects_of(alloc, 2)?), Admit::Fits);
-    assert_eq!(rt; store.admits(&objects_of(alloc, 3)?), Admit::Full);
+/// What a store tells of a state of so many objects.
+fn check_objects(
+    rt: &impl Abort,
+    alloc: Global,
+    store: &Store,
+    count: u32,
+    want: Admit,
+) -> Result<(), Fail> {
+    let state = objects_of(alloc, count)?;
+    assert_eq!(rt; store.admits(&state), want);
     Ok(())
 }
 
 #[test]
-fn a_state_is_full_behind_the_limit_of_units(rt: HostRuntime) -> Result<(), Fail> {
-    let alloc = rt.alloc();
-    let store = small_store(alloc)?;
-    assert_eq!(rt; store.admits(&list_of(alloc, 1, &[1, 2, 3])?), Admit::Fits);
-    assert_eq!(rt;
-        store.admits(&list_of(alloc, 1, &[1, 2, 3, 4])?),
-        Admit::Full
-    );
+fn a_state_is_full_behind_the_limit_of_objects(rt: HostRuntime) -> Result<(), Fail> {
+    let store = small_store(rt.alloc())?;
+    check_objects(&rt, rt.alloc(), &store, 2, Admit::Fits)?;
+    check_objects(&rt, rt.alloc(), &store, 3, Admit::Full)
+}
+
+/// The number of a list and its items, and whether a state of that list alone fits.
+type Row = (u32, &'static [i32], Admit);
+
+fn check_list(rt: &impl Abort, alloc: Global, store: &Store, row: &Row) -> Result<(), Fail> {
+    let (number, items, want) = *row;
+    let state = list_of(alloc, number, items)?;
+    assert_eq!(rt; store.admits(&state), want, "of {items:?} as {number}");
     Ok(())
+}
+
+/// Each row is so of a store.
+fn check_lists(rt: &impl Abort, alloc: Global, store: &Store, rows: &[Row]) -> Result<(), Fail> {
+    for row in rows {
+        check_list(rt, alloc, store, row)?;
+    }
+    Ok(())
+}
+
+const AT_THE_LIMIT: [Row; 2] = [
+    (1, &[1, 2, 3], Admit::Fits),
+    (1, &[1, 2, 3, 4], Admit::Full),
+];
+
+#[test]
+fn a_state_is_full_behind_the_limit_of_units(rt: HostRuntime) -> Result<(), Fail> {
+    let store = small_store(rt.alloc())?;
+    check_lists(&rt, rt.alloc(), &store, &AT_THE_LIMIT)
 }
 
 /// A store with room for four units, in which the object number 5 is transient.
@@ -113,33 +141,30 @@ fn start_with(alloc: Global, passing: Persistent) -> Result<Store, Fail> {
     Ok(Store::start(alloc, limits, Persistent::new(alloc), passing, 6)?)
 }
 
+const BESIDE_PASSING: [Row; 4] = [
+    (4, &[1, 2, 3, 4], Admit::Fits),
+    (5, &[1], Admit::Clash),
+    (4, &[1, 2, 3, 4, 5], Admit::Full),
+    (5, &[1, 2, 3, 4, 5], Admit::Clash),
+];
+
 #[test]
 fn a_clash_is_told_before_a_full_store(rt: HostRuntime) -> Result<(), Fail> {
-    let alloc = rt.alloc();
-    let store = store_with_passing(alloc)?;
-    assert_eq!(rt;
-        store.admits(&list_of(alloc, 4, &[1, 2, 3, 4])?),
-        Admit::Fits
-    );
-    assert_eq!(rt; store.admits(&list_of(alloc, 5, &[1])?), Admit::Clash);
-    assert_eq!(rt;
-        store.admits(&list_of(alloc, 4, &[1, 2, 3, 4, 5])?),
-        Admit::Full
-    );
-    assert_eq!(rt;
-        store.admits(&list_of(alloc, 5, &[1, 2, 3, 4, 5])?),
-        Admit::Clash
-    );
-    Ok(())
+    let store = store_with_passing(rt.alloc())?;
+    check_lists(&rt, rt.alloc(), &store, &BESIDE_PASSING)
 }
 
 #[test]
 fn a_state_takes_the_place_of_the_objects(rt: HostRuntime) -> Result<(), Fail> {
-    let alloc = rt.alloc();
-    let mut store = three_kinds(alloc)?;
-    let passing = create(&mut store, alloc, true)?;
-    assert!(rt; set(&mut store, passing, 5, Some(7))?);
-    check_restored(&rt, alloc, &mut store)?;
+    let mut store = three_kinds(rt.alloc())?;
+    check_passing_stays(&rt, rt.alloc(), &mut store)
+}
+
+/// A transient object keeps its property where a state takes the place of the others.
+fn check_passing_stays(rt: &impl Abort, alloc: Global, store: &mut Store) -> Result<(), Fail> {
+    let passing = create(store, alloc, true)?;
+    assert!(rt; set(store, passing, 5, Some(7))?);
+    check_restored(rt, alloc, store)?;
     assert_eq!(rt; store.get(passing, &Cell::Prop(5)), Some(Holder::Int(7)));
     Ok(())
 }
@@ -149,9 +174,15 @@ fn check_restored(rt: &impl Abort, alloc: Global, store: &mut Store) -> Result<(
     savepoint(store)?;
     assert!(rt; set(store, 1, 5, Some(11))?);
     savepoint(store)?;
+    check_list_put(rt, alloc, store)?;
+    check_list_alone(rt, store)
+}
+
+/// A state of one list fits.
+fn check_list_put(rt: &impl Abort, alloc: Global, store: &mut Store) -> Result<(), Fail> {
     let state = list_of(alloc, 2, &[8, 9])?;
     assert_eq!(rt; restore(store, alloc, state, 3)?, Admit::Fits);
-    check_list_alone(rt, store)
+    Ok(())
 }
 
 /// Whether an object of a store has these items.
@@ -177,40 +208,68 @@ fn next_behind(store: &mut Store, alloc: Global, next: u32) -> Result<u32, Fail>
     Ok(create(store, alloc, false)?)
 }
 
+/// The next number of each of three states in turn, and the number that the next object has then.
+const NEXT_NUMBERS: [(u32, u32); 3] = [(2, 4), (9, 9), (9, 10)];
+
+fn check_next_numbers(
+    rt: &impl Abort,
+    alloc: Global,
+    store: &mut Store,
+    rows: &[(u32, u32)],
+) -> Result<(), Fail> {
+    for (next, want) in rows {
+        assert_eq!(rt; next_behind(store, alloc, *next)?, *want);
+    }
+    Ok(())
+}
+
 #[test]
 fn the_greater_next_number_stays(rt: HostRuntime) -> Result<(), Fail> {
-    let alloc = rt.alloc();
-    let mut store = three_kinds(alloc)?;
-    assert_eq!(rt; next_behind(&mut store, alloc, 2)?, 4);
-    assert_eq!(rt; next_behind(&mut store, alloc, 9)?, 9);
-    assert_eq!(rt; next_behind(&mut store, alloc, 9)?, 10);
+    let mut store = three_kinds(rt.alloc())?;
+    check_next_numbers(&rt, rt.alloc(), &mut store, &NEXT_NUMBERS)
+}
+
+/// A state of a list under the greatest number fits.
+fn check_greatest_put(rt: &impl Abort, alloc: Global, store: &mut Store) -> Result<(), Fail> {
+    let state = list_of(alloc, 0x7FFF_FFFF, &[1])?;
+    assert_eq!(rt; restore(store, alloc, state, 0x8000_0000)?, Admit::Fits);
+    Ok(())
+}
+
+/// No number is left for an object but a transient one.
+fn check_none_left(rt: &impl Abort, alloc: Global, store: &mut Store) -> Result<(), Fail> {
+    assert!(rt; create(store, alloc, false).is_err());
+    assert!(rt; create(store, alloc, true).is_ok());
     Ok(())
 }
 
 #[test]
 fn the_greatest_next_number_leaves_none(rt: HostRuntime) -> Result<(), Fail> {
-    let alloc = rt.alloc();
-    let mut store = empty_store(alloc, 9, 9, 8, 2)?;
-    let state = list_of(alloc, 0x7FFF_FFFF, &[1])?;
-    assert_eq!(rt;
-        restore(&mut store, alloc, state, 0x8000_0000)?,
-        Admit::Fits
-    );
-    assert!(rt; create(&mut store, alloc, false).is_err());
-    assert!(rt; create(&mut store, alloc, true).is_ok());
+    let mut store = empty_store(rt.alloc(), 9, 9, 8, 2)?;
+    check_greatest_put(&rt, rt.alloc(), &mut store)?;
+    check_none_left(&rt, rt.alloc(), &mut store)
+}
+
+/// A copy of the objects takes their place after a change.
+fn check_copy_put(rt: &impl Abort, alloc: Global, store: &mut Store) -> Result<(), Fail> {
+    let state = store.persistent_copy(alloc)?;
+    assert!(rt; set(store, 1, 5, Some(11))?);
+    assert_eq!(rt; restore(store, alloc, state, 4)?, Admit::Fits);
     Ok(())
+}
+
+/// A change behind a savepoint is undone, to what the copy had.
+fn check_undone(rt: &impl Abort, store: &mut Store) -> Result<(), Fail> {
+    savepoint(store)?;
+    assert!(rt; set(store, 1, 5, Some(12))?);
+    assert!(rt; store.undo());
+    assert_eq!(rt; store.get(1, &Cell::Prop(5)), Some(Holder::Int(10)));
+    few_writes(store)
 }
 
 #[test]
 fn undo_goes_on_from_a_state(rt: HostRuntime) -> Result<(), Fail> {
-    let alloc = rt.alloc();
-    let mut store = three_kinds(alloc)?;
-    let state = store.persistent_copy(alloc)?;
-    assert!(rt; set(&mut store, 1, 5, Some(11))?);
-    assert_eq!(rt; restore(&mut store, alloc, state, 4)?, Admit::Fits);
-    savepoint(&mut store)?;
-    assert!(rt; set(&mut store, 1, 5, Some(12))?);
-    assert!(rt; store.undo());
-    assert_eq!(rt; store.get(1, &Cell::Prop(5)), Some(Holder::Int(10)));
-    few_writes(&store)
+    let mut store = three_kinds(rt.alloc())?;
+    check_copy_put(&rt, rt.alloc(), &mut store)?;
+    check_undone(&rt, &mut store)
 }

@@ -90,12 +90,23 @@ const ROOMS: [Room; 4] = [
 fn agrees_all_along(alloc: Global, seed: u32, room: Room) -> Result<bool, Fail> {
     let mut store = room.store(alloc)?;
     let mut whole = Whole::start(alloc, room.limits());
-    let mut saved = save(&store, &whole, alloc)?;
+    agrees_in_steps(&mut store, &mut whole, alloc, seed, room)
+}
+
+/// Whether both say the same after each step.
+fn agrees_in_steps(
+    store: &mut Store,
+    whole: &mut Whole,
+    alloc: Global,
+    seed: u32,
+    room: Room,
+) -> Result<bool, Fail> {
+    let mut saved = save(store, whole, alloc)?;
     let mut state = seed;
     for _ in 0..room.steps {
         state = state.wrapping_mul(1_664_525).wrapping_add(1_013_904_223);
         let roll = room.roll(state >> 8);
-        if !agrees_after(&mut store, &mut whole, &mut saved, alloc, roll)? {
+        if !agrees_after(store, whole, &mut saved, alloc, roll)? {
             return Ok(false);
         }
     }

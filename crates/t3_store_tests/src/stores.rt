@@ -21,11 +21,16 @@ fn change(store: &mut Store, alloc: Global) -> Result<bool, Fail> {
 
 #[test]
 fn all_kinds_change(rt: HostRuntime) -> Result<(), Fail> {
-    let alloc = rt.alloc();
-    let mut store = three_kinds(alloc)?;
-    savepoint(&mut store)?;
-    assert!(rt; change(&mut store, alloc)?);
-    check_changed(&rt, alloc, &store)
+    let mut store = three_kinds(rt.alloc())?;
+    check_change(&rt, rt.alloc(), &mut store)?;
+    check_changed(&rt, rt.alloc(), &store)
+}
+
+/// The three change behind a savepoint.
+fn check_change(rt: &impl Abort, alloc: Global, store: &mut Store) -> Result<(), Fail> {
+    savepoint(store)?;
+    assert!(rt; change(store, alloc)?);
+    Ok(())
 }
 
 /// The three are as `change` left them.
@@ -38,12 +43,15 @@ fn check_changed(rt: &impl Abort, alloc: Global, store: &Store) -> Result<(), Fa
 
 #[test]
 fn all_kinds_come_back(rt: HostRuntime) -> Result<(), Fail> {
-    let alloc = rt.alloc();
-    let mut store = three_kinds(alloc)?;
-    savepoint(&mut store)?;
-    assert!(rt; change(&mut store, alloc)?);
+    let mut store = three_kinds(rt.alloc())?;
+    check_change(&rt, rt.alloc(), &mut store)?;
+    check_undone(&rt, rt.alloc(), &mut store)
+}
+
+/// An undo takes all of the changes back, and a second one finds no savepoint.
+fn check_undone(rt: &impl Abort, alloc: Global, store: &mut Store) -> Result<(), Fail> {
     assert!(rt; store.undo());
-    check_as_made(&rt, alloc, &store)?;
+    check_as_made(rt, alloc, store)?;
     assert!(rt; !store.undo());
     Ok(())
 }
@@ -59,14 +67,23 @@ fn check_as_made(rt: &impl Abort, alloc: Global, store: &Store) -> Result<(), Fa
 
 #[test]
 fn what_was_made_since_goes_and_transient_objects_stay(rt: HostRuntime) -> Result<(), Fail> {
-    let alloc = rt.alloc();
-    let mut store = empty_store(alloc, 9, 9, 8, 2)?;
-    assert_eq!(rt; create(&mut store, alloc, false)?, 1);
-    savepoint(&mut store)?;
-    make_both(&rt, alloc, &mut store)?;
+    let mut store = empty_store(rt.alloc(), 9, 9, 8, 2)?;
+    check_made(&rt, rt.alloc(), &mut store)?;
+    check_gone(&rt, rt.alloc(), &mut store)
+}
+
+/// An object is made before a savepoint, and two behind it.
+fn check_made(rt: &impl Abort, alloc: Global, store: &mut Store) -> Result<(), Fail> {
+    assert_eq!(rt; create(store, alloc, false)?, 1);
+    savepoint(store)?;
+    make_both(rt, alloc, store)
+}
+
+/// By an undo the second one goes, and its number isn't given again.
+fn check_gone(rt: &impl Abort, alloc: Global, store: &mut Store) -> Result<(), Fail> {
     assert!(rt; store.undo());
-    check_transient_alone(&rt, &store)?;
-    assert_eq!(rt; create(&mut store, alloc, false)?, 3);
+    check_transient_alone(rt, store)?;
+    assert_eq!(rt; create(store, alloc, false)?, 3);
     Ok(())
 }
 
@@ -91,12 +108,17 @@ fn check_transient_alone(rt: &impl Abort, store: &Store) -> Result<(), Fail> {
 
 #[test]
 fn one_savepoint_may_outgrow_the_journal(rt: HostRuntime) -> Result<(), Fail> {
-    let alloc = rt.alloc();
-    let mut store = empty_store(alloc, 9, 9, 2, 128)?;
-    let object = create(&mut store, alloc, false)?;
-    savepoint(&mut store)?;
-    fill_journal(&rt, &mut store, object)?;
+    let mut store = empty_store(rt.alloc(), 9, 9, 2, 128)?;
+    let object = create_and_fill(&rt, rt.alloc(), &mut store)?;
     check_outgrown(&rt, &mut store, object)
+}
+
+/// Makes an object, and fills the journal behind a savepoint.
+fn create_and_fill(rt: &impl Abort, alloc: Global, store: &mut Store) -> Result<u32, Fail> {
+    let object = create(store, alloc, false)?;
+    savepoint(store)?;
+    fill_journal(rt, store, object)?;
+    Ok(object)
 }
 
 /// Makes two records, and none for a cell that has one.
@@ -120,16 +142,18 @@ fn check_outgrown(rt: &impl Abort, store: &mut Store, object: u32) -> Result<(),
 
 #[test]
 fn nothing_is_noted_after_the_last_drop_until_a_savepoint(rt: HostRuntime) -> Result<(), Fail> {
-    let alloc = rt.alloc();
-    let mut store = empty_store(alloc, 9, 9, 2, 128)?;
-    let object = create(&mut store, alloc, false)?;
-    savepoint(&mut store)?;
-    fill_journal(&rt, &mut store, object)?;
-    check_outgrown(&rt, &mut store, object)?;
-    // The change that cost the savepoint left none: nothing is noted.
-    overwrite(&mut store, object, Cell::Prop(3), 5)?;
-    assert_eq!(rt; (store.held(), store.records()), (0, 0));
+    let mut store = empty_store(rt.alloc(), 9, 9, 2, 128)?;
+    let object = create_and_fill(&rt, rt.alloc(), &mut store)?;
+    check_not_noted(&rt, &mut store, object)?;
     check_noted_once(&rt, &mut store, object)
+}
+
+/// The change that cost the savepoint left none: nothing is noted.
+fn check_not_noted(rt: &impl Abort, store: &mut Store, object: u32) -> Result<(), Fail> {
+    check_outgrown(rt, store, object)?;
+    overwrite(store, object, Cell::Prop(3), 5)?;
+    assert_eq!(rt; (store.held(), store.records()), (0, 0));
+    Ok(())
 }
 
 /// Behind a further savepoint, property 3 is noted at its first change and not at its second.
@@ -145,20 +169,28 @@ fn check_noted_once(rt: &impl Abort, store: &mut Store, object: u32) -> Result<(
 
 #[test]
 fn a_change_that_drops_the_oldest_is_noted_once(rt: HostRuntime) -> Result<(), Fail> {
-    let alloc = rt.alloc();
-    let mut store = empty_store(alloc, 9, 9, 2, 128)?;
-    let object = create(&mut store, alloc, false)?;
-    savepoint(&mut store)?;
-    fill_journal(&rt, &mut store, object)?;
-    savepoint(&mut store)?;
+    let mut store = empty_store(rt.alloc(), 9, 9, 2, 128)?;
+    let object = create_and_fill(&rt, rt.alloc(), &mut store)?;
+    check_first_noted(&rt, &mut store, object)?;
+    check_second_noted(&rt, &mut store, object)?;
+    check_both_changes(&rt, &mut store, object)
+}
+
+/// Behind a second savepoint the first change of property 1 costs the other one, and is noted alone.
+fn check_first_noted(rt: &impl Abort, store: &mut Store, object: u32) -> Result<(), Fail> {
+    savepoint(store)?;
     for number in [4, 5] {
-        overwrite(&mut store, object, Cell::Prop(1), number)?;
+        overwrite(store, object, Cell::Prop(1), number)?;
         assert_eq!(rt; (store.held(), store.records()), (1, 1));
     }
-    // Property 2 was noted for the savepoint that went.
-    overwrite(&mut store, object, Cell::Prop(2), 6)?;
+    Ok(())
+}
+
+/// Property 2 was noted for the savepoint that went, and is noted again.
+fn check_second_noted(rt: &impl Abort, store: &mut Store, object: u32) -> Result<(), Fail> {
+    overwrite(store, object, Cell::Prop(2), 6)?;
     assert_eq!(rt; (store.held(), store.records()), (1, 2));
-    check_both_changes(&rt, &mut store, object)
+    Ok(())
 }
 
 /// An undo takes both properties back to what they were at the savepoint.
@@ -180,18 +212,22 @@ fn overwrite_behind_savepoints(store: &mut Store, object: u32) -> Result<(), Fai
 
 #[test]
 fn a_further_savepoint_drops_the_oldest(rt: HostRuntime) -> Result<(), Fail> {
-    let alloc = rt.alloc();
-    let mut store = empty_store(alloc, 9, 9, 3, 2)?;
-    let object = create(&mut store, alloc, false)?;
-    assert!(rt; set(&mut store, object, 5, Some(0))?);
+    let mut store = empty_store(rt.alloc(), 9, 9, 3, 2)?;
+    let object = create_with_zero(&rt, rt.alloc(), &mut store)?;
     overwrite_behind_savepoints(&mut store, object)?;
     check_two_savepoints(&rt, &mut store, object)
 }
 
+/// Makes an object whose property 5 is 0.
+fn create_with_zero(rt: &impl Abort, alloc: Global, store: &mut Store) -> Result<u32, Fail> {
+    let object = create(store, alloc, false)?;
+    assert!(rt; set(store, object, 5, Some(0))?);
+    Ok(object)
+}
+
 /// Two savepoints are held, before the change to 3 and before that to 2.
 fn check_two_savepoints(rt: &impl Abort, store: &mut Store, object: u32) -> Result<(), Fail> {
-    assert_eq!(rt; store.held(), 2);
-    assert_eq!(rt; store.records(), 2);
+    assert_eq!(rt; (store.held(), store.records()), (2, 2));
     assert!(rt; store.undo());
     assert_eq!(rt; value(store, object, &Cell::Prop(5)), Some(2));
     assert!(rt; store.undo());
@@ -202,12 +238,17 @@ fn check_two_savepoints(rt: &impl Abort, store: &mut Store, object: u32) -> Resu
 
 #[test]
 fn limits_are_reached_and_not_passed(rt: HostRuntime) -> Result<(), Fail> {
-    let alloc = rt.alloc();
-    let mut store = empty_store(alloc, 1, 1, 8, 2)?;
-    let object = create(&mut store, alloc, false)?;
-    assert!(rt; create(&mut store, alloc, true) == Err(StoreRefusal::Full));
-    assert_eq!(rt; store.objects(), 1);
+    let mut store = empty_store(rt.alloc(), 1, 1, 8, 2)?;
+    let object = create_only(&rt, rt.alloc(), &mut store)?;
     check_one_unit(&rt, &mut store, object)
+}
+
+/// Makes an object, for which alone there is room.
+fn create_only(rt: &impl Abort, alloc: Global, store: &mut Store) -> Result<u32, Fail> {
+    let object = create(store, alloc, false)?;
+    assert!(rt; create(store, alloc, true) == Err(StoreRefusal::Full));
+    assert_eq!(rt; store.objects(), 1);
+    Ok(object)
 }
 
 /// Of two properties there is room for one.
@@ -225,18 +266,27 @@ fn long_key(alloc: Global, length: usize) -> Result<Key, NoMemory> {
     Ok(Key::Text(Bytes(bytes)))
 }
 
+/// How long each of three keys is, and how many units there are with it and those before it.
+const KEYS: [(usize, u32); 3] = [(0, 1), (8, 3), (9, 6)];
+
 #[test]
 fn keys_count_by_eight_bytes(rt: HostRuntime) -> Result<(), Fail> {
-    let alloc = rt.alloc();
-    let mut store = empty_store(alloc, 9, 6, 8, 2)?;
+    let mut store = empty_store(rt.alloc(), 9, 6, 8, 2)?;
+    check_keys(&rt, rt.alloc(), &mut store, &KEYS)
+}
+
+/// A new table counts so with these keys, which fill the store.
+fn check_keys(
+    rt: &impl Abort,
+    alloc: Global,
+    store: &mut Store,
+    rows: &[(usize, u32)],
+) -> Result<(), Fail> {
     let table = store.create(NewObject::Table, false)?;
-    for (length, units) in [(0, 1), (8, 3), (9, 6)] {
-        assert_eq!(rt;
-            units_with_key(&mut store, alloc, table, length)?,
-            Some(units)
-        );
+    for (length, units) in rows {
+        assert_eq!(rt; units_with_key(store, alloc, table, *length)?, Some(*units));
     }
-    assert!(rt; !set_key(&mut store, table, Key::Nil, Some(1))?);
+    assert!(rt; !set_key(store, table, Key::Nil, Some(1))?);
     Ok(())
 }
 
@@ -264,14 +314,23 @@ fn add(objects: &mut Persistent, alloc: Global, number: u32) -> Result<(), Fail>
     Ok(objects.add(number, plain(alloc))?)
 }
 
-#[test]
-fn numbers_come_in_any_order(rt: HostRuntime) -> Result<(), Fail> {
-    let alloc = rt.alloc();
-    let mut objects = Persistent::new(alloc);
-    add(&mut objects, alloc, 2_147_483_647)?;
-    add(&mut objects, alloc, 1)?;
+/// Adds the object with the greatest number, and then the one with the least.
+fn add_two(objects: &mut Persistent, alloc: Global) -> Result<(), Fail> {
+    add(objects, alloc, 2_147_483_647)?;
+    add(objects, alloc, 1)
+}
+
+/// They come by rising number, in a copy too.
+fn check_two(rt: &impl Abort, alloc: Global, objects: &Persistent) -> Result<(), Fail> {
     assert_eq!(rt; objects.after(0), Some(1));
     assert_eq!(rt; objects.after(1), Some(2_147_483_647));
     assert_eq!(rt; objects.copy(alloc)?.after(2_147_483_647), None);
     Ok(())
+}
+
+#[test]
+fn numbers_come_in_any_order(rt: HostRuntime) -> Result<(), Fail> {
+    let mut objects = Persistent::new(rt.alloc());
+    add_two(&mut objects, rt.alloc())?;
+    check_two(&rt, rt.alloc(), &objects)
 }

@@ -41,49 +41,65 @@ fn makes_items(store: &mut Store, alloc: Global, vector: bool, count: u16) -> Re
 
 #[test]
 fn strings_count_their_bytes_by_eights(rt: HostRuntime) -> Result<(), Fail> {
-    let alloc = rt.alloc();
-    // Seventeen letters of two bytes each.
+    check_letters(&rt, rt.alloc())?;
+    let mut store = small_store(rt.alloc())?;
+    check_four_units(&rt, rt.alloc(), &mut store)
+}
+
+/// For seventeen letters of two bytes each there is no room.
+fn check_letters(rt: &impl Abort, alloc: Global) -> Result<(), Fail> {
     let letters =
         "\u{e9}\u{e9}\u{e9}\u{e9}\u{e9}\u{e9}\u{e9}\u{e9}\u{e9}\u{e9}\u{e9}\u{e9}\u{e9}\u{e9}\u{e9}\u{e9}\u{e9}".as_bytes();
     assert!(rt; !makes_text(&mut small_store(alloc)?, alloc, letters)?);
-    check_four_units(&rt, alloc)
+    Ok(())
 }
 
 /// A string of 32 bytes fills a small store.
-fn check_four_units(rt: &impl Abort, alloc: Global) -> Result<(), Fail> {
-    let mut store = small_store(alloc)?;
-    assert!(rt; makes_text(&mut store, alloc, &[b'x'; 32])?);
+fn check_four_units(rt: &impl Abort, alloc: Global, store: &mut Store) -> Result<(), Fail> {
+    assert!(rt; makes_text(store, alloc, &[b'x'; 32])?);
     assert_eq!(rt; store.units(), 4);
-    assert!(rt; makes_text(&mut store, alloc, b"")?);
-    assert!(rt; !makes_text(&mut store, alloc, b"x")?);
+    assert!(rt; makes_text(store, alloc, b"")?);
+    assert!(rt; !makes_text(store, alloc, b"x")?);
     Ok(())
 }
 
 #[test]
 fn lists_and_vectors_count_their_elements(rt: HostRuntime) -> Result<(), Fail> {
-    check_items(&rt, rt.alloc(), false)?;
-    check_items(&rt, rt.alloc(), true)
+    for vector in [false, true] {
+        let mut store = small_store(rt.alloc())?;
+        check_items(&rt, rt.alloc(), &mut store, vector)?;
+    }
+    Ok(())
 }
 
 /// A list or a vector of four elements fills a small store.
-fn check_items(rt: &impl Abort, alloc: Global, vector: bool) -> Result<(), Fail> {
-    let mut store = small_store(alloc)?;
-    assert!(rt; !makes_items(&mut store, alloc, vector, 5)?);
-    assert!(rt; makes_items(&mut store, alloc, vector, 4)?);
+fn check_items(
+    rt: &impl Abort,
+    alloc: Global,
+    store: &mut Store,
+    vector: bool,
+) -> Result<(), Fail> {
+    assert!(rt; !makes_items(store, alloc, vector, 5)?);
+    assert!(rt; makes_items(store, alloc, vector, 4)?);
     assert_eq!(rt; store.units(), 4);
-    assert!(rt; !makes_items(&mut store, alloc, vector, 1)?);
+    assert!(rt; !makes_items(store, alloc, vector, 1)?);
     Ok(())
 }
 
 #[test]
 fn tables_count_their_entries(rt: HostRuntime) -> Result<(), Fail> {
-    let alloc = rt.alloc();
-    let mut store = small_store(alloc)?;
+    let mut store = small_store(rt.alloc())?;
+    let table = create_full_table(&rt, &mut store)?;
+    check_full_table(&rt, &mut store, table)
+}
+
+/// Makes a table of four entries.
+fn create_full_table(rt: &impl Abort, store: &mut Store) -> Result<u32, Fail> {
     let table = store.create(NewObject::Table, false)?;
     for key in 0..4 {
-        assert!(rt; set_key(&mut store, table, Key::Int(key), Some(1))?);
+        assert!(rt; set_key(store, table, Key::Int(key), Some(1))?);
     }
-    check_full_table(&rt, &mut store, table)
+    Ok(table)
 }
 
 /// Of a table that fills the store a present entry is set, and one that is taken away gives its unit
@@ -99,12 +115,16 @@ fn check_full_table(rt: &impl Abort, store: &mut Store, table: u32) -> Result<()
 
 #[test]
 fn a_vector_is_emptied_and_filled_again(rt: HostRuntime) -> Result<(), Fail> {
-    let alloc = rt.alloc();
-    let mut store = small_store(alloc)?;
-    let items = Holders(Vec::from_elem(alloc, Holder::Int(1), 2)?);
-    let vector = store.create(NewObject::Vector(items), false)?;
+    let mut store = small_store(rt.alloc())?;
+    let vector = create_vector(&mut store, rt.alloc())?;
     check_emptied(&rt, &mut store, vector)?;
     check_filled(&rt, &mut store, vector)
+}
+
+/// Makes a vector of two elements.
+fn create_vector(store: &mut Store, alloc: Global) -> Result<u32, Fail> {
+    let items = Holders(Vec::from_elem(alloc, Holder::Int(1), 2)?);
+    Ok(store.create(NewObject::Vector(items), false)?)
 }
 
 /// The two elements of a vector are taken away.

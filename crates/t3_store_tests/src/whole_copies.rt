@@ -52,15 +52,19 @@ pub(crate) struct Whole {
 pub(crate) fn copy_rows(alloc: Global, rows: &[Row]) -> Result<Vec<Row>, NoMemory> {
     let mut copy = Vec::new(alloc);
     for row in rows {
-        copy.push(Row {
-            number: row.number,
-            kind: row.kind,
-            class: row.class,
-            supers: Vec::from_slice(alloc, &row.supers)?,
-            cells: Vec::from_slice(alloc, &row.cells)?,
-        })?;
+        copy.push(copy_row(alloc, row)?)?;
     }
     Ok(copy)
+}
+
+fn copy_row(alloc: Global, row: &Row) -> Result<Row, NoMemory> {
+    Ok(Row {
+        number: row.number,
+        kind: row.kind,
+        class: row.class,
+        supers: Vec::from_slice(alloc, &row.supers)?,
+        cells: Vec::from_slice(alloc, &row.cells)?,
+    })
 }
 
 /// How many units a cell counts.

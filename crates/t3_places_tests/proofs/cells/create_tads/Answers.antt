@@ -1,8 +1,0 @@
-use Rattle.std.proofs.Common.{sym, subst}
-use Rattle.std.specs.Prelude.{MatchOption}
-use Rattle.t3_store.specs.Whole.{AreThere, supers_for}
-use Rattle.t3_places_tests.proofs.cells.create_tads.Goals as goal
-
-pub create-requires-clause-supers : goal.create-requires-clause-supers
-create-requires-clause-supers c =
-    subst (λ supers. MatchOption supers (Unit {0}) (AreThere (supers_for c.args.transient c.args.store.now.store))) (sym c.plain.ensures.supers) tt
