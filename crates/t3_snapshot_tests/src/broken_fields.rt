@@ -120,6 +120,45 @@ fn keys(rt: HostRuntime) -> Result<(), Fail> {
     Ok(())
 }
 
+/// After how many objects a state is malformed whose second object is a table with a key of this type and value 4.
+fn key_of_type(alloc: Global, holder_type: u8) -> Result<Option<u32>, Fail> {
+    let table = [
+        5,
+        1,
+        0,
+        0,
+        0,
+        0,
+        1,
+        0,
+        0,
+        0,
+        0,
+        holder_type,
+        4,
+        0,
+        0,
+        0,
+        1,
+        0,
+        0,
+        0,
+        0,
+    ];
+    second(alloc, &table)
+}
+
+#[test]
+fn types_of_keys(rt: HostRuntime) -> Result<(), Fail> {
+    let alloc = rt.alloc();
+    // A property, an integer, a function and an enumerated value; a string in double quotes.
+    for holder_type in [6, 7, 12, 15] {
+        assert_eq!(rt; key_of_type(alloc, holder_type)?, None);
+    }
+    assert_eq!(rt; key_of_type(alloc, 9)?, Some(1));
+    Ok(())
+}
+
 #[test]
 fn keys_that_stand_twice(rt: HostRuntime) -> Result<(), Fail> {
     let alloc = rt.alloc();

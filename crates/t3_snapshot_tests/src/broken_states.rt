@@ -34,6 +34,15 @@ fn next_numbers(rt: HostRuntime) -> Result<(), Fail> {
 }
 
 #[test]
+fn misspelled_below_a_great_next_number(rt: HostRuntime) -> Result<(), Fail> {
+    let alloc = rt.alloc();
+    let second = [3, 0, 0, 0, 2, 0, 0, 4, 0, 0, 0, 6];
+    assert_eq!(rt; items(alloc, 5, 2, &second)?, Some(1));
+    assert_eq!(rt; items(alloc, 0xFFFF_FFFF, 2, &second)?, Some(1));
+    Ok(())
+}
+
+#[test]
 fn counts(rt: HostRuntime) -> Result<(), Fail> {
     let alloc = rt.alloc();
     let string = [3, 0, 0, 0, 2, 0, 0];

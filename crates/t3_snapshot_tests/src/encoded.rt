@@ -1,20 +1,11 @@
 //! What is written: worked bytes, states that were read, and states without what refers to what isn't there.
-use crate::fixture::{ZERO, spelled, worked};
+use crate::fixture::{ZERO, again, spelled, worked};
 use std::alloc::Global;
 use std::test::Fail;
 use t3_holder::Holder;
 use t3_lists::Holders;
-use t3_snapshot::{decode, encode, savable_objects, state_text};
+use t3_snapshot::{encode, savable_objects};
 use t3_store::{NewObject, Persistent};
-
-/// What bytes say, written again.
-fn again(alloc: Global, bytes: &[u8]) -> Result<Vec<u8>, Fail> {
-    state_text();
-    match decode(alloc, bytes, &ZERO) {
-        Ok((state, next)) => Ok(encode(alloc, &state, &ZERO, next)?),
-        Err(_) => Err(Fail::from("refused")),
-    }
-}
 
 /// The bytes of no objects, with next number 1.
 fn no_objects(alloc: Global) -> Result<Vec<u8>, Fail> {
@@ -43,6 +34,20 @@ fn worked_bytes(rt: HostRuntime) -> Result<(), Fail> {
     assert_eq!(rt; string, worked(alloc)?);
     let body = [4, 0, 0, 0, 1, 0, 0, 0, 3, 0, 0, 0, 2, 2, 0, 0x68, 0x69];
     assert_eq!(rt; &string[42..59], body.as_slice());
+    Ok(())
+}
+
+/// A state with superclass 2 of class 1, and class 3 with both as superclasses.
+const SUPERCLASSES: [u8; 45] = [
+    1, 0, 0, 0, 1, 1, 0, 1, 0, 2, 0, 0, 0, 0, 0, 2, 0, 0, 0, 1, 0, 0, 0, 0, 0, 0, 3, 0, 0, 0, 1, 1,
+    0, 2, 0, 1, 0, 0, 0, 2, 0, 0, 0, 0, 0,
+];
+
+#[test]
+fn superclasses_are_written_again(rt: HostRuntime) -> Result<(), Fail> {
+    let alloc = rt.alloc();
+    let bytes = spelled(alloc, 4, 3, &SUPERCLASSES)?;
+    assert_eq!(rt; again(alloc, &bytes)?, bytes);
     Ok(())
 }
 

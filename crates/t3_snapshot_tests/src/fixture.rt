@@ -2,7 +2,7 @@
 use sha2::{Digest, Sha256};
 use std::alloc::Global;
 use std::test::Fail;
-use t3_snapshot::{SnapshotRefusal, decode};
+use t3_snapshot::{SnapshotRefusal, decode, encode, state_text};
 
 /// The fingerprint of the image.
 pub(crate) const ZERO: [u8; 32] = [0; 32];
@@ -30,9 +30,31 @@ pub(crate) fn spelled(
     Ok(out)
 }
 
-/// Row by row: a string 3 with the bytes `hi`, and next number 4.
+/// A string 3 with the bytes `hi`, and next number 4.
 pub(crate) fn worked(alloc: Global) -> Result<Vec<u8>, Fail> {
     spelled(alloc, 4, 1, &[3, 0, 0, 0, 2, 2, 0, 0x68, 0x69])
+}
+
+/// What bytes say, written again.
+pub(crate) fn again(alloc: Global, bytes: &[u8]) -> Result<Vec<u8>, Fail> {
+    state_text();
+    match decode(alloc, bytes, &ZERO) {
+        Ok((state, next)) => Ok(encode(alloc, &state, &ZERO, next)?),
+        Err(_) => Err(Fail::from("refused")),
+    }
+}
+
+/// The refusal of bytes that are cut or changed from this place on.
+pub(crate) fn refusal_at(place: usize) -> SnapshotRefusal {
+    if place < 8 {
+        SnapshotRefusal::Signature
+    } else if place < 10 {
+        SnapshotRefusal::Version
+    } else if place < 42 {
+        SnapshotRefusal::OtherImage
+    } else {
+        SnapshotRefusal::Digest
+    }
 }
 
 /// Why bytes are refused, or `None` where they spell a state.
