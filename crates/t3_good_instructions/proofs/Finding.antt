@@ -3,7 +3,8 @@ use Rattle.std.proofs.Common.{◌≡◌, refl, ℕ, List, [], ◌∷◌, Option,
 use Rattle.std.specs.FinMap.{get}
 use Rattle.t3_holder.specs.declared.holder.Holder.{Holder}
 use Rattle.t3_undo.specs.declared.cell.Cell.TheVariants.{Prop}
-use Rattle.t3_store.specs.Value.{Value, Objects, PropMap, Tads, Text, Items, Vector, Table, holder_at}
+use Rattle.t3_store.specs.Value.{Value, Objects, Tads, Text, Items, Vector, Table, holder_at}
+use Rattle.t3_tadsobj.specs.Props.{PropMap}
 use Rattle.t3_store.specs.Store.{StoreValue, either, value_at}
 use Rattle.t3_store.specs.Invariant.{HoldsOfEach}
 use Rattle.t3_kinds.specs.Search.{order_of, here_or_behind, searched, property_of}

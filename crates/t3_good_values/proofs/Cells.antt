@@ -13,7 +13,10 @@ use Rattle.t3_undo.specs.declared.cell.Cell.TheVariants as cells
 use Rattle.t3_undo.specs.declared.key.Key.{Key}
 use Rattle.t3_tables.specs.declared.pair.Pair.{Pair}
 use Rattle.t3_tables.specs.Order.{with_value}
-use Rattle.t3_store.specs.Value.{Value, PropMap, Tads, Text, Items, Vector, Table, with_prop, with_element, set_item, set_entry, with_cell, value_under, without_prop, without_element, without_entry, without_key, without_cell}
+use Rattle.t3_store.specs.Value.{Value, Tads, Text, Items, Vector, Table, with_cell, without_cell}
+use Rattle.t3_tadsobj.specs.Props.{PropMap, with_prop, without_prop}
+use Rattle.t3_lists.specs.Items.{with_element, set_item, without_element}
+use Rattle.t3_tables.specs.Entries.{set_entry, value_under, without_entry, without_key}
 use Rattle.t3_store.proofs.Rows.{same, same-is}
 use Rattle.t3_snapshot.specs.Good.{IsGoodKey, IsGoodPair, IsGoodProp, HasGoodProps, HasGoodParts}
 use Rattle.t3_snapshot.specs.State.{named_by_key, named_as_keys, can_be_key}

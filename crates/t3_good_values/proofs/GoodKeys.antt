@@ -1,7 +1,6 @@
 -- The keys that good values are can stand in the tables of a store. Other crates may use key_of-good.
-use Rattle.std.proofs.Common.{◌≡◌, ◌<◌, ◌≤◌, ◌^◌, inl, inr, refl, ℕ, Bool, true, false, List, Option, Some, None, Result, Ok, Err, if◌then◌else◌}
+use Rattle.std.proofs.Common.{◌≡◌, ◌<◌, ◌≤◌, ◌^◌, inl, inr, refl, ℕ, Bool, true, false, List, Option, Some, None, Result, Ok, Err, if◌then◌else◌, ⊎_elim}
 use Rattle.std.specs.Prelude.{◌⊎◌, IsTrue, is_some}
-use Rattle.std.proofs.Common.{⊎_elim}
 use Rattle.std.specs.FinMap.{get}
 use Rattle.t3_holder.specs.declared.holder.Holder.{Holder}
 use Rattle.t3_holder.specs.declared.holder.Holder.TheVariants as holders

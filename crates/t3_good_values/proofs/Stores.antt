@@ -7,7 +7,8 @@ use Rattle.t3_holder.specs.declared.holder.Holder.{Holder}
 use Rattle.t3_holder.specs.declared.holder.Holder.TheVariants as holders
 use Rattle.t3_undo.specs.declared.cell.Cell.{Cell}
 use Rattle.t3_undo.specs.declared.cell.Cell.TheVariants as cells
-use Rattle.t3_store.specs.Value.{Value, Objects, units_of, cell_units, holder_at, with_cell, without_cell}
+use Rattle.t3_store.specs.Value.{Value, Objects, units_of, holder_at, with_cell, without_cell}
+use Rattle.t3_undo.specs.Units.{cell_units}
 use Rattle.t3_store.specs.Store.{StoreValue, Mark, value_at, is_persistent, is_full_with, no_number, next_number, with_object, with_value, noted, set_cell, taken, written, created_in, newest_copy, started, saved, undone, replaced}
 use Rattle.t3_store.specs.declared.limits.StoreLimits.{StoreLimits}
 use Rattle.t3_store.proofs.SetCells.{left_by, changed-left}

@@ -11,7 +11,8 @@ use Rattle.t3_undo.specs.declared.key.Key.{Key}
 use Rattle.t3_undo.specs.declared.key.Key.TheVariants as keys
 use Rattle.t3_tables.specs.declared.pair.Pair.{Pair}
 use Rattle.t3_pools.specs.Pool.{Pool}
-use Rattle.t3_store.specs.Value.{Value, Tads, Text, Items, Vector, Table, value_under}
+use Rattle.t3_store.specs.Value.{Value, Tads, Text, Items, Vector, Table}
+use Rattle.t3_tables.specs.Entries.{value_under}
 use Rattle.t3_store.specs.Store.{StoreValue, value_at}
 use Rattle.t3_ops.specs.declared.fault.Fault.{Fault}
 use Rattle.t3_ops.specs.declared.fault.Fault.TheVariants.{TextLong, ListLong}

@@ -18,7 +18,8 @@ use Rattle.t3_methods.specs.declared.instr.PushCode.{PushCode}
 use Rattle.t3_methods.specs.declared.instr.PushCode.TheVariants as push
 use Rattle.t3_methods.specs.Answers.{Stands}
 use Rattle.t3_tadsobj.specs.declared.props.PropValue.{PropValue}
-use Rattle.t3_store.specs.Value.{Value, Objects, new_value, pair_of, supers_of}
+use Rattle.t3_store.specs.Value.{Value, Objects, new_value, supers_of}
+use Rattle.t3_tadsobj.specs.Props.{pair_of}
 use Rattle.t3_store.specs.Store.{StoreValue, AreBelow, either}
 use Rattle.t3_store.specs.Whole.{IsWhole, AreThere, AreApart, HasGivenNumbers, supers_in, supers_among}
 use Rattle.t3_store.specs.Invariant.{HoldsOfEach}

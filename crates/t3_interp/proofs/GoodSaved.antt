@@ -7,7 +7,8 @@ use Rattle.std.specs.List.{AllByRecursion}
 use Rattle.t3_holder.specs.declared.holder.Holder.{Holder}
 use Rattle.t3_holder.specs.declared.holder.Holder.TheVariants as holders
 use Rattle.t3_tables.specs.declared.pair.Pair.{Pair}
-use Rattle.t3_store.specs.Value.{Value, Objects, PropMap, Tads, Text, Items, Vector, Table}
+use Rattle.t3_store.specs.Value.{Value, Objects, Tads, Text, Items, Vector, Table}
+use Rattle.t3_tadsobj.specs.Props.{PropMap}
 use Rattle.t3_store.specs.Invariant.{HoldsOfEach}
 use Rattle.t3_snapshot.specs.Good.{IsGoodPair, HasGoodProps, IsGoodProp, HasGoodParts}
 use Rattle.t3_snapshot.specs.State.{trimmed, trimmed_holder, trimmed_value, trimmed_props, trimmed_entry, trimmed_entries, keeps_key}

@@ -4,7 +4,8 @@ use Rattle.std.proofs.Common.{ℕ, ◌+◌, nat_le, ◌&&◌, ◌||◌, Bool, tr
 use Rattle.t3_holder.specs.declared.holder.Holder.{Holder}
 use Rattle.t3_holder.specs.declared.holder.Holder.TheVariants as holders
 use Rattle.t3_undo.specs.declared.cell.Cell.{Cell}
-use Rattle.t3_store.specs.Value.{Value, Objects, holder_at, cell_units, units_of}
+use Rattle.t3_store.specs.Value.{Value, Objects, holder_at, units_of}
+use Rattle.t3_undo.specs.Units.{cell_units}
 use Rattle.t3_store.specs.Store.{StoreValue, value_at, is_full_with, no_number, next_number, with_object, set_cell, taken, written, created_in, replaced}
 use Rattle.t3_ops.specs.declared.fault.Fault.{Fault}
 use Rattle.t3_ops.specs.declared.fault.Fault.TheVariants as faulty

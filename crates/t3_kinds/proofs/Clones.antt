@@ -8,7 +8,8 @@ use Rattle.std.specs.Ordering.{nat_cmp}
 use Rattle.std.specs.FinMap.{get, entries, from_entries, get-from_entries, get-entries, same_map, nat_cmp-IsAntisymmetric}
 use Rattle.std.proofs.lemmas.Option.{same_Some, none-some}
 use Rattle.t3_tadsobj.specs.declared.props.PropValue.{PropValue}
-use Rattle.t3_store.specs.Value.{Value, Tads, Text, Items, Vector, Table, PropMap, supers_of, is_class_at, props_at, pair_of, HasFittingLength}
+use Rattle.t3_store.specs.Value.{Value, Tads, Text, Items, Vector, Table, supers_of, is_class_at, props_at, HasFittingLength}
+use Rattle.t3_tadsobj.specs.Props.{PropMap, pair_of}
 use Rattle.t3_store.specs.Store.{StoreValue, either}
 use Rattle.t3_store.specs.Whole.{AreThere, HasSupersIn, supers_in}
 use Rattle.t3_ops.specs.declared.fault.Fault.{Fault}

@@ -2,7 +2,7 @@
 ghost use Rattle.std.specs.Prelude.{◌≡◌, ◌++◌, [], ◌+◌, ◌<◌, ◌≤◌, ◌^◌, true, Ok, IfOk, OnOk, length, map};
 ghost use Rattle.t3_tables.specs.declared.pair.Pair.{Pair};
 ghost use Rattle.t3_kinds.specs.Methods.{table_deed};
-ghost use Rattle.t3_store.specs.Value.{value_under};
+ghost use Rattle.t3_tables.specs.Entries.{value_under};
 ghost use Rattle.t3_ops.specs.Containers.{table_pairs};
 ghost use Rattle.t3_kinds.specs.TableMethods.{table_of, is_key_present_of, remove_entry_of, removed_entry, entry_count_of, value_list_of, key_list_of, listed_keys, have_fitting_texts, has_fitting_text, key_text, key_value, key_values, key_strings, with_string, next_after, number_after, set_default_of};
 ghost use Rattle.t3_kinds.specs.Inner.Deeds.{changes_of, Comes};

@@ -14,7 +14,8 @@ use Rattle.std.specs.Map.{keys_of, lookup, set_value}
 use Rattle.std.specs.FinMap.{get, insert, contains_key}
 use Rattle.t3_holder.specs.declared.holder.Holder.{Holder}
 use Rattle.t3_undo.specs.Cell.{cell_cmp_total}
-use Rattle.t3_undo.specs.Content.{Present, with_place, shown, is_form}
+use Rattle.t3_undo.specs.Content.{with_place, shown, is_form}
+use Rattle.t3_undo.specs.Present.{Present}
 use Rattle.t3_undo.specs.Objects.{set_at}
 use Rattle.t3_undo.specs.Slots as slots
 use Rattle.t3_undo.specs.declared.cell.Cell.{Cell}
@@ -25,7 +26,7 @@ use Rattle.t3_undo.proofs.SlotLists.{same, seen, get-parts_of, parts_of-set_valu
 use Rattle.t3_lists.specs.Vector.{content_of, bare, numbered, parts_in, places_from, values_of, stamps_of, is_element, HasPlaceBelow}
 use Rattle.t3_undo.specs.declared.place.Place.{Place}
 use Rattle.t3_lists.proofs.ElementStamps as stamped
-use Rattle.t3_lists.specs.declared.elements.Element.{Element}
+use Rattle.t3_undo.specs.StampedValue.{ValuePlace}
 use Rattle.t3_lists.specs.Inner.Elements.{index_of, content_found, content_in, element_of, exchanged, with_next, with_next_stamp, stamp_in, restamped, AreCounted}
 
 abbrev Elements : Type 0
@@ -336,37 +337,37 @@ counted-next elements present (Some index) counted few = record {
     by false = refl
 
 -- an element with another stamp, or another value
-pub values-set : (elements : List Element) (index t : ℕ) (e : Element) → index < length elements → e ≡ get_or elements index e
+pub values-set : (elements : List ValuePlace) (index t : ℕ) (e : ValuePlace) → index < length elements → e ≡ get_or elements index e
     → values_of (slice_set elements index (record e { stamp = t })) ≡ values_of elements
 values-set [] index t e h is = absurd (omega arith)
 values-set (x ∷ elements) zero t e h is = λ i. (is i).value ∷ values_of elements
 values-set (x ∷ elements) (suc index) t e h is = ap (λ xs. x.value ∷ xs) (values-set elements index t e (omega arith) is)
 
-pub stamps-set : (elements : List Element) (index t : ℕ) (e : Element) → stamps_of (slice_set elements index (record e { stamp = t }))
+pub stamps-set : (elements : List ValuePlace) (index t : ℕ) (e : ValuePlace) → stamps_of (slice_set elements index (record e { stamp = t }))
     ≡ slice_set (stamps_of elements) index t
 stamps-set [] index t e = refl
 stamps-set (x ∷ elements) zero t e = refl
 stamps-set (x ∷ elements) (suc index) t e = ap (λ xs. x.stamp ∷ xs) (stamps-set elements index t e)
 
-pub values-put : (elements : List Element) (index : ℕ) (o : Option Holder) (e : Element)
+pub values-put : (elements : List ValuePlace) (index : ℕ) (o : Option Holder) (e : ValuePlace)
     → values_of (slice_set elements index (record e { value = o })) ≡ slice_set (values_of elements) index o
 values-put [] index o e = refl
 values-put (x ∷ elements) zero o e = refl
 values-put (x ∷ elements) (suc index) o e = ap (λ xs. x.value ∷ xs) (values-put elements index o e)
 
-pub stamps-put : (elements : List Element) (index : ℕ) (o : Option Holder) (e : Element) → index < length elements → e ≡ get_or elements index e
+pub stamps-put : (elements : List ValuePlace) (index : ℕ) (o : Option Holder) (e : ValuePlace) → index < length elements → e ≡ get_or elements index e
     → stamps_of (slice_set elements index (record e { value = o })) ≡ stamps_of elements
 stamps-put [] index o e h is = absurd (omega arith)
 stamps-put (x ∷ elements) zero o e h is = λ i. (is i).stamp ∷ stamps_of elements
 stamps-put (x ∷ elements) (suc index) o e h is = ap (λ xs. x.stamp ∷ xs) (stamps-put elements index o e (omega arith) is)
 
-pub value-at : (elements : List Element) (index : ℕ) (e : Element) → index < length elements → e ≡ get_or elements index e
+pub value-at : (elements : List ValuePlace) (index : ℕ) (e : ValuePlace) → index < length elements → e ≡ get_or elements index e
     → slice_get (values_of elements) index ≡ Some e.value
 value-at [] index e h is = absurd (omega arith)
 value-at (x ∷ elements) zero e h is = λ i. Some (sym is i).value
 value-at (x ∷ elements) (suc index) e h is = value-at elements index e (omega arith) is
 
-pub value-past : (elements : List Element) (index : ℕ) → length elements ≤ index → slice_get (values_of elements) index ≡ None
+pub value-past : (elements : List ValuePlace) (index : ℕ) → length elements ≤ index → slice_get (values_of elements) index ≡ None
 value-past [] index h = refl
 value-past (x ∷ elements) zero h = absurd (omega arith)
 value-past (x ∷ elements) (suc index) h = value-past elements index (omega arith)

@@ -9,7 +9,9 @@ use Rattle.std.specs.FinMap.Entries.{by_order}
 use Rattle.std.proofs.lemmas.Option.{slice_get_past}
 use Rattle.t3_holder.specs.declared.holder.Holder.{Holder}
 use Rattle.t3_undo.specs.Cell.{cell_cmp, cell_cmp_total, cell_cmp-IsAntisymmetric}
-use Rattle.t3_undo.specs.Content.{Present, shown, places_for}
+use Rattle.t3_undo.specs.Content.{shown, places_for}
+use Rattle.t3_undo.specs.Present.{Present}
+use Rattle.t3_undo.specs.Present as presents
 use Rattle.t3_undo.specs.Objects.{set_at}
 use Rattle.t3_undo.specs.Slots as slots
 use Rattle.t3_undo.specs.declared.cell.Cell.{Cell}
@@ -19,7 +21,7 @@ use Rattle.t3_undo.proofs.Maps.{set_at-absent, set_at-back, entries-empty}
 use Rattle.t3_undo.proofs.SlotLists.{seen, get-parts_of, parts_of-add, zero_if, get-places_for}
 use Rattle.t3_lists.specs.Vector.{bare, numbered, parts_in, parts_of, places_of, values_of, stamps_of, item_in, items_of, filled, HasPlaceBelow}
 use Rattle.t3_lists.specs.Inner.Elements.{content_found, content_in, index_of, stamp_in, present_of, AreCounted}
-use Rattle.t3_lists.specs.declared.elements.Element.{Element}
+use Rattle.t3_undo.specs.StampedValue.{ValuePlace}
 use Rattle.t3_lists.proofs.ElementStamps as stamped
 use Rattle.t3_lists.proofs.ElementLists.{lookup-below, numbered-push, new-cell, parts-exchanged, found, is-found, not-found, get-parts, contains-places, stamp-there, placed}
 
@@ -31,7 +33,7 @@ abbrev present_from : ℕ → Elements → List (Cell × Present)
 present_from number [] = []
 present_from number (None ∷ elements) = present_from (suc number) elements
 present_from number (Some value ∷ elements) =
-    (cells.Elem number, record { tick = None; value = value }) ∷ present_from (suc number) elements
+    (cells.Elem number, presents.Value None value) ∷ present_from (suc number) elements
 
 -- a lower element comes first
 put-first : (n number : ℕ) (p : Present) (elements : Elements) → n < number
@@ -40,9 +42,9 @@ put-first n number p [] h = refl
 put-first n number p (None ∷ elements) h = put-first n (suc number) p elements (omega arith)
 put-first n number p (Some value ∷ elements) h =
     ap (λ r. by_order (ordering_then r Equal)
-    ((cells.Elem n, p) ∷ (cells.Elem number, record { tick = None; value = value }) ∷ present_from (suc number) elements)
+    ((cells.Elem n, p) ∷ (cells.Elem number, presents.Value None value) ∷ present_from (suc number) elements)
     ((cells.Elem number, p) ∷ present_from (suc number) elements)
-    ((cells.Elem number, record { tick = None; value = value }) ∷ put cell_cmp (cells.Elem n) p (present_from (suc number) elements)))
+    ((cells.Elem number, presents.Value None value) ∷ put cell_cmp (cells.Elem n) p (present_from (suc number) elements)))
     (sym (nat_cmp_is n number Less h))
 
 entries-numbered : (number : ℕ) (elements : Elements) → entries (slots.parts_of (numbered number elements)) ≡ present_from number elements
@@ -55,9 +57,9 @@ entries-numbered number (None ∷ elements) =
     ∙ entries-numbered (suc number) elements
 entries-numbered number (Some value ∷ elements) =
     entries-insert cell_cmp_total (slots.parts_of (numbered (suc number) elements)) (cells.Elem number)
-    (record { tick = None; value = value })
-    ∙ ap (put cell_cmp (cells.Elem number) (record { tick = None; value = value })) (entries-numbered (suc number) elements)
-    ∙ put-first number (suc number) (record { tick = None; value = value }) elements (omega arith)
+    (presents.Value None value)
+    ∙ ap (put cell_cmp (cells.Elem number) (presents.Value None value)) (entries-numbered (suc number) elements)
+    ∙ put-first number (suc number) (presents.Value None value) elements (omega arith)
 
 -- the values of the present elements
 abbrev pub values : Elements → List Holder
@@ -166,12 +168,12 @@ filled-pop items item =
         (slice_get_past (map (λ x. Some x) items) (length items) (let same = length-map items in omega (arith, same)))
 
 -- there are as many stamps as values
-pub length-stamps : (elements : List Element) → length (stamps_of elements) ≡ length (values_of elements)
+pub length-stamps : (elements : List ValuePlace) → length (stamps_of elements) ≡ length (values_of elements)
 length-stamps [] = refl
 length-stamps (element ∷ elements) = ap (λ n. suc n) (length-stamps elements)
 
 -- where no element is missing, up to the next one each can be given a place
-pub place-below : (elements : List Element) (items : List Holder) (index : ℕ) → parts_of elements ≡ filled items → index ≤ length items
+pub place-below : (elements : List ValuePlace) (items : List Holder) (index : ℕ) → parts_of elements ≡ filled items → index ≤ length items
     → HasPlaceBelow (places_of elements) (cells.Elem (suc index))
 place-below elements items index whole h = (omega arith, below)
   where
@@ -193,7 +195,7 @@ place-below elements items index whole h = (omega arith, below)
         contains-places (stamps_of elements) (cells.Elem (suc lower)) ∙ stamp-there (stamps_of elements) lower (omega (arith, within, same))
 
 -- a copy's elements
-pub values-afresh : (elements : List Element) → values_of (present_of elements) ≡ filter is_some (values_of elements)
+pub values-afresh : (elements : List ValuePlace) → values_of (present_of elements) ≡ filter is_some (values_of elements)
 values-afresh [] = refl
 values-afresh (element ∷ elements) = by element.value (values-afresh elements)
   where
@@ -204,10 +206,10 @@ values-afresh (element ∷ elements) = by element.value (values-afresh elements)
     by (Some value) rest = ap (λ xs. Some value ∷ xs) rest
 
 -- each stamp of these is 0
-abbrev AllZero : List Element → Type 0
+abbrev AllZero : List ValuePlace → Type 0
 AllZero elements = (index : ℕ) → slice_get (stamps_of elements) index ≡ zero_if (is_some (slice_get (values_of elements) index))
 
-all-zero : (elements : List Element) → AllZero (present_of elements)
+all-zero : (elements : List ValuePlace) → AllZero (present_of elements)
 all-zero [] index = refl
 all-zero (element ∷ elements) index = by element.value (all-zero elements) index
   where
@@ -224,7 +226,7 @@ stands-at (item ∷ items) zero = refl
 stands-at (item ∷ items) (suc index) = stands-at items index
 
 -- and its places: a stamp 0 for each item
-pub places-afresh : (elements : List Element) (items : List Holder) → values_of (present_of elements) ≡ map (λ x. Some x) items
+pub places-afresh : (elements : List ValuePlace) (items : List Holder) → values_of (present_of elements) ≡ map (λ x. Some x) items
     → places_of (present_of elements) ≡ places_for (filled items)
 places-afresh elements items e =
     same_map cell_cmp_total cell_cmp-IsAntisymmetric _ _ (λ q.
@@ -237,7 +239,7 @@ places-afresh elements items e =
     by None = refl
     by (Some index) = all-zero elements index ∙ (λ i. zero_if (is_some (slice_get (e i) index))) ∙ ap zero_if (stands-at items index)
 
-pub places-copy : (elements : List Element) (items : List Holder) → parts_of elements ≡ filled items
+pub places-copy : (elements : List ValuePlace) (items : List Holder) → parts_of elements ≡ filled items
     → places_of (present_of elements) ≡ places_for (parts_of elements)
 places-copy elements items whole =
     places-afresh elements (values (values_of elements))
@@ -245,14 +247,14 @@ places-copy elements items whole =
     ∙ ap (λ items. places_for (filled items)) (values-whole (values_of elements) items whole) ∙ ap places_for (sym whole)
 
 -- an element has a place where there is a value or none, and nowhere else
-pub found-stamp : (elements : List Element) (index : Option ℕ) → is_some (found (values_of elements) index) ≡ true
+pub found-stamp : (elements : List ValuePlace) (index : Option ℕ) → is_some (found (values_of elements) index) ≡ true
     → is_some (stamp_in (stamps_of elements) index) ≡ true
 found-stamp elements None there = there
 found-stamp [] (Some index) there = absurd (true≢false (sym there))
 found-stamp (element ∷ elements) (Some zero) there = refl
 found-stamp (element ∷ elements) (Some (suc index)) there = found-stamp elements (Some index) there
 
-pub stamp-found : (elements : List Element) (index : Option ℕ) → is_some (stamp_in (stamps_of elements) index) ≡ true
+pub stamp-found : (elements : List ValuePlace) (index : Option ℕ) → is_some (stamp_in (stamps_of elements) index) ≡ true
     → is_some (found (values_of elements) index) ≡ true
 stamp-found elements None there = there
 stamp-found [] (Some index) there = absurd (true≢false (sym there))

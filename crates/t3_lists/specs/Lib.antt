@@ -1,3 +1,4 @@
 pub mod Vector
+pub mod Items
 pub mod ItemLaw
 pub mod Inner

@@ -3,14 +3,15 @@ use Rattle.std.specs.Prelude.{◌≡◌, ℕ, suc, ◌<◌, Bool, true, false, L
 use Rattle.std.specs.List.{filter_map}
 use Rattle.std.specs.FinMap.{entries, empty, insert, contains_key}
 use Rattle.t3_holder.specs.declared.holder.Holder.{Holder}
-use Rattle.t3_undo.specs.Content.{Present, Parts, Places}
+use Rattle.t3_undo.specs.Content.{Parts, Places}
+use Rattle.t3_undo.specs.Present.{Present, value_in}
 use Rattle.t3_undo.specs.Slots as slots
 use Rattle.t3_undo.specs.declared.cell.Cell.{Cell}
 use Rattle.t3_undo.specs.declared.cell.Cell.TheVariants as cells
 use Rattle.t3_undo.specs.declared.content.Content.{Content}
 use Rattle.t3_undo.specs.declared.content.Content.TheVariants as contents
 use Rattle.t3_undo.specs.declared.place.Place.{Place}
-use Rattle.t3_lists.specs.declared.elements.Element.{Element}
+use Rattle.t3_undo.specs.StampedValue.{ValuePlace}
 
 -- what stands in the cell of an element
 abbrev pub content_of : Option Holder → Content
@@ -31,15 +32,15 @@ unfoldable pub parts_in : List (Option Holder) → Parts
 parts_in elements = slots.parts_of (numbered 1 elements)
 
 -- the values of a vector's elements
-abbrev pub values_of : List Element → List (Option Holder)
+abbrev pub values_of : List ValuePlace → List (Option Holder)
 values_of elements = map (λ element. element.value) elements
 
 -- and their stamps
-abbrev pub stamps_of : List Element → List ℕ
+abbrev pub stamps_of : List ValuePlace → List ℕ
 stamps_of elements = map (λ element. element.stamp) elements
 
 -- the present elements as cells
-abbrev pub parts_of : List Element → Parts
+abbrev pub parts_of : List ValuePlace → Parts
 parts_of elements = parts_in (values_of elements)
 
 -- places of elements with these stamps, the first under this number
@@ -48,12 +49,12 @@ places_from number [] = empty
 places_from number (stamp ∷ stamps) = insert (places_from (suc number) stamps) (cells.Elem number) stamp
 
 -- the places of all elements
-abbrev pub places_of : List Element → Places
+abbrev pub places_of : List ValuePlace → Places
 places_of elements = places_from 1 (stamps_of elements)
 
 -- the value of an element
 abbrev pub item_in : Cell → Present → Option Holder
-item_in (cells.Elem number) present = Some present.value
+item_in (cells.Elem number) present = value_in present
 item_in (cells.Prop _) present = None
 item_in (cells.Key _) present = None
 item_in cells.Default present = None

@@ -5,16 +5,8 @@ ghost use Rattle.t3_lists.specs.Vector.{content_of, values_of, stamps_of};
 ghost use Rattle.t3_lists.specs.Inner.Elements.{index_of, content_in, exchanged, with_next, with_next_stamp, stamp_in, restamped, afresh, present_of, is_needed, purged};
 
 use std::alloc::Global;
-use std::mem;
 use t3_holder::{Holder, NoMemory};
-use t3_undo::{Cell, Content};
-
-/// An element's place: a stamp, and the element's value if it isn't missing.
-#[derive(Clone, Copy, Debug)]
-pub struct Element {
-    pub(crate) stamp: u64,
-    pub(crate) value: Option<Holder>,
-}
+use t3_undo::{Cell, Content, StampedValue};
 
 /// Where an element stands among the elements. `None` where the cell isn't one.
 pub(crate) fn index_of(cell: &Cell) -> Option<usize>
@@ -38,17 +30,17 @@ fn content_of(element: Option<Holder>) -> Content
 }
 
 /// What stands in a cell.
-pub(crate) fn content_in(elements: &[Element], cell: &Cell) -> Content
+pub(crate) fn content_in(elements: &[StampedValue], cell: &Cell) -> Content
     ensures { result ≡ content_in (values_of elements.now) (index_of cell.now) }
 {
     match index_of(cell) {
-        Some(index) if index < elements.len() => content_of(elements[index].value),
+        Some(index) if index < elements.len() => content_of(elements[index].value()),
         _ => Content::Absent,
     }
 }
 
 /// Sets the element of a cell, and hands out what stood there.
-pub(crate) fn exchange(elements: &mut Vec<Element>, cell: &Cell, content: Content) -> Content
+pub(crate) fn exchange(elements: &mut Vec<StampedValue>, cell: &Cell, content: Content) -> Content
     ensures values { values_of elements.new.items
         ≡ exchanged (values_of elements.old.items) (index_of cell.now) content }
     ensures stamps { stamps_of elements.new.items ≡ stamps_of elements.old.items }
@@ -56,7 +48,7 @@ pub(crate) fn exchange(elements: &mut Vec<Element>, cell: &Cell, content: Conten
 {
     match index_of(cell) {
         Some(index) if index < elements.len() => {
-            content_of(mem::replace(&mut elements[index].value, content.value()))
+            content_of(elements[index].replace(content.value()))
         }
         _ => Content::Absent,
     }
@@ -72,8 +64,8 @@ pub(crate) fn one_if_present(content: &Content) -> u32
 /// The present elements alone, with stamp 0.
 pub(crate) fn present_elements(
     alloc: Global,
-    elements: &[Element],
-) -> Result<Vec<Element>, NoMemory>
+    elements: &[StampedValue],
+) -> Result<Vec<StampedValue>, NoMemory>
     ensures { IfOk result (λ present. present.items ≡ present_of elements.now) }
 {
     let present = elements.iter().filter_map(|element| afresh(*element));
@@ -81,20 +73,17 @@ pub(crate) fn present_elements(
 }
 
 /// An element that isn't missing, with stamp 0.
-fn afresh(element: Element) -> Option<Element>
+fn afresh(element: StampedValue) -> Option<StampedValue>
     ensures { result ≡ afresh element }
 {
-    match element.value {
-        Some(value) => Some(Element {
-            stamp: 0,
-            value: Some(value),
-        }),
+    match element.value() {
+        Some(value) => Some(StampedValue::new(0, Some(value))),
         None => None,
     }
 }
 
 /// One more element, which is missing, where the cell is the next one.
-pub(crate) fn add_missing(elements: &mut Vec<Element>, cell: &Cell) -> Result<(), NoMemory>
+pub(crate) fn add_missing(elements: &mut Vec<StampedValue>, cell: &Cell) -> Result<(), NoMemory>
     ensures values { OnOk result (values_of elements.new.items
         ≡ with_next (values_of elements.old.items) (index_of cell.now)) }
     ensures stamps { OnOk result (stamps_of elements.new.items
@@ -103,27 +92,24 @@ pub(crate) fn add_missing(elements: &mut Vec<Element>, cell: &Cell) -> Result<()
     ensures err { OnErr result (elements.new.items ≡ elements.old.items) }
 {
     match index_of(cell) {
-        Some(index) if index == elements.len() => Ok(elements.push(Element {
-            stamp: 0,
-            value: None,
-        })?),
+        Some(index) if index == elements.len() => { Ok(elements.push(StampedValue::new(0, None))?) }
         _ => Ok(()),
     }
 }
 
 /// The stamp of an element's place.
-pub(crate) fn stamp_at(elements: &[Element], cell: &Cell) -> u64
+pub(crate) fn stamp_at(elements: &[StampedValue], cell: &Cell) -> u64
     requires { IsSome (stamp_in (stamps_of elements.now) (index_of cell.now)) }
     ensures { stamp_in (stamps_of elements.now) (index_of cell.now) ≡ Some result }
 {
     match index_of(cell) {
-        Some(index) if index < elements.len() => elements[index].stamp,
+        Some(index) if index < elements.len() => elements[index].stamp(),
         _ => 0,
     }
 }
 
 /// Gives an element's place another stamp.
-pub(crate) fn set_stamp(elements: &mut Vec<Element>, cell: &Cell, stamp: u64)
+pub(crate) fn set_stamp(elements: &mut Vec<StampedValue>, cell: &Cell, stamp: u64)
     requires { IsSome (stamp_in (stamps_of elements.old.items) (index_of cell.now)) }
     ensures values { values_of elements.new.items ≡ values_of elements.old.items }
     ensures stamps { stamps_of elements.new.items
@@ -131,13 +117,13 @@ pub(crate) fn set_stamp(elements: &mut Vec<Element>, cell: &Cell, stamp: u64)
 {
     if let Some(index) = index_of(cell) {
         if index < elements.len() {
-            elements[index].stamp = stamp;
+            elements[index].set_stamp(stamp);
         }
     }
 }
 
 /// Takes away the elements after the last one that is needed.
-pub(crate) fn purge(elements: &mut Vec<Element>, oldest: u64)
+pub(crate) fn purge(elements: &mut Vec<StampedValue>, oldest: u64)
     ensures { elements.new.items ≡ purged oldest elements.old.items }
 {
     let left = needed_length(elements, oldest);
@@ -145,7 +131,7 @@ pub(crate) fn purge(elements: &mut Vec<Element>, oldest: u64)
 }
 
 /// How many elements there are up to the last one that is needed.
-fn needed_length(elements: &[Element], oldest: u64) -> usize
+fn needed_length(elements: &[StampedValue], oldest: u64) -> usize
     ensures { take result elements.now ≡ purged oldest elements.now }
 {
     let mut left = elements.len();
@@ -159,8 +145,8 @@ fn needed_length(elements: &[Element], oldest: u64) -> usize
 }
 
 /// Whether an element isn't missing, or its stamp isn't below this one.
-fn is_needed(element: &Element, oldest: u64) -> bool
+fn is_needed(element: &StampedValue, oldest: u64) -> bool
     ensures { result ≡ is_needed oldest element.now }
 {
-    element.value.is_some() || element.stamp >= oldest
+    element.is_present() || element.stamp() >= oldest
 }

@@ -21,7 +21,6 @@ mod list;
 mod text;
 mod vector;
 
-pub use elements::Element;
 pub use holders::Holders;
 pub use law::item_law;
 pub use list::List;

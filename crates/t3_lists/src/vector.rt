@@ -6,28 +6,27 @@ ghost use Rattle.t3_undo.specs.Objects.{set_at};
 ghost use Rattle.t3_lists.specs.Vector.{parts_of, places_of, items_of, filled, is_element, IsWhole};
 
 use crate::elements::{
-    Element, add_missing, content_in, exchange, one_if_present, present_elements, purge, set_stamp,
-    stamp_at,
+    add_missing, content_in, exchange, one_if_present, present_elements, purge, set_stamp, stamp_at,
 };
 use std::alloc::Global;
 use std::marker::Model;
 use t3_holder::{Holder, NoMemory};
-use t3_undo::{Cell, Content, Metaclass};
+use t3_undo::{Cell, Content, Metaclass, StampedValue};
 
 /// A vector: elements, numbered from 1, which can be set. Contracts see the elements that have a place,
 /// each with its stamp and its value, or without a value where it is missing.
 #[derive(Drop)]
 pub struct Vector {
-    elements: Vec<Element>,
+    elements: Vec<StampedValue>,
     present: u32,
 }
 
 impl Model for Vector {
     ghost use Rattle.std.specs.Prelude.{List};
-    ghost use Rattle.t3_lists.specs.declared.elements.Element.{Element};
+    ghost use Rattle.t3_undo.specs.StampedValue.{ValuePlace};
     ghost use Rattle.t3_lists.specs.Vector.{values_of};
 
-    ghost Value = { List Element };
+    ghost Value = { List ValuePlace };
 
     ghost view = { λ v. v.elements.items };
 
@@ -89,6 +88,7 @@ impl Metaclass for Vector {
         ensures parts { parts_of self.new ≡ set_at (parts_of self.old) cell.now (shown content) }
         ensures places { places_of self.new ≡ places_of self.old }
         ensures old { shown result ≡ get (parts_of self.old) cell.now }
+        ensures back { set_at (parts_of self.new) cell.now (shown result) ≡ parts_of self.old }
         ensures formed { IsTrue (is_form cell.now (shown result)) }
         ensures only_elements { IsTrue (is_element cell.now) }
     {

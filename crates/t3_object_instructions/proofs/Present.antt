@@ -6,7 +6,8 @@ use Rattle.std.proofs.lemmas.Option.{none-some, same_Some}
 use Rattle.t3_holder.specs.declared.holder.Holder.{Holder}
 use Rattle.t3_undo.specs.declared.cell.Cell.{Cell}
 use Rattle.t3_undo.specs.declared.cell.Cell.TheVariants.{Elem}
-use Rattle.t3_store.specs.Value.{Value, Tads, Text, Items, Vector, Table, holder_at, cell_units, length_of}
+use Rattle.t3_store.specs.Value.{Value, Tads, Text, Items, Vector, Table, holder_at, length_of}
+use Rattle.t3_undo.specs.Units.{cell_units}
 use Rattle.t3_store.specs.Store.{StoreValue, value_at, set_cell, written, is_full_with}
 use Rattle.t3_ops.specs.declared.fault.Fault.{Fault}
 use Rattle.t3_ops.specs.declared.builtins.PureBuiltin.{PureBuiltin}

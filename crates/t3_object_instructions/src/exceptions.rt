@@ -1,6 +1,7 @@
 //! The objects that faults throw, and the classes by which an object is caught.
 ghost use Rattle.std.specs.Prelude.{◌≡◌, false, [], ◌∷◌, map, IfOk};
-ghost use Rattle.t3_store.specs.Value.{new_value, pair_of, HasFittingLength};
+ghost use Rattle.t3_store.specs.Value.{new_value, HasFittingLength};
+ghost use Rattle.t3_tadsobj.specs.Props.{pair_of};
 ghost use Rattle.t3_store.specs.Whole.{HasSupersIn, supers_for};
 ghost use Rattle.t3_object_instructions.specs.Search.{is_persistent_tads as is_persistent_tads_in};
 ghost use Rattle.t3_object_instructions.specs.Exceptions.{exception_of, exception_supers, numbered, classes_of as classes_in};

@@ -3,11 +3,12 @@ use Rattle.std.proofs.Common.{◌≡◌, ◌∙◌, ap, sym, refl, ℕ, zero, su
 use Rattle.std.specs.FinMap.{get, same_map}
 use Rattle.t3_holder.specs.declared.holder.Holder.{Holder}
 use Rattle.t3_undo.specs.Cell.{cell_cmp_total, cell_cmp-IsAntisymmetric}
-use Rattle.t3_undo.specs.Content.{Present, shown}
+use Rattle.t3_undo.specs.Content.{shown}
+use Rattle.t3_undo.specs.Present.{Present}
 use Rattle.t3_undo.specs.declared.cell.Cell.TheVariants as cells
 use Rattle.t3_lists.specs.Vector.{values_of, parts_of, items_of, IsWhole}
 use Rattle.t3_lists.specs.Inner.Elements.{index_of, content_found, content_in}
-use Rattle.t3_lists.specs.declared.elements.Element.{Element}
+use Rattle.t3_undo.specs.StampedValue.{ValuePlace}
 use Rattle.t3_lists.proofs.ElementLists.{get-parts}
 use Rattle.t3_lists.proofs.Items.{values, items-parts}
 
@@ -38,7 +39,7 @@ first-ones (None ∷ elements) all index = by (values elements) refl
     by (item ∷ items) some = absurd (true≢false (sym (all zero (let more = ap length some in omega (arith, more)))))
 
 -- as many elements as are present, each of them present
-pub first-whole : (vector : List Element)
+pub first-whole : (vector : List ValuePlace)
     → ((index : ℕ) → index < length (items_of (parts_of vector)) → is_some (get (parts_of vector) (cells.Elem (index + 1))) ≡ true)
     → IsWhole (parts_of vector)
 first-whole vector all = (

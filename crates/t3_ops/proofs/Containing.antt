@@ -4,7 +4,8 @@ use Rattle.std.specs.Option.{option_and_then}
 use Rattle.t3_holder.specs.declared.holder.Holder.{Holder}
 use Rattle.t3_undo.specs.declared.cell.Cell.TheVariants.{Key as KeyCell, Default}
 use Rattle.t3_undo.specs.declared.key.Key.{Key}
-use Rattle.t3_store.specs.Value.{Value, Tads, Text, Items, Vector, Table, items_in, length_of, holder_at, value_under}
+use Rattle.t3_store.specs.Value.{Value, Tads, Text, Items, Vector, Table, items_in, length_of, holder_at}
+use Rattle.t3_tables.specs.Entries.{value_under}
 use Rattle.t3_ops.specs.Containers.{OfElements, OfEntries, NoContainer, object_container, table_pairs}
 use Rattle.t3_ops.specs.Elements.{vector_items, IsVectorOf}
 use Rattle.t3_ops.specs.Inner.Containers.{IsTableWith}

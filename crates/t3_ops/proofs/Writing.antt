@@ -8,7 +8,9 @@ use Rattle.t3_holder.specs.declared.holder.Holder.{Holder}
 use Rattle.t3_holder.specs.declared.holder.Holder.TheVariants.{Nil}
 use Rattle.t3_undo.specs.declared.cell.Cell.{Cell}
 use Rattle.t3_undo.specs.declared.cell.Cell.TheVariants.{Elem}
-use Rattle.t3_store.specs.Value.{Value, Tads, Text, Items, Vector, Table, with_cell, set_item, holder_at, cell_units}
+use Rattle.t3_store.specs.Value.{Value, Tads, Text, Items, Vector, Table, with_cell, holder_at}
+use Rattle.t3_lists.specs.Items.{set_item}
+use Rattle.t3_undo.specs.Units.{cell_units}
 use Rattle.t3_store.specs.Store.{StoreValue, value_at, set_cell, written, is_full_with}
 use Rattle.t3_store.proofs.SetCells.{value_at-set_cell}
 use Rattle.t3_ops.specs.Inner.Outcomes.{IsWritten}

@@ -5,7 +5,7 @@ use Rattle.t3_holder.specs.declared.holder.Holder.{Holder}
 use Rattle.t3_undo.specs.declared.key.Key.{Key}
 use Rattle.t3_tables.specs.declared.pair.Pair.{Pair}
 use Rattle.t3_pools.specs.Pool.{Pool}
-use Rattle.t3_store.specs.Value.{value_under}
+use Rattle.t3_tables.specs.Entries.{value_under}
 use Rattle.t3_store.specs.Store.{StoreValue}
 use Rattle.t3_ops.specs.declared.fault.Fault.{Fault}
 use Rattle.t3_ops.specs.declared.fault.Fault.TheVariants.{IndexRange}

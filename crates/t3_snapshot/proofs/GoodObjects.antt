@@ -9,7 +9,9 @@ use Rattle.t3_undo.specs.declared.key.Key.{Key}
 use Rattle.t3_undo.specs.declared.key.Key.TheVariants as keys
 use Rattle.t3_tables.specs.declared.pair.Pair.{Pair}
 use Rattle.t3_store.specs.Distinct.{HasDistinctEntries}
-use Rattle.t3_store.specs.Value.{Value, Objects, Tads, Text, Items, Vector, Table, PropMap, units_of, units_in, key_units, HasFittingLength}
+use Rattle.t3_store.specs.Value.{Value, Objects, Tads, Text, Items, Vector, Table, units_of, units_in, HasFittingLength}
+use Rattle.t3_tadsobj.specs.Props.{PropMap}
+use Rattle.t3_undo.specs.Units.{key_units}
 use Rattle.t3_store.specs.Whole.{IsWhole, supers_in}
 use Rattle.t3_snapshot.specs.Good.{IsGoodKey, IsGoodPair, HasGoodProps, HasGoodParts, AreGoodObjects}
 use Rattle.t3_snapshot.specs.Layout.{IsGoodHolder, IsKey, IsEntry, IsProp, AreCounted, IsSpellable}

@@ -18,7 +18,9 @@ use Rattle.t3_undo.specs.Objects.{adjust}
 use Rattle.t3_undo.specs.declared.cell.Cell.TheVariants as cells
 use Rattle.t3_undo.specs.declared.key.Key.{Key}
 use Rattle.t3_tables.specs.declared.pair.Pair.{Pair}
-use Rattle.t3_store.specs.Value.{Value, Objects, Table, units_in, units_of, is_past, is_past_units, key_units, with_cell, value_under, IsTableWithout, entries_in}
+use Rattle.t3_store.specs.Value.{Value, Objects, Table, units_in, units_of, is_past, is_past_units, with_cell, IsTableWithout, entries_in}
+use Rattle.t3_undo.specs.Units.{key_units}
+use Rattle.t3_tables.specs.Entries.{value_under}
 use Rattle.t3_store.proofs.Added.{added_here, added_len, added_units}
 use Rattle.t3_snapshot.specs.Layout.{keys_of, HasDistinctKeys}
 use Rattle.t3_snapshot.specs.Building.{IsOver}

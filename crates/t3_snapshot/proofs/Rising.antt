@@ -10,7 +10,8 @@ use Rattle.std.proofs.lemmas.Bool.{ltb-true, lt-ltb, le-ltb, eqb-true}
 use Rattle.std.proofs.lemmas.List.{drop_all}
 use Rattle.t3_holder.specs.declared.holder.Holder.{Holder}
 use Rattle.t3_tadsobj.specs.declared.props.PropValue.{PropValue}
-use Rattle.t3_store.specs.Value.{pair_of, new_value}
+use Rattle.t3_tadsobj.specs.Props.{pair_of}
+use Rattle.t3_store.specs.Value.{new_value}
 use Rattle.t3_store.specs.declared.new_object.NewObject.{NewObject}
 use Rattle.t3_store.specs.declared.new_object.NewObject.TheVariants as new
 use Rattle.t3_snapshot.specs.State.{named_by, named_in}

@@ -16,7 +16,9 @@ use Rattle.t3_holder.proofs.Numbers.{length-little_endian}
 use Rattle.t3_undo.specs.declared.key.Key.{Key}
 use Rattle.t3_undo.specs.declared.key.Key.TheVariants as keys
 use Rattle.t3_tables.specs.declared.pair.Pair.{Pair}
-use Rattle.t3_store.specs.Value.{Value, Objects, PropMap, Tads, Text, Items, Vector, Table, eights, key_units, units_of}
+use Rattle.t3_store.specs.Value.{Value, Objects, Tads, Text, Items, Vector, Table, units_of}
+use Rattle.t3_tadsobj.specs.Props.{PropMap}
+use Rattle.t3_undo.specs.Units.{eights, key_units}
 use Rattle.t3_snapshot.specs.Layout.{holder_text, holder_of_key, bytes_text, key_text, entry_text, super_text, prop_text, class_flag, class_text, counted_text, value_text, object_text, IsSpellable, AreInTurn}
 use Rattle.t3_snapshot.specs.State.{state_limit, signature, Version, One, head_text, body_text, with_digest, saved, IsSoundState, Spells}
 use Rattle.t3_snapshot.proofs.OneState.{signature_long}

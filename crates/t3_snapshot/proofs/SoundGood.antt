@@ -9,7 +9,8 @@ use Rattle.t3_holder.specs.declared.holder.Holder.TheVariants as holders
 use Rattle.t3_undo.specs.declared.key.Key.{Key}
 use Rattle.t3_undo.specs.declared.key.Key.TheVariants as keys
 use Rattle.t3_tables.specs.declared.pair.Pair.{Pair}
-use Rattle.t3_store.specs.Value.{Value, Objects, Tads, Text, Items, Vector, Table, PropMap, supers_of}
+use Rattle.t3_store.specs.Value.{Value, Objects, Tads, Text, Items, Vector, Table, supers_of}
+use Rattle.t3_tadsobj.specs.Props.{PropMap}
 use Rattle.t3_store.specs.Whole.{supers_in, AreThere}
 use Rattle.t3_snapshot.specs.Good.{IsGoodKey, IsGoodPair, HasGoodProps, HasGoodParts, AreNumbered, HasHeldKeys, AreGoodObjects}
 use Rattle.t3_snapshot.specs.Layout.{IsGoodHolder, IsKey, IsEntry, IsProp, IsSpellable, AreInTurn}

@@ -8,7 +8,8 @@ use Rattle.std.proofs.lemmas.List.Folds.{flat_map-map}
 use Rattle.t3_holder.specs.NumberText.{little_endian, AreBytes}
 use Rattle.t3_holder.specs.declared.holder.Holder.{Holder}
 use Rattle.t3_tadsobj.specs.declared.props.PropValue.{PropValue}
-use Rattle.t3_store.specs.Value.{Value, PropMap, Tads, pair_of}
+use Rattle.t3_store.specs.Value.{Value, Tads}
+use Rattle.t3_tadsobj.specs.Props.{PropMap, pair_of}
 use Rattle.t3_snapshot.specs.Building.{AreRising}
 use Rattle.t3_snapshot.proofs.Sorted.{in_order, map_of_entries}
 use Rattle.t3_snapshot.proofs.Rising.{prop_value, rising_from, pairs_are, rises_so}

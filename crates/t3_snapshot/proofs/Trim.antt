@@ -10,7 +10,8 @@ use Rattle.t3_holder.specs.declared.holder.Holder.{Holder}
 use Rattle.t3_holder.specs.declared.holder.Holder.TheVariants.{Nil}
 use Rattle.t3_undo.specs.declared.cell.Cell.TheVariants.{Default, Elem}
 use Rattle.t3_tables.specs.declared.pair.Pair.{Pair}
-use Rattle.t3_store.specs.Value.{Value, Objects, PropMap, Tads, Text, Items, Vector, Table, supers_of, is_class_at, props_at, text_of, items_in, length_of, entries_in, holder_at}
+use Rattle.t3_store.specs.Value.{Value, Objects, Tads, Text, Items, Vector, Table, supers_of, is_class_at, props_at, text_of, items_in, length_of, entries_in, holder_at}
+use Rattle.t3_tadsobj.specs.Props.{PropMap}
 use Rattle.t3_snapshot.specs.Layout.{object_text, class_text, super_text, prop_text, counted_text, value_text, IsProp, AreCounted, AreInTurn, IsSpellable}
 use Rattle.t3_snapshot.specs.State.{trimmed, trimmed_holder, trimmed_prop, trimmed_value, IsSoundState}
 use Rattle.t3_snapshot.specs.Inner.Writing.{WritableAt, IsWritable, trimmed_text, tads_written, object_written}

@@ -13,7 +13,8 @@ use Rattle.t3_undo.specs.Key.{key_cmp}
 use Rattle.t3_undo.specs.declared.key.Key.{Key}
 use Rattle.t3_undo.specs.declared.key.Key.TheVariants as keys
 use Rattle.t3_tables.specs.declared.pair.Pair.{Pair}
-use Rattle.t3_store.specs.Value.{Value, Objects, Tads, Text, Items, Vector, Table, key_units, units_of, supers_of}
+use Rattle.t3_store.specs.Value.{Value, Objects, Tads, Text, Items, Vector, Table, units_of, supers_of}
+use Rattle.t3_undo.specs.Units.{key_units}
 use Rattle.t3_store.specs.Whole.{supers_in}
 use Rattle.t3_snapshot.specs.Layout.{IsSpellable, AreCounted, IsGoodHolder, IsProp, IsEntry, HasDistinctKeys, keys_of}
 use Rattle.t3_snapshot.specs.State.{trimmed, trimmed_value, trimmed_prop, trimmed_props, trimmed_holder, trimmed_entry, trimmed_entries, keeps_key, named_by, named_by_key, named_in, named_as_keys, can_be_key}

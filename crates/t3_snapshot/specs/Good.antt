@@ -7,7 +7,8 @@ use Rattle.t3_holder.specs.declared.holder.Holder.TheVariants as holders
 use Rattle.t3_undo.specs.declared.key.Key.{Key}
 use Rattle.t3_undo.specs.declared.key.Key.TheVariants as keys
 use Rattle.t3_tables.specs.declared.pair.Pair.{Pair}
-use Rattle.t3_store.specs.Value.{Value, Objects, PropMap, Tads, Text, Items, Vector, Table}
+use Rattle.t3_store.specs.Value.{Value, Objects, Tads, Text, Items, Vector, Table}
+use Rattle.t3_tadsobj.specs.Props.{PropMap}
 use Rattle.t3_store.specs.Invariant.{HoldsOfEach}
 use Rattle.t3_snapshot.specs.Layout.{IsText, holder_of_key}
 use Rattle.t3_snapshot.specs.State.{named_as_keys}

@@ -9,7 +9,8 @@ use Rattle.t3_holder.specs.declared.holder.Holder.TheVariants as holders
 use Rattle.t3_undo.specs.declared.key.Key.{Key}
 use Rattle.t3_undo.specs.declared.key.Key.TheVariants as keys
 use Rattle.t3_tables.specs.declared.pair.Pair.{Pair}
-use Rattle.t3_store.specs.Value.{Value, Objects, PropMap, Tads, Text, Items, Vector, Table, units_in}
+use Rattle.t3_store.specs.Value.{Value, Objects, Tads, Text, Items, Vector, Table, units_in}
+use Rattle.t3_tadsobj.specs.Props.{PropMap}
 use Rattle.t3_store.specs.Whole.{IsWhole, supers_in}
 use Rattle.t3_snapshot.specs.Layout.{object_text, AreInTurn}
 

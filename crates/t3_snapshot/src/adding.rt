@@ -2,7 +2,8 @@
 ghost use Rattle.std.specs.Prelude.{◌≡◌, ◌<◌, ◌^◌, None, IfOk, IsTrue};
 ghost use Rattle.std.specs.Bool.{MatchBool};
 ghost use Rattle.std.specs.FinMap.{get, insert};
-ghost use Rattle.t3_store.specs.Value.{Table as TableValue, HasFittingLength, new_value, IsTableWithout, with_cell, is_past_units, key_units};
+ghost use Rattle.t3_store.specs.Value.{Table as TableValue, HasFittingLength, new_value, IsTableWithout, with_cell, is_past_units};
+ghost use Rattle.t3_undo.specs.Units.{key_units};
 ghost use Rattle.t3_undo.specs.Objects.{adjust};
 ghost use Rattle.t3_undo.specs.declared.cell.Cell.TheVariants as cells;
 ghost use Rattle.t3_snapshot.specs.Layout.{HasDistinctKeys, IsSpellable};

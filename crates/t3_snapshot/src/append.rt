@@ -1,7 +1,7 @@
 //! The parts of a state as bytes, without what refers to what isn't there.
 ghost use Rattle.std.specs.Prelude.{◌≡◌, ◌++◌, ◌<◌, ◌^◌, IsTrue, OnOk, map, filter, length};
 ghost use Rattle.std.specs.List.{flat_map, AllByRecursion};
-ghost use Rattle.t3_store.specs.Value.{pair_of};
+ghost use Rattle.t3_tadsobj.specs.Props.{pair_of};
 ghost use Rattle.t3_snapshot.specs.Layout.{holder_of_key, holder_text, bytes_text, key_text, entry_text, super_text, prop_text, counted_text, IsGoodHolder, IsKey, IsEntry, IsProp, AreCounted};
 ghost use Rattle.t3_snapshot.specs.State.{trimmed_holder, trimmed_entry, trimmed_entries, trimmed_prop, keeps_key};
 ghost use Rattle.t3_snapshot.specs.Inner.Writing.{kept_text};

@@ -1,12 +1,15 @@
 -- Objects of an image: what stays true of them.
 use Rattle.std.proofs.Common.{◌≡◌, ◌∙◌, ap, sym, subst, refl, ℕ, ◌+◌, ◌<◌, ◌≤◌, ◌^◌, Bool, true, false, ◌&&◌, Option, None, Some, IsTrue, IsSome, true≢false, arith}
 use Rattle.std.specs.FinMap.{get, insert, len}
-use Rattle.t3_undo.specs.Content.{Parts, Places, Present, places_for}
+use Rattle.t3_undo.specs.Content.{Parts, Places, places_for}
+use Rattle.t3_undo.specs.Present.{Present}
 use Rattle.t3_undo.specs.declared.cell.Cell.{Cell}
 use Rattle.t3_undo.proofs.Maps.{get-adjust}
 use Rattle.std.specs.Cmp.{nat_cmp_total}
-use Rattle.t3_store.specs.Value.{Value, units_in, units_of, cell_units, is_past}
-use Rattle.t3_store.specs.Inner.Shapes.{Shape, Stored, values, value_of, risen, AreWithin}
+use Rattle.t3_store.specs.Value.{Value, units_in, units_of, is_past}
+use Rattle.t3_undo.specs.Units.{cell_units}
+use Rattle.t3_store.specs.Inner.Shapes.{Shape, Stored, values, value_of, AreWithin}
+use Rattle.t3_tables.specs.Entries.{risen}
 use Rattle.t3_store.specs.Inner.Bounded.{IsPlaced}
 use Rattle.t3_store.specs.Inner.Store.{IsPersistent, IsWritten}
 use Rattle.t3_store.proofs.MapValues.{len-adjust, units_in-new, values-insert}

@@ -5,7 +5,8 @@ use Rattle.std.specs.Option.{option_map, option_and_then}
 use Rattle.t3_holder.specs.declared.holder.Holder.{Holder}
 use Rattle.t3_undo.specs.declared.cell.Cell.TheVariants as cells
 use Rattle.t3_undo.specs.declared.key.Key.{Key}
-use Rattle.t3_store.specs.Value.{Value, Tads, Text, Items, Vector, Table, kind_of, length_of, entries_in, can_have_at, can_lose_at, can_be_written, is_element_within}
+use Rattle.t3_store.specs.Value.{Value, Tads, Text, Items, Vector, Table, kind_of, length_of, entries_in, can_have_at, can_lose_at, can_be_written}
+use Rattle.t3_lists.specs.Items.{is_element_within}
 use Rattle.t3_store.specs.declared.kind.Kind.TheVariants as kinds
 
 -- a property of a tads-object can be set and taken away

@@ -7,14 +7,15 @@ use Rattle.std.specs.Ordering.{nat_cmp, eq_by_cmp}
 use Rattle.std.specs.FinMap.{get, len, len-empty, len-entries, keys, entries, contains_key-keys}
 use Rattle.std.proofs.lemmas.List.{length-map}
 use Rattle.t3_undo.specs.Cell.{cell_cmp}
-use Rattle.t3_undo.specs.Content.{Parts, Places, Present, is_form}
+use Rattle.t3_undo.specs.Content.{Parts, Places}
+use Rattle.t3_undo.specs.Present.{Present}
 use Rattle.t3_undo.specs.Key.{key_cmp}
 use Rattle.t3_undo.specs.Objects.{Objects}
 use Rattle.t3_undo.specs.declared.cell.Cell.{Cell}
 use Rattle.t3_undo.specs.declared.key.Key.{Key}
 use Rattle.t3_undo.specs.declared.cell.Cell.TheVariants as cells
 use Rattle.t3_undo.proofs.Purging.{few-keys}
-use Rattle.t3_undo.proofs.PuttingBack.{same_cell, and-first}
+use Rattle.t3_undo.proofs.PuttingBack.{same_cell}
 use Rattle.t3_tadsobj.specs.Object.{props_of}
 use Rattle.t3_tadsobj.proofs.PropLists.{get-props_of, same-Prop}
 use Rattle.t3_lists.specs.Vector.{items_of}
@@ -23,12 +24,16 @@ use Rattle.t3_lists.proofs.ElementPurges.{len-parts}
 use Rattle.t3_tables.specs.Table.{entries_of, is_cell}
 use Rattle.t3_tables.specs.declared.pair.Pair.{Pair}
 use Rattle.t3_tables.proofs.OrderedEntries.{same-Key}
-use Rattle.t3_store.specs.Value.{value_under, cells_of, cells_at}
+use Rattle.t3_tables.specs.Entries.{value_under, IsWholeTable}
+use Rattle.t3_store.specs.Value.{cells_of, cells_at}
 use Rattle.t3_store.specs.Inner.Shapes.{Shape, Stored, TadsShape, TextShape, ItemsShape, VectorShape, TableShape, value_of, values}
 use Rattle.t3_store.specs.Inner.Bounded.{parts_of, parts_under, AreBounded}
-use Rattle.t3_store.specs.Inner.Valid.{IsValidAs, AreValid, AreProps, IsWholeVector, IsWholeTable}
-use Rattle.t3_store.proofs.MapValues.{get-values, some-map}
-use Rattle.t3_store.proofs.TableValues.{held-table}
+use Rattle.t3_store.specs.Inner.Valid.{IsValidAs, AreValid}
+use Rattle.t3_tadsobj.specs.Props.{AreProps}
+use Rattle.t3_lists.specs.Items.{IsWholeVector}
+use Rattle.t3_store.proofs.MapValues.{get-values}
+use Rattle.t3_tadsobj.proofs.PropValues.{is-prop, prop-valued}
+use Rattle.t3_tables.proofs.EntryValues.{held-table, table-cell, table-valued}
 
 or-left : (a b : Bool) → a ≡ true → (a || b) ≡ true
 or-left true b e = refl
@@ -61,10 +66,10 @@ tads-cells parts only =
     each : (c : Cell) → IsSome (get parts c) → list_any (same_cell c) (map (λ n. cells.Prop n) (keys (props_of parts))) ≡ true
     each (cells.Prop n) some =
         prop-among n (keys (props_of parts))
-        (sym (contains_key-keys (props_of parts) n) ∙ ap is_some (get-props_of parts n) ∙ some-map (λ present. present.value) (get parts (cells.Prop n)) ∙ some)
-    each (cells.Elem n) some = absurd (true≢false (sym (only (cells.Elem n) some)))
-    each (cells.Key k) some = absurd (true≢false (sym (only (cells.Key k) some)))
-    each cells.Default some = absurd (true≢false (sym (only cells.Default some)))
+        (sym (contains_key-keys (props_of parts) n) ∙ ap is_some (get-props_of parts n) ∙ prop-valued parts (cells.Prop n) only ∙ some)
+    each (cells.Elem n) some = absurd (true≢false (sym (is-prop parts (cells.Elem n) only some)))
+    each (cells.Key k) some = absurd (true≢false (sym (is-prop parts (cells.Key k) only some)))
+    each cells.Default some = absurd (true≢false (sym (is-prop parts cells.Default only some)))
 
 -- a vector has an element for each
 vector-cells : (parts : Parts) → IsWholeVector parts → len parts ≤ length (items_of parts)
@@ -94,11 +99,7 @@ table-cells parts whole =
     omega (arith, few, a)
   where
     only : (c : Cell) → IsSome (get parts c) → IsTrue (is_cell c)
-    only c some = by (get parts c) refl some
-      where
-        by : (o : Option Present) → get parts c ≡ o → IsSome o → IsTrue (is_cell c)
-        by None e some = absurd (true≢false (sym some))
-        by (Some present) e some = and-first (is_cell c) (is_form c (Some present)) (whole.only c present e)
+    only c some = table-cell parts c whole some
 
     each : (c : Cell) → IsSome (get parts c) → list_any (same_cell c) (cells.Default ∷ map (λ pair. cells.Key pair.key) (entries_of parts)) ≡ true
     each (cells.Prop n) some = absurd (true≢false (sym (only (cells.Prop n) some)))
@@ -106,7 +107,7 @@ table-cells parts whole =
     each (cells.Key key) some =
         or-right (same_cell (cells.Key key) cells.Default) (list_any (same_cell (cells.Key key)) (map (λ pair. cells.Key pair.key) (entries_of parts)))
         (key-among key (entries_of parts)
-        (ap is_some (sym (held-table parts (cells.Key key) whole)) ∙ some-map (λ present. present.value) (get parts (cells.Key key)) ∙ some))
+        (ap is_some (sym (held-table parts (cells.Key key) whole)) ∙ table-valued parts (cells.Key key) whole ∙ some))
     each cells.Default some = refl
 
 shape-cells : (shape : Shape) (parts : Parts) → IsValidAs shape parts → len parts ≤ cells_of (value_of (shape, parts))

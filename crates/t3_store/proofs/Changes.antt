@@ -2,12 +2,13 @@
 use Rattle.std.proofs.Common.{◌≡◌, ◌∙◌, ap, sym, subst, refl, ℕ, ◌+◌, ◌-◌, ◌<◌, ◌≤◌, ◌^◌, Bool, true, false, ◌&&◌, if◌then◌else◌, List, Option, None, Some, Result, Ok, Err, IsTrue, IsSome, is_some, is_none, true≢false, arith}
 use Rattle.std.specs.Ordering.{nat_cmp}
 use Rattle.std.specs.FinMap.{FinMap, get, len}
-use Rattle.t3_undo.specs.Content.{Present}
+use Rattle.t3_undo.specs.Present.{Present}
 use Rattle.t3_undo.specs.Objects.{Objects, Segment, adjust}
 use Rattle.t3_undo.specs.Journal.{Held, note_in}
 use Rattle.t3_undo.specs.declared.cell.Cell.{Cell}
 use Rattle.t3_holder.specs.declared.holder.Holder.{Holder}
-use Rattle.t3_store.specs.Value.{Value, units_in, cell_units, holder_at, can_have_at, can_lose_at, with_cell, without_cell}
+use Rattle.t3_store.specs.Value.{Value, units_in, holder_at, can_have_at, can_lose_at, with_cell, without_cell}
+use Rattle.t3_undo.specs.Units.{cell_units}
 use Rattle.t3_store.specs.Store.{StoreValue, value_at, either, is_persistent, noted, with_value, changed_in, taken, written, set_cell, is_full_with, objects_in, store_units}
 use Rattle.t3_store.specs.Inner.Shapes.{Shape, Stored, values, stamp_at, HaveZeroStamps, AreWithin}
 use Rattle.t3_store.specs.Inner.Store.{marks_of, store_of, record_of, IsWritten, NotesChange, IsStore, AreNumbered, saved_units, IsFront}

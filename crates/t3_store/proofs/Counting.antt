@@ -2,10 +2,11 @@
 use Rattle.std.proofs.Common.{◌≡◌, ◌∙◌, ap, sym, subst, ℕ, ◌+◌, Bool, false, cond, List, Option, None, IsTrue, IsSome, is_some}
 use Rattle.std.specs.FinMap.{get}
 use Rattle.t3_holder.specs.declared.holder.Holder.{Holder}
-use Rattle.t3_undo.specs.Content.{Present}
+use Rattle.t3_undo.specs.Present.{Present}
 use Rattle.t3_undo.specs.Objects.{Objects, set_cell, adjust, part_at}
 use Rattle.t3_undo.specs.declared.cell.Cell.{Cell}
-use Rattle.t3_store.specs.Value.{can_have_at, can_lose_at, with_cell, units_in, cell_units, holder_at}
+use Rattle.t3_store.specs.Value.{can_have_at, can_lose_at, with_cell, units_in, holder_at}
+use Rattle.t3_undo.specs.Units.{cell_units}
 use Rattle.t3_store.specs.Inner.Shapes.{Shape, values}
 use Rattle.t3_store.specs.Inner.Valid.{AreValid}
 use Rattle.t3_store.specs.Inner.Entries.{things_of}

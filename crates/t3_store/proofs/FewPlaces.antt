@@ -4,7 +4,8 @@ use Rattle.std.specs.Option.{option_map}
 use Rattle.std.specs.Cmp.{nat_cmp_total}
 use Rattle.std.specs.FinMap.{get, insert, get-insert, len, len-insert, contains_key, get-retain_keys, nat_cmp-IsAntisymmetric}
 use Rattle.t3_undo.specs.Cell.{cell_cmp_total}
-use Rattle.t3_undo.specs.Content.{Parts, Places, Present, places_for}
+use Rattle.t3_undo.specs.Content.{Parts, Places, places_for}
+use Rattle.t3_undo.specs.Present.{Present}
 use Rattle.t3_undo.specs.Content as content
 use Rattle.t3_undo.specs.Objects.{set_at, set_cell, below}
 use Rattle.t3_undo.specs.Journal.{Held}

@@ -2,8 +2,10 @@
 use Rattle.std.proofs.Common.{◌≡◌, ◌∙◌, ap, sym, refl, ℕ, zero, suc, ◌+◌, Bool, true, false, cond, if◌then◌else◌, List, [], length, None, Some, IsSome, is_some, true≢false, arith}
 use Rattle.std.specs.Ordering.{nat_cmp, eq_by_cmp}
 use Rattle.std.specs.FinMap.{empty, get, get-empty, insert, get-insert, contains_key, same_map}
+use Rattle.t3_undo.specs.Present as presents
 use Rattle.t3_undo.specs.Cell.{cell_cmp, cell_cmp_total, cell_cmp-IsAntisymmetric}
-use Rattle.t3_undo.specs.Content.{Parts, Present, shown, with_place, places_for}
+use Rattle.t3_undo.specs.Content.{Parts, shown, with_place, places_for}
+use Rattle.t3_undo.specs.Present.{Present}
 use Rattle.t3_undo.specs.Objects.{set_at}
 use Rattle.t3_undo.specs.declared.cell.Cell.{Cell}
 use Rattle.t3_undo.specs.declared.cell.Cell.TheVariants as cells
@@ -12,7 +14,7 @@ use Rattle.t3_undo.proofs.SlotLists.{zero_if, get-places_for, insert-own}
 use Rattle.t3_holder.specs.declared.holder.Holder.{Holder}
 use Rattle.t3_lists.specs.Vector as vectors
 use Rattle.t3_lists.specs.Inner.Elements.{content_in, index_of}
-use Rattle.t3_lists.specs.declared.elements.Element.{Element}
+use Rattle.t3_undo.specs.StampedValue.{ValuePlace}
 use Rattle.t3_lists.proofs.ElementLists.{get-parts}
 use Rattle.t3_lists.proofs.Items.{filled-push}
 use Rattle.t3_tables.specs.Table as tables
@@ -67,14 +69,14 @@ pub places-table : tables.places_of new_table ≡ places_for (tables.parts_of ne
 places-table = (λ i. insert (sym places-none i) cells.Default 0) ∙ places-set empty cells.Default _
 
 -- a vector with an element more
-pub places-element : (old new : List Element) (items : List Holder) (count : ℕ) (value : Holder) → vectors.places_of old ≡ places_for (vectors.parts_of old)
+pub places-element : (old new : List ValuePlace) (items : List Holder) (count : ℕ) (value : Holder) → vectors.places_of old ≡ places_for (vectors.parts_of old)
     → vectors.parts_of old ≡ vectors.filled items → length items ≡ count → IsWithElement (vectors.parts_of old) (vectors.parts_of new) count value
     → vectors.places_of new ≡ with_place (vectors.places_of old) (cells.Elem (count + 1))
     → vectors.places_of new ≡ places_for (vectors.parts_of new)
 places-element old new items count value all are size element placed =
     let number : count + 1 ≡ 1 + length items = omega (arith, size) in
     placed ∙ (λ i. with_place ((all ∙ ap places_for are) i) (cells.Elem (number i)))
-    ∙ placed-set (vectors.filled items) (cells.Elem (1 + length items)) (record { tick = None; value = value })
+    ∙ placed-set (vectors.filled items) (cells.Elem (1 + length items)) (presents.Value None value)
     ∙ sym (ap places_for (element items are size ∙ filled-push items value))
 
 -- and one without elements

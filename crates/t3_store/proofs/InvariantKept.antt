@@ -8,7 +8,8 @@ use Rattle.t3_holder.specs.declared.holder.Holder.{Holder}
 use Rattle.t3_undo.specs.Objects.{adjust}
 use Rattle.t3_undo.specs.declared.cell.Cell.{Cell}
 use Rattle.t3_undo.proofs.Maps.{get-adjust}
-use Rattle.t3_store.specs.Value.{Value, Objects, holder_at, with_cell, without_cell, units_of, cell_units}
+use Rattle.t3_store.specs.Value.{Value, Objects, holder_at, with_cell, without_cell, units_of}
+use Rattle.t3_undo.specs.Units.{cell_units}
 use Rattle.t3_store.specs.Store.{Mark, StoreValue, value_at, either, is_persistent, is_full_with, no_number, next_number, with_object, with_value, noted, set_cell, taken, written, after_write, created_in, changed_in, is_change_due, add_change, room_for, newest_copy}
 use Rattle.t3_store.specs.Invariant.{HoldsOfEach, HoldsThroughout, HoldsAfter, with_written, IsKeptByCalls}
 use Rattle.t3_store.proofs.Rows.{same, same-is}

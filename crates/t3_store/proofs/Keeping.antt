@@ -4,7 +4,8 @@ use Rattle.std.specs.Option.{option_map}
 use Rattle.std.specs.Ordering.{nat_cmp, eq_by_cmp}
 use Rattle.std.specs.Cmp.{nat_cmp_total}
 use Rattle.std.specs.FinMap.{FinMap, get}
-use Rattle.t3_undo.specs.Content.{Places, Present}
+use Rattle.t3_undo.specs.Content.{Places}
+use Rattle.t3_undo.specs.Present.{Present}
 use Rattle.t3_undo.specs.Objects as journaled
 use Rattle.t3_undo.specs.Objects.{Objects, OldPart, Segment, with_part, is_noted}
 use Rattle.t3_undo.specs.Journal.{room, is_due, add, note_in}

@@ -1,41 +1,43 @@
 -- What a change of an object's parts does to its value, for each kind.
-use Rattle.std.proofs.Common.{◌≡◌, ◌∙◌, ap, sym, refl, ℕ, ◌+◌, ◌≤◌, length, true, cond, not, List, Option, None, Some, IfSome, IsTrue, IsSome, is_some, true≢false, arith}
-use Rattle.std.specs.Option.{option_map}
+use Rattle.std.proofs.Common.{◌≡◌, ◌∙◌, ap, sym, refl, ℕ, ◌+◌, ◌≤◌, length, true, cond, List, Option, None, Some, IfSome, IsTrue, IsSome, is_some, true≢false, arith}
+use Rattle.std.specs.Option.{option_and_then}
 use Rattle.std.specs.FinMap.{get, empty, get-empty, contains_key}
 use Rattle.t3_holder.specs.declared.holder.Holder.{Holder}
 use Rattle.t3_undo.specs.Cell.{cell_cmp}
-use Rattle.t3_undo.specs.Content.{Present, Parts, is_form}
+use Rattle.t3_undo.specs.Content.{Parts, shown, is_form, is_held}
+use Rattle.t3_undo.specs.declared.content.Content.{Content}
+use Rattle.t3_undo.specs.Present.{Present, value_in}
+use Rattle.t3_undo.specs.Present as presents
 use Rattle.t3_undo.specs.Objects.{set_at, with_part}
 use Rattle.t3_undo.specs.declared.cell.Cell.{Cell}
 use Rattle.t3_undo.specs.declared.cell.Cell.TheVariants as cells
 use Rattle.t3_tadsobj.specs.Object.{is_prop}
-use Rattle.t3_lists.specs.Vector.{items_of, filled, is_element}
+use Rattle.t3_lists.specs.Vector.{items_of, is_element}
 use Rattle.t3_lists.proofs.Items.{items-filled}
-use Rattle.t3_tables.specs.Table.{above}
-use Rattle.t3_tables.specs.declared.table.Table as tables
 use Rattle.t3_tables.proofs.TableLists.{distinct-entries_of}
-use Rattle.t3_store.specs.Value.{Value, Tads, Text, Items, Vector, Table, length_of, units_of, cell_units, holder_in, with_cell, without_cell, can_have, can_lose, element_at, with_element, without_element, is_element_for, is_last}
+use Rattle.t3_undo.specs.declared.key.Key.{Key}
+use Rattle.t3_store.specs.Value.{holder_at, can_have_at, entries_in, Value, Tads, Text, Items, Vector, Table, length_of, units_of, holder_in, with_cell, without_cell, can_have, can_lose}
+use Rattle.t3_undo.specs.Units.{cell_units}
+use Rattle.t3_lists.specs.Items.{element_at, is_element_for, is_last}
 use Rattle.t3_store.specs.Inner.Shapes.{Shape, TadsShape, TextShape, ItemsShape, VectorShape, TableShape, thing_of, places_of, value_of, tick_behind}
 use Rattle.t3_store.specs.declared.object.Object.{Object}
 use Rattle.t3_store.specs.declared.object.Object.TheVariants as objects
-use Rattle.t3_store.specs.Inner.Valid.{IsWholeVector, IsValid}
-use Rattle.t3_store.proofs.TadsValues.{found-prop, props-set, props_of-with, props_of-without, len-with, len-without, present-prop}
-use Rattle.t3_store.proofs.VectorValues.{held-filled, filled-with, filled-without, length-with, length-without, few-with, present-element}
-use Rattle.t3_store.proofs.TableValues.{held-table, table-without, whole-without}
-use Rattle.t3_store.proofs.TableUnits.{HasDistinctKeys, units-entry, units-without}
+use Rattle.t3_store.specs.Inner.Valid.{IsValid}
+use Rattle.t3_tadsobj.proofs.PropValues.{found-prop, prop-valued, props-set, props_of-with, props_of-without, len-with, len-without, present-prop}
+use Rattle.t3_lists.proofs.ItemValues.{held-vector, vector-valued, vector-set, whole-with, vector-without, whole-less, length-with, length-without, present-element}
+use Rattle.t3_tables.proofs.EntryValues.{held-table, table-valued, entries-without, default-without, whole-without, IsTableSet}
+use Rattle.t3_tables.proofs.EntryUnits.{HasDistinctKeys, units-entry, units-without}
 
-abbrev value_in : Option Present → Option Holder
-value_in o = option_map (λ (p : Present). p.value) o
+abbrev held_in : Option Present → Option Holder
+held_in o = option_and_then value_in o
 
 -- an object without cells has nothing in one
-held-none : (parts : Parts) (cell : Cell) → parts ≡ empty → value_in (get parts cell) ≡ None
-held-none parts cell e = ap (λ p. value_in (get p cell)) e ∙ ap value_in (get-empty cell_cmp cell)
+held-none : (parts : Parts) (cell : Cell) → parts ≡ empty → held_in (get parts cell) ≡ None
+held-none parts cell e = ap (λ p. held_in (get p cell)) e ∙ ap held_in (get-empty cell_cmp cell)
 
--- what stands in a cell of a vector
-pub held-vector : (parts : Parts) (cell : Cell) → IsWholeVector parts → value_in (get parts cell) ≡ element_at cell (items_of parts)
-held-vector parts cell whole =
-    ap (λ p. value_in (get p cell)) whole.are ∙ held-filled whole.items cell
-    ∙ ap (element_at cell) (sym (ap items_of whole.are ∙ items-filled whole.items))
+none-valued : (parts : Parts) (cell : Cell) → parts ≡ empty → is_some (held_in (get parts cell)) ≡ is_some (get parts cell)
+none-valued parts cell e =
+    let none = ap (λ p. get p cell) e ∙ get-empty cell_cmp cell in ap (λ o. is_some (held_in o)) none ∙ sym (ap is_some none)
 
 -- how many elements a vector has
 pub few-elements : (thing : Shape × Parts) → IsValid thing → IfSome (length_of (value_of thing)) (λ count. count ≤ 65535)
@@ -47,73 +49,18 @@ few-elements (VectorShape, parts) whole =
     omega (arith, long, whole.few)
 few-elements (TableShape, parts) valid = tt
 
--- a vector with an element set, and with the last one taken away
-items-whole : (parts : Parts) (whole : IsWholeVector parts) → items_of parts ≡ whole.items
-items-whole parts whole = ap items_of whole.are ∙ items-filled whole.items
-
-vector-with : (parts : Parts) (cell : Cell) (value : Holder) (whole : IsWholeVector parts) → is_element_for cell (length (items_of parts)) ≡ true
-    → set_at parts cell (Some (record { tick = None; value = value })) ≡ filled (with_element cell value whole.items)
-vector-with parts cell value whole can =
-    ap (λ p. set_at p cell (Some (record { tick = None; value = value }))) whole.are
-    ∙ filled-with whole.items cell value (ap (λ items. is_element_for cell (length items)) (sym (items-whole parts whole)) ∙ can)
-
-pub vector-set : (parts : Parts) (cell : Cell) (value : Holder) → IsWholeVector parts → is_element_for cell (length (items_of parts)) ≡ true
-    → items_of (set_at parts cell (Some (record { tick = None; value = value }))) ≡ with_element cell value (items_of parts)
-vector-set parts cell value whole can =
-    ap items_of (vector-with parts cell value whole can) ∙ items-filled (with_element cell value whole.items)
-    ∙ ap (with_element cell value) (sym (items-whole parts whole))
-
-pub whole-with : (parts : Parts) (cell : Cell) (value : Holder) → IsWholeVector parts → is_element_for cell (length (items_of parts)) ≡ true
-    → IsWholeVector (set_at parts cell (Some (record { tick = None; value = value })))
-whole-with parts cell value whole can = record {
-  items = with_element cell value whole.items;
-  are = vector-with parts cell value whole can;
-  few = few-with whole.items cell value (ap (λ items. is_element_for cell (length items)) (sym (items-whole parts whole)) ∙ can) whole.few;
-}
-
-vector-less : (parts : Parts) (cell : Cell) (whole : IsWholeVector parts) → is_last cell (length (items_of parts)) ≡ true
-    → set_at parts cell None ≡ filled (without_element cell whole.items)
-vector-less parts cell whole can =
-    ap (λ p. set_at p cell None) whole.are
-    ∙ filled-without whole.items cell (ap (λ items. is_last cell (length items)) (sym (items-whole parts whole)) ∙ can)
-
-vector-without : (parts : Parts) (cell : Cell) → IsWholeVector parts → is_last cell (length (items_of parts)) ≡ true
-    → items_of (set_at parts cell None) ≡ without_element cell (items_of parts)
-vector-without parts cell whole can =
-    ap items_of (vector-less parts cell whole can) ∙ items-filled (without_element cell whole.items)
-    ∙ ap (without_element cell) (sym (items-whole parts whole))
-
-whole-less : (parts : Parts) (cell : Cell) → IsWholeVector parts → is_last cell (length (items_of parts)) ≡ true → IsWholeVector (set_at parts cell None)
-whole-less parts cell whole can = record {
-  items = without_element cell whole.items;
-  are = vector-less parts cell whole can;
-  few =
-      let last = ap (λ items. is_last cell (length items)) (sym (items-whole parts whole)) ∙ can in
-      let less = length-without whole.items cell last in
-      omega (arith, less, whole.few);
-}
-
 -- a value with a cell set
 pub value-with : (thing : Shape × Parts) (cell : Cell) (value : Holder) → (thing.0 ≡ TableShape → ⊥) → IsTrue (can_have (value_of thing) cell) → IsValid thing
-    → value_of (with_part cell (Some (record { tick = None; value = value })) thing) ≡ with_cell cell value (value_of thing)
+    → value_of (with_part cell (Some (presents.Value None value)) thing) ≡ with_cell cell value (value_of thing)
 value-with (TadsShape supers class, parts) cell value other can valid = ap (Tads supers class) (props_of-with parts cell value can)
 value-with (TextShape bytes, parts) cell value other can valid = absurd (true≢false (sym can))
 value-with (ItemsShape items, parts) cell value other can valid = absurd (true≢false (sym can))
 value-with (VectorShape, parts) cell value other can valid = ap Vector (vector-set parts cell value valid can)
 value-with (TableShape, parts) cell value other can valid = absurd (other refl)
 
-pub valid-with : (thing : Shape × Parts) (cell : Cell) (value : Holder) → (thing.0 ≡ TableShape → ⊥) → IsTrue (can_have (value_of thing) cell) → IsValid thing
-    → IsValid (with_part cell (Some (record { tick = None; value = value })) thing)
-valid-with (TadsShape supers class, parts) cell value other can valid =
-    props-set parts cell (Some (record { tick = None; value = value })) valid can
-valid-with (TextShape bytes, parts) cell value other can valid = absurd (true≢false (sym can))
-valid-with (ItemsShape items, parts) cell value other can valid = absurd (true≢false (sym can))
-valid-with (VectorShape, parts) cell value other can valid = whole-with parts cell value valid can
-valid-with (TableShape, parts) cell value other can valid = absurd (other refl)
-
 -- the content has the form of a cell that isn't a table's
 pub held-form : (thing : Shape × Parts) (cell : Cell) (value : Holder) → (thing.0 ≡ TableShape → ⊥) → IsTrue (can_have (value_of thing) cell)
-    → IsTrue (is_form cell (Some (record { tick = None; value = value })))
+    → IsTrue (is_form cell (Some (presents.Value None value)))
 held-form thing (cells.Prop n) value other can = refl
 held-form thing (cells.Elem n) value other can = refl
 held-form thing cells.Default value other can = refl
@@ -123,6 +70,15 @@ held-form (ItemsShape items, parts) (cells.Key key) value other can = absurd (tr
 held-form (VectorShape, parts) (cells.Key key) value other can = absurd (true≢false (sym can))
 held-form (TableShape, parts) (cells.Key key) value other can = absurd (other refl)
 
+pub valid-with : (thing : Shape × Parts) (cell : Cell) (value : Holder) → (thing.0 ≡ TableShape → ⊥) → IsTrue (can_have (value_of thing) cell) → IsValid thing
+    → IsValid (with_part cell (Some (presents.Value None value)) thing)
+valid-with (TadsShape supers class, parts) cell value other can valid =
+    props-set parts cell (Some (presents.Value None value)) valid can (held-form (TadsShape supers class, parts) cell value other can)
+valid-with (TextShape bytes, parts) cell value other can valid = absurd (true≢false (sym can))
+valid-with (ItemsShape items, parts) cell value other can valid = absurd (true≢false (sym can))
+valid-with (VectorShape, parts) cell value other can valid = whole-with parts cell value valid can
+valid-with (TableShape, parts) cell value other can valid = absurd (other refl)
+
 -- and with a cell taken away
 pub value-without : (thing : Shape × Parts) (cell : Cell) → IsTrue (can_lose (value_of thing) cell) → IsValid thing
     → value_of (with_part cell None thing) ≡ without_cell cell (value_of thing)
@@ -130,14 +86,7 @@ value-without (TadsShape supers class, parts) cell can valid = ap (Tads supers c
 value-without (TextShape bytes, parts) cell can valid = absurd (true≢false (sym can))
 value-without (ItemsShape items, parts) cell can valid = absurd (true≢false (sym can))
 value-without (VectorShape, parts) cell can valid = ap Vector (vector-without parts cell valid can)
-value-without (TableShape, parts) cell can valid = table-without parts cell can
-
-pub valid-without : (thing : Shape × Parts) (cell : Cell) → IsTrue (can_lose (value_of thing) cell) → IsValid thing → IsValid (with_part cell None thing)
-valid-without (TadsShape supers class, parts) cell can valid = props-set parts cell None valid can
-valid-without (TextShape bytes, parts) cell can valid = absurd (true≢false (sym can))
-valid-without (ItemsShape items, parts) cell can valid = absurd (true≢false (sym can))
-valid-without (VectorShape, parts) cell can valid = whole-less parts cell valid can
-valid-without (TableShape, parts) cell can valid = whole-without parts cell valid can
+value-without (TableShape, parts) cell can valid = λ i. Table (entries-without parts cell can i) (default-without parts cell can i)
 
 pub lose-form : (value : Value) (cell : Cell) → IsTrue (can_lose value cell) → IsTrue (is_form cell None)
 lose-form value (cells.Prop n) can = refl
@@ -149,17 +98,39 @@ lose-form (Items items) cells.Default can = absurd (true≢false (sym can))
 lose-form (Vector items) cells.Default can = absurd (true≢false (sym can))
 lose-form (Table pairs default) cells.Default can = absurd (true≢false (sym can))
 
+pub valid-without : (thing : Shape × Parts) (cell : Cell) → IsTrue (can_lose (value_of thing) cell) → IsValid thing → IsValid (with_part cell None thing)
+valid-without (TadsShape supers class, parts) cell can valid =
+    props-set parts cell None valid can (lose-form (value_of (TadsShape supers class, parts)) cell can)
+valid-without (TextShape bytes, parts) cell can valid = absurd (true≢false (sym can))
+valid-without (ItemsShape items, parts) cell can valid = absurd (true≢false (sym can))
+valid-without (VectorShape, parts) cell can valid = whole-less parts cell valid can
+valid-without (TableShape, parts) cell can valid = whole-without parts cell valid can
+
 -- what stands in a cell
 pub held-value : (thing : Shape × Parts) (cell : Cell) → IsValid thing
-    → option_map (λ present. present.value) (get thing.1 cell) ≡ holder_in (value_of thing) cell
-held-value (TadsShape supers class, parts) cell valid = found-prop parts cell (get parts cell) refl (valid cell)
+    → option_and_then value_in (get thing.1 cell) ≡ holder_in (value_of thing) cell
+held-value (TadsShape supers class, parts) cell valid = found-prop parts cell valid
 held-value (TextShape bytes, parts) cell valid = held-none parts cell valid.1
 held-value (ItemsShape items, parts) cell valid = held-none parts cell valid.1
 held-value (VectorShape, parts) cell valid = held-vector parts cell valid
 held-value (TableShape, parts) cell valid = held-table parts cell valid
 
+-- what is present is a value
+pub thing-valued : (thing : Shape × Parts) (cell : Cell) → IsValid thing
+    → is_some (option_and_then value_in (get thing.1 cell)) ≡ is_some (get thing.1 cell)
+thing-valued (TadsShape supers class, parts) cell valid = prop-valued parts cell valid
+thing-valued (TextShape bytes, parts) cell valid = none-valued parts cell valid.1
+thing-valued (ItemsShape items, parts) cell valid = none-valued parts cell valid.1
+thing-valued (VectorShape, parts) cell valid = vector-valued parts cell valid
+thing-valued (TableShape, parts) cell valid = table-valued parts cell valid
+
+-- a table once a cell is set
+pub table-set : (parts : Parts) (cell : Cell) (value : Holder) (next : ℕ) (content : Content) → IsTableSet parts cell value next content
+    → value_of (TableShape, set_at parts cell (shown content)) ≡ with_cell cell value (value_of (TableShape, parts))
+table-set parts cell value next content is = λ i. Table (is.entries i) (is.default i)
+
 -- an object that isn't a table has another shape
-pub other-shape : (object : Object) → ((x : tables.Table) → object ≡ objects.Table x → ⊥) → (thing_of object).0 ≡ TableShape → ⊥
+pub other-shape : (object : Object) → ((x : _) → object ≡ objects.Table x → ⊥) → (thing_of object).0 ≡ TableShape → ⊥
 other-shape (objects.Tads o) other is = cc
 other-shape (objects.Text t) other is = cc
 other-shape (objects.List l) other is = cc
@@ -257,12 +228,10 @@ units_of-without (Table pairs default) (cells.Prop n) some can apart = absurd (t
 units_of-without (Table pairs default) (cells.Elem n) some can apart = absurd (true≢false (sym can))
 
 -- only entries have ticks
-untimed : (p : Present) → not (is_some p.tick) ≡ true → tick_behind (Some p) ≡ 0
-untimed p form = by p.tick form
-  where
-    by : (tick : Option ℕ) → not (is_some tick) ≡ true → above 0 tick ≡ 0
-    by None form = refl
-    by (Some t) form = absurd (true≢false (sym form))
+untimed : (p : Present) → is_held (Some p) ≡ true → tick_behind (Some p) ≡ 0
+untimed (presents.Value None value) form = refl
+untimed (presents.Value (Some tick) value) form = absurd (true≢false (sym form))
+untimed (presents.Supers supers) form = absurd (true≢false (sym form))
 
 pub no-tick-prop : (cell : Cell) (o : Option Present) → is_prop cell ≡ true → IsTrue (is_form cell o) → tick_behind o ≡ 0
 no-tick-prop (cells.Prop n) None can form = refl
@@ -277,3 +246,20 @@ no-tick-element (cells.Elem n) (Some p) can form = untimed p form
 no-tick-element (cells.Prop n) o can form = absurd (true≢false (sym can))
 no-tick-element (cells.Key key) o can form = absurd (true≢false (sym can))
 no-tick-element cells.Default o can form = absurd (true≢false (sym can))
+
+-- a table has its default, and can have each key
+pub table-default : (o : Option Value) → IsSome (option_and_then entries_in o) → IsSome (holder_at o cells.Default)
+table-default None some = absurd (true≢false (sym some))
+table-default (Some (Tads supers class props)) some = absurd (true≢false (sym some))
+table-default (Some (Text bytes)) some = absurd (true≢false (sym some))
+table-default (Some (Items items)) some = absurd (true≢false (sym some))
+table-default (Some (Vector items)) some = absurd (true≢false (sym some))
+table-default (Some (Table pairs default)) some = refl
+
+pub table-key : (o : Option Value) (key : Key) → IsSome (option_and_then entries_in o) → IsTrue (can_have_at o (cells.Key key))
+table-key None key some = absurd (true≢false (sym some))
+table-key (Some (Tads supers class props)) key some = absurd (true≢false (sym some))
+table-key (Some (Text bytes)) key some = absurd (true≢false (sym some))
+table-key (Some (Items items)) key some = absurd (true≢false (sym some))
+table-key (Some (Vector items)) key some = absurd (true≢false (sym some))
+table-key (Some (Table pairs default)) key some = refl

@@ -1,7 +1,8 @@
 -- What the kinds rest on stays true of a store, whatever happens.
 use Rattle.std.proofs.Common.{◌≡◌, sym, subst, ℕ, ◌+◌, ◌≤◌, List, [], ◌∷◌, take, drop, Option, None, arith}
 use Rattle.std.specs.FinMap.{get, insert}
-use Rattle.t3_undo.specs.Content.{Present, Parts}
+use Rattle.t3_undo.specs.Content.{Parts}
+use Rattle.t3_undo.specs.Present.{Present}
 use Rattle.t3_undo.specs.Objects.{Objects, Segment, part_at}
 use Rattle.t3_undo.specs.Objects as journaled
 use Rattle.t3_undo.specs.Journal.{note_in}

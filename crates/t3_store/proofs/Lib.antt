@@ -1,7 +1,3 @@
-pub mod TadsValues
-pub mod VectorValues
-pub mod TableValues
-pub mod TableUnits
 pub mod KindValues
 pub mod Rows
 pub mod RowEdits

@@ -3,31 +3,34 @@ use Rattle.std.proofs.Common.{◌≡◌, ◌∙◌, ap, sym, subst, refl, ℕ, z
 use Rattle.std.specs.declared.cmp.Ordering.{Ordering}
 use Rattle.std.specs.declared.cmp.Ordering.TheVariants.{Less, Equal, Greater}
 use Rattle.std.specs.Ordering.{nat_cmp, is_eq, is_lt}
-use Rattle.std.specs.Option.{option_map}
+use Rattle.std.specs.Option.{option_map, option_and_then}
 use Rattle.std.specs.Cmp.{nat_cmp_total, ranked, unsigned_tied}
 use Rattle.std.specs.List.{AllByRecursion, sum_by, IsDistinct, filter_map}
 use Rattle.std.proofs.lemmas.List.Sums.{sum_by-cons}
 use Rattle.std.specs.FinMap.{FinMap, get, get-empty, empty, len, len-insert, len-empty, len-entries, insert, entries, from_entries, entries_sorted, same_map, get-insert, get-from_entries, get-entries, entries-insert, nat_cmp-IsAntisymmetric}
 use Rattle.std.specs.FinMap.Entries.{find, put, by_order, below_all, is_sorted}
-use Rattle.t3_undo.specs.Content.{Present, Parts, places_for}
+use Rattle.t3_undo.specs.Content.{Parts, places_for}
+use Rattle.t3_undo.specs.Present.{Present, value_in}
 use Rattle.t3_undo.specs.Objects.{Objects, adjust, adjusted, part_of, part_at, with_part, set_cell}
 use Rattle.t3_undo.specs.declared.cell.Cell.{Cell}
 use Rattle.t3_undo.specs.declared.cell.Cell.TheVariants as cells
 use Rattle.t3_holder.specs.declared.holder.Holder.{Holder}
 use Rattle.t3_undo.proofs.Maps.{get-adjust}
-use Rattle.t3_store.specs.Value.{Value, units_of, units_in, cell_units, holder_in, holder_at, can_have_at, can_lose_at, with_cell, without_cell, pair_of, IsNextAbove}
+use Rattle.t3_store.specs.Value.{Value, units_of, units_in, holder_in, holder_at, can_have_at, can_lose_at, with_cell, without_cell, IsNextAbove}
+use Rattle.t3_undo.specs.Units.{cell_units}
+use Rattle.t3_tadsobj.specs.Props.{pair_of, AreProps}
 use Rattle.t3_tadsobj.specs.Object as Tadsobject
 use Rattle.t3_tadsobj.specs.Object.{props_of, prop_in, bare}
 use Rattle.t3_undo.specs.Cell.{cell_cmp}
 use Rattle.t3_tadsobj.specs.declared.props.PropValue.{PropValue}
 use Rattle.t3_store.specs.Inner.Shapes.{Shape, thing_of, value_of, values, IsWithProp}
-use Rattle.t3_store.specs.Inner.Valid.{AreProps, AreValid}
+use Rattle.t3_store.specs.Inner.Valid.{AreValid}
 use Rattle.t3_store.specs.Inner.Entries.{IsRising, by_number, object_at, things_of, IsFirstFrom}
 use Rattle.t3_store.specs.declared.entries.Entry.{Entry}
 use Rattle.t3_store.specs.Inner.Store.{IsPersistent}
-use Rattle.t3_store.proofs.TadsValues.{props-set}
+use Rattle.t3_tadsobj.proofs.PropValues.{props-set}
 use Rattle.t3_store.proofs.FreshPlaces.{places-none, places-set, no-empty-none}
-use Rattle.t3_store.proofs.KindValues.{HasApartKeys, apart-keys, held-value, value-without, present-can, units_of-with, units_of-without}
+use Rattle.t3_store.proofs.KindValues.{HasApartKeys, apart-keys, held-value, value-without, present-can, units_of-with, units_of-without, thing-valued}
 use Rattle.t3_store.proofs.Rows.{same, same-is, differs, get-by_number, len-by_number}
 
 -- the value of an object among others
@@ -162,13 +165,22 @@ units_in-adjust m k g v e =
 
 -- what stands in a cell of an object
 pub held-at : (things : Objects Shape) (n : ℕ) (cell : Cell) → AreValid things
-    → option_map (λ present. present.value) (part_at things n cell) ≡ holder_at (get (values things) n) cell
+    → option_and_then value_in (part_at things n cell) ≡ holder_at (get (values things) n) cell
 held-at things n cell valid = by (get things n) refl ∙ sym (ap (λ o. holder_at o cell) (get-values things n))
   where
     by : (o : Option (Shape × Parts)) → get things n ≡ o
-        → option_map (λ present. present.value) (part_of o cell) ≡ holder_at (option_map value_of o) cell
+        → option_and_then value_in (part_of o cell) ≡ holder_at (option_map value_of o) cell
     by None e = refl
     by (Some x) e = held-value x cell (valid n x e)
+
+-- what is present is a value
+part-valued : (things : Objects Shape) (n : ℕ) (cell : Cell) → AreValid things
+    → is_some (option_and_then value_in (part_at things n cell)) ≡ is_some (part_at things n cell)
+part-valued things n cell valid = by (get things n) refl
+  where
+    by : (o : Option (Shape × Parts)) → get things n ≡ o → is_some (option_and_then value_in (part_of o cell)) ≡ is_some (part_of o cell)
+    by None e = refl
+    by (Some x) e = thing-valued x cell (valid n x e)
 
 pub present-can_at : (o : Option Value) (cell : Cell) → IsSome (holder_at o cell) → IsTrue (can_have_at o cell)
 present-can_at None cell some = absurd (true≢false (sym some))
@@ -235,7 +247,7 @@ counted-set things new n cell holder old units set valid can is counted =
     (λ i. cond (there i) (counted i) (counted i + cell_units cell)) ∙ sym (units_in-with (values things) n cell holder can) ∙ ap units_in (sym set)
   where
     there : is_some old ≡ is_some (holder_at (get (values things) n) cell)
-    there = ap is_some is ∙ sym (some-map (λ present. present.value) (part_at things n cell)) ∙ ap is_some (held-at things n cell valid)
+    there = ap is_some is ∙ sym (part-valued things n cell valid) ∙ ap is_some (held-at things n cell valid)
 
 pub none-of : {X : Type 0} (o : Option X) → is_some o ≡ false → o ≡ None
 none-of None e = refl
@@ -244,7 +256,7 @@ none-of (Some x) e = absurd (true≢false e)
 pub absent : (things : Objects Shape) (n : ℕ) (cell : Cell) (old : Option Present) → AreValid things
     → old ≡ part_at things n cell → is_some old ≡ false → holder_at (get (values things) n) cell ≡ None
 absent things n cell old valid is none =
-    sym (held-at things n cell valid) ∙ ap (option_map (λ present. present.value)) (sym is ∙ none-of old none)
+    sym (held-at things n cell valid) ∙ ap (option_and_then value_in) (sym is ∙ none-of old none)
 
 -- a cell taken away
 pub values-without : (things : Objects Shape) (n : ℕ) (cell : Cell) → AreValid things → IsTrue (can_lose_at (get (values things) n) cell)
@@ -334,7 +346,7 @@ made-more old new supers class items left d is h w = record {
   above = w.supers ∙ is.above;
   kind = w.class ∙ is.kind;
   within = omega (arith, is.within);
-  props = subst AreProps (sym w.parts) (props-set old.parts (cells.Prop (get_or items (left - 1) d).number) _ is.props refl);
+  props = subst AreProps (sym w.parts) (props-set old.parts (cells.Prop (get_or items (left - 1) d).number) _ is.props refl refl);
   fresh_places = w.places ∙ (λ i. insert (is.fresh_places i) (cells.Prop (get_or items (left - 1) d).number) 0)
       ∙ places-set old.parts (cells.Prop (get_or items (left - 1) d).number) _ ∙ ap places_for (sym w.parts);
 }
@@ -389,6 +401,7 @@ made-none object supers class items is = record {
   above = ap (λ (o : Tadsobject.Tads). o.supers) is;
   kind = ap (λ (o : Tadsobject.Tads). o.class) is;
   within = omega arith;
-  props = λ cell some. absurd (true≢false (sym some ∙ ap is_some (ap (λ (o : Tadsobject.Tads). get o.parts cell) is ∙ get-empty cell_cmp cell)));
+  props = λ cell present e.
+      absurd (true≢false (ap is_some (sym e ∙ ap (λ (o : Tadsobject.Tads). get o.parts cell) is ∙ get-empty cell_cmp cell)));
   fresh_places = ap (λ (o : Tadsobject.Tads). o.places) is ∙ sym (ap (λ (o : Tadsobject.Tads). places_for o.parts) is ∙ places-none);
 }

@@ -3,7 +3,8 @@ use Rattle.std.proofs.Common.{◌≡◌, ◌∙◌, ap, sym, refl, ℕ, zero, su
 use Rattle.std.specs.List.{list_any}
 use Rattle.std.specs.Cmp.{nat_cmp_total}
 use Rattle.std.specs.FinMap.{get, insert, same_map, nat_cmp-IsAntisymmetric}
-use Rattle.t3_undo.specs.Content.{Present, Parts}
+use Rattle.t3_undo.specs.Content.{Parts}
+use Rattle.t3_undo.specs.Present.{Present}
 use Rattle.t3_undo.specs.Objects as journaled
 use Rattle.t3_undo.specs.Objects.{Objects, OldPart, Segment, part_at, below, is_of, is_noted, put_back, before}
 use Rattle.t3_undo.specs.Journal.{total, room, is_due, add, note_in, newest_next}

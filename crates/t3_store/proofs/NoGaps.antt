@@ -4,7 +4,8 @@ use Rattle.std.specs.Option.{option_map}
 use Rattle.std.specs.FinMap.{empty, get, insert, get-empty}
 use Rattle.t3_holder.specs.declared.holder.Holder.{Holder}
 use Rattle.t3_undo.specs.Cell.{cell_cmp}
-use Rattle.t3_undo.specs.Content.{Present, Parts}
+use Rattle.t3_undo.specs.Content.{Parts}
+use Rattle.t3_undo.specs.Present.{Present}
 use Rattle.t3_undo.specs.Objects as journaled
 use Rattle.t3_undo.specs.Objects.{Objects, OldPart, Segment, part_of, part_at, put_back, before, is_of, is_noted}
 use Rattle.t3_undo.specs.Journal.{room, is_due, add, note_in}
@@ -16,26 +17,25 @@ use Rattle.t3_undo.proofs.PuttingBack.{kept, is_of-is, shape_at, part_at-set_cel
 use Rattle.t3_undo.proofs.Purging.{record-here, record-there, record-where}
 use Rattle.t3_lists.specs.Vector.{items_of, filled}
 use Rattle.t3_lists.proofs.Items.{items-filled}
-use Rattle.t3_store.specs.Value.{element_at, is_element_within, can_have_at}
+use Rattle.t3_lists.specs.Items.{element_at, is_element_within, IsWholeVector}
+use Rattle.t3_store.specs.Value.{can_have_at}
 use Rattle.t3_store.specs.Inner.Shapes.{Shape, TadsShape, TextShape, ItemsShape, VectorShape, TableShape, values, value_of}
-use Rattle.t3_store.specs.Inner.Valid.{IsWholeVector, IsValidAs, AreValid}
+use Rattle.t3_store.specs.Inner.Valid.{IsValidAs, AreValid}
 use Rattle.t3_store.specs.Inner.Store.{record_of}
 use Rattle.t3_store.specs.Inner.Bounded.{parts_of, parts_under, IsFilledBelow, HaveNoGaps, IsWithoutGaps}
 use Rattle.t3_store.proofs.MapValues.{get-values}
 use Rattle.t3_store.proofs.Marks.{before-undue, before-now}
-use Rattle.t3_store.proofs.VectorValues.{held-filled}
+use Rattle.t3_lists.proofs.ItemValues.{held-filled, filled-valued}
+use Rattle.t3_tadsobj.proofs.PropValues.{is-prop}
+use Rattle.t3_tables.proofs.EntryValues.{table-cell}
 
 -- ---- elements of vectors
 
 abbrev Items : Type 0
 Items = List Holder
 
-some-value : (o : Option Present) → is_some (option_map (λ present. present.value) o) ≡ is_some o
-some-value None = refl
-some-value (Some present) = refl
-
 some-element : (items : Items) (cell : Cell) → is_some (get (filled items) cell) ≡ is_some (element_at cell items)
-some-element items cell = sym (some-value (get (filled items) cell)) ∙ ap is_some (held-filled items cell)
+some-element items cell = sym (filled-valued items cell) ∙ ap is_some (held-filled items cell)
 
 -- an item is there exactly where its number is that of one
 item-less : (items : Items) (index : ℕ) → is_some (slice_get items index) ≡ true → index < length items
@@ -79,15 +79,11 @@ vector-below parts i j whole above less some =
 
 thing-below : (shape : Shape) (parts : Parts) (i j : ℕ) → IsValidAs shape parts → 0 < i → i < j → IsSome (get parts (cells.Elem j))
     → IsSome (get parts (cells.Elem i))
-thing-below (TadsShape supers class) parts i j valid above less some = absurd (true≢false (sym (valid (cells.Elem j) some)))
+thing-below (TadsShape supers class) parts i j valid above less some = absurd (true≢false (sym (is-prop parts (cells.Elem j) valid some)))
 thing-below (TextShape bytes) parts i j valid above less some = absurd (nothing parts (cells.Elem j) valid.1 some)
 thing-below (ItemsShape items) parts i j valid above less some = absurd (nothing parts (cells.Elem j) valid.1 some)
 thing-below VectorShape parts i j valid above less some = vector-below parts i j valid above less some
-thing-below TableShape parts i j valid above less some = by (get parts (cells.Elem j)) refl some
-  where
-    by : (o : Option Present) → get parts (cells.Elem j) ≡ o → IsSome o → IsSome (get parts (cells.Elem i))
-    by None e some = absurd (true≢false (sym some))
-    by (Some present) e some = absurd (true≢false (sym (valid.only (cells.Elem j) present e)))
+thing-below TableShape parts i j valid above less some = absurd (true≢false (sym (table-cell parts (cells.Elem j) valid some)))
 
 pub present-below : (m : Objects Shape) (n i j : ℕ) → AreValid m → 0 < i → i < j → IsSome (part_at m n (cells.Elem j))
     → IsSome (part_at m n (cells.Elem i))

@@ -5,7 +5,8 @@ use Rattle.std.specs.Option.{option_map}
 use Rattle.std.specs.Cmp.{nat_cmp_total, eq_by_cmp_equiv}
 use Rattle.std.specs.FinMap.{get, insert, get-insert}
 use Rattle.t3_undo.specs.Cell.{cell_cmp, cell_cmp_total}
-use Rattle.t3_undo.specs.Content.{Parts, Places, Present, places_for}
+use Rattle.t3_undo.specs.Content.{Parts, Places, places_for}
+use Rattle.t3_undo.specs.Present.{Present}
 use Rattle.t3_undo.specs.Content as content
 use Rattle.t3_undo.specs.Objects.{Objects, part_at, part_of, with_part, set_at, set_cell}
 use Rattle.t3_undo.specs.declared.cell.Cell.{Cell}

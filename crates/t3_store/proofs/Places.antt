@@ -5,7 +5,8 @@ use Rattle.std.specs.Option.{option_map}
 use Rattle.std.specs.Cmp.{nat_cmp_total}
 use Rattle.std.specs.FinMap.{FinMap, get, insert, get-insert, contains_key}
 use Rattle.t3_undo.specs.Cell.{cell_cmp, cell_cmp_total}
-use Rattle.t3_undo.specs.Content.{Present, Places}
+use Rattle.t3_undo.specs.Content.{Places}
+use Rattle.t3_undo.specs.Present.{Present}
 use Rattle.t3_undo.specs.Content as content
 use Rattle.t3_undo.specs.Objects.{part_at}
 use Rattle.t3_undo.specs.declared.cell.Cell.{Cell}

@@ -2,7 +2,8 @@
 use Rattle.std.proofs.Common.{◌≡◌, ◌≢◌, ◌∙◌, ap, sym, subst, refl, ℕ, ◌+◌, ◌<◌, ◌≤◌, ◌⊎◌, inl, inr, Bool, true, false, ◌||◌, List, [], ◌∷◌, Option, None, Some, IsSome, is_some, true≢false, arith}
 use Rattle.std.specs.Ordering.{nat_cmp}
 use Rattle.std.specs.FinMap.{FinMap, get}
-use Rattle.t3_undo.specs.Content.{Parts, Places, Present}
+use Rattle.t3_undo.specs.Content.{Parts, Places}
+use Rattle.t3_undo.specs.Present.{Present}
 use Rattle.t3_undo.specs.Objects.{OldPart, Segment, is_of, is_noted}
 use Rattle.t3_undo.specs.Journal.{total}
 use Rattle.t3_undo.specs.Stamps.{AreStamped, HaveSerialsBelow, IsStamp, HasRecord}

@@ -1,15 +1,18 @@
 -- Objects of which one has another value for a property that it has.
 use Rattle.std.proofs.Common.{◌≡◌, ◌∙◌, ap, sym, subst, refl, ℕ, cond, ◌+◌, true, false, Option, Some, None, IsSome, IsTrue, is_some, true≢false, if◌then◌else◌}
-use Rattle.std.specs.Option.{option_map}
+use Rattle.std.specs.Option.{option_and_then}
 use Rattle.std.specs.Ordering.{nat_cmp}
 use Rattle.std.specs.FinMap.{FinMap, get}
 use Rattle.t3_holder.specs.declared.holder.Holder.{Holder}
-use Rattle.t3_undo.specs.Content.{Present, Parts, shown}
+use Rattle.t3_undo.specs.Content.{Parts, shown, is_form}
+use Rattle.t3_undo.proofs.PresentForms.{value-formed}
+use Rattle.t3_undo.specs.Present.{Present, value_in}
 use Rattle.t3_undo.specs.Objects.{Objects, set_cell, adjust, with_part}
 use Rattle.t3_undo.specs.declared.cell.Cell.{Cell}
 use Rattle.t3_undo.specs.declared.cell.Cell.TheVariants as cells
 use Rattle.t3_undo.specs.declared.content.Content.TheVariants as contents
-use Rattle.t3_store.specs.Value.{Value, holder_in, holder_at, can_have, with_cell, cell_units, units_in}
+use Rattle.t3_store.specs.Value.{Value, holder_in, holder_at, can_have, with_cell, units_in}
+use Rattle.t3_undo.specs.Units.{cell_units}
 use Rattle.t3_store.specs.Store.{StoreValue, is_persistent, with_value, noted, changed_in}
 use Rattle.t3_store.specs.Store as stores
 use Rattle.t3_store.specs.Inner.Store.{AreNumbered}
@@ -39,8 +42,9 @@ pub object-there : (things : Objects Shape) (n : ℕ) (cell : Cell) → IsSome (
 object-there things n cell some =
     sym (some-map value_of (get things n)) ∙ ap is_some (sym (get-values things n)) ∙ some-there (get (values things) n) cell some
 
-pub held-there : (was : Option Present) (o : Option Holder) → option_map (λ present. present.value) was ≡ o → IsSome was → IsSome o
-held-there was o is some = ap is_some (sym is) ∙ some-map (λ present. present.value) was ∙ some
+pub held-there : (cell : Cell) (was : Option Present) (o : Option Holder) → option_and_then value_in was ≡ o → IsTrue (is_form cell was) → IsSome was
+    → IsSome o
+held-there cell was o is form some = ap is_some (sym is) ∙ value-formed cell was form ∙ some
 
 -- no object is in both halves
 not-both : {X Y : Type 0} (p : Option X) (t : Option Y) → (is_some p ≡ true → t ≡ None) → is_some t ≡ true → is_some p ≡ false
@@ -94,10 +98,10 @@ module _ (things : Objects Shape) (n p : ℕ) (value : Holder) (valid : AreValid
 
 -- where this stood, which is nothing where nothing changed
 module _ (things new : Objects Shape) (n p : ℕ) (value : Holder) (was : Option Present) (valid : AreValid things)
-    (is : option_map (λ present. present.value) was ≡ holder_at (get (values things) n) (cells.Prop p))
+    (is : option_and_then value_in was ≡ holder_at (get (values things) n) (cells.Prop p)) (form : IsTrue (is_form (cells.Prop p) was))
     (set : IsSome was → new ≡ set_cell things n (cells.Prop p) (shown (contents.Held value))) (kept : was ≡ None → new ≡ things) where
   held : IsSome was → IsSome (holder_at (get (values things) n) (cells.Prop p))
-  held some = held-there was (holder_at (get (values things) n) (cells.Prop p)) is some
+  held some = held-there (cells.Prop p) was (holder_at (get (values things) n) (cells.Prop p)) is form some
 
   pub values-after : IsSome was → values new ≡ adjust (values things) n (with_cell (cells.Prop p) value)
   values-after some = ap values (set some) ∙ values-replaced things n p value valid (held some)

@@ -5,7 +5,8 @@ use Rattle.std.specs.Ordering.{nat_cmp, eq_by_cmp}
 use Rattle.std.specs.Cmp.{nat_cmp_total}
 use Rattle.std.specs.FinMap.{FinMap, get, len, get-retain_keys, nat_cmp-IsAntisymmetric}
 use Rattle.std.proofs.lemmas.List.{length-reverse}
-use Rattle.t3_undo.specs.Content.{Parts, Places, Present}
+use Rattle.t3_undo.specs.Content.{Parts, Places}
+use Rattle.t3_undo.specs.Present.{Present}
 use Rattle.t3_undo.specs.Objects.{Objects, OldPart, Segment, before, put_back, with_part}
 use Rattle.t3_undo.specs.Journal.{Held, newest_next}
 use Rattle.t3_undo.specs.UndoLaw as law

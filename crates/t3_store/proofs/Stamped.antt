@@ -6,7 +6,8 @@ use Rattle.std.specs.Ordering.{nat_cmp, eq_by_cmp}
 use Rattle.std.specs.Cmp.{nat_cmp_total}
 use Rattle.std.specs.FinMap.{FinMap, get, insert, get-insert, same_map, get-retain_keys, nat_cmp-IsAntisymmetric}
 use Rattle.t3_undo.specs.Cell.{cell_cmp, cell_cmp_total}
-use Rattle.t3_undo.specs.Content.{Places, Present}
+use Rattle.t3_undo.specs.Content.{Places}
+use Rattle.t3_undo.specs.Present.{Present}
 use Rattle.t3_undo.specs.Objects.{OldPart, Segment, is_of, is_noted}
 use Rattle.t3_undo.specs.Journal.{Held, note_in, serial_for, newest_record, but_newest_record, HaveDistinctCells}
 use Rattle.t3_undo.specs.Stamps.{Stamps, AreStamped, IsStamp, IsUnnoted, stamp_after}

@@ -7,9 +7,8 @@ use Rattle.t3_undo.specs.Content.{Parts}
 use Rattle.t3_undo.specs.Objects.{Objects}
 use Rattle.t3_undo.specs.Journal.{Held}
 use Rattle.std.specs.Prelude.{option_and_then}
-use Rattle.t3_store.specs.Value.{units_in, supers_of}
+use Rattle.t3_store.specs.Value.{units_in, supers_of, Objects as Values}
 use Rattle.t3_store.specs.Store.{either, AreLimits, AreBelow, started}
-use Rattle.t3_store.specs.Value.{Objects as Values}
 use Rattle.t3_store.specs.Inner.Shapes.{Shape, Stored, values, value_of, AreWithin, stamp_at, HaveZeroStamps}
 use Rattle.t3_undo.specs.Stamps.{AreStamped}
 use Rattle.t3_store.proofs.Stamped.{stamped-afresh}

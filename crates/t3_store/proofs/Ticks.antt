@@ -5,11 +5,12 @@ use Rattle.std.specs.Ordering.{nat_cmp}
 use Rattle.std.specs.Cmp.{nat_cmp_total, Equal-is}
 use Rattle.std.specs.List.{AllByRecursion}
 use Rattle.std.specs.FinMap.{FinMap, get, insert, empty, get-empty, get-insert, get-retain_keys, nat_cmp-IsAntisymmetric}
-use Rattle.t3_undo.specs.Content.{Present}
+use Rattle.t3_undo.specs.Present.{Present}
 use Rattle.t3_undo.specs.Objects.{OldPart, Segment, adjust}
 use Rattle.t3_undo.specs.Journal.{room, is_due, add, note_in}
 use Rattle.t3_undo.proofs.Maps.{get-adjust}
-use Rattle.t3_store.specs.Inner.Shapes.{tick_behind, ticks_below, risen, AreWithin}
+use Rattle.t3_store.specs.Inner.Shapes.{tick_behind, ticks_below, AreWithin}
+use Rattle.t3_tables.specs.Entries.{risen}
 use Rattle.t3_store.specs.Inner.Store.{AreRecordsWithin}
 use Rattle.t3_store.proofs.Rows.{same}
 

@@ -5,7 +5,8 @@ use Rattle.std.specs.Prelude.{IfSome}
 use Rattle.std.specs.Ordering.{nat_cmp}
 use Rattle.std.specs.Cmp.{nat_cmp_total}
 use Rattle.std.specs.FinMap.{get, insert, empty, get-empty, get-insert}
-use Rattle.t3_undo.specs.Content.{Present, Parts, is_form}
+use Rattle.t3_undo.specs.Content.{Parts, is_form}
+use Rattle.t3_undo.specs.Present.{Present}
 use Rattle.t3_undo.specs.Objects as journaled
 use Rattle.t3_undo.specs.Objects.{Objects, OldPart, Segment, part_at, is_noted, before, with_part}
 use Rattle.t3_undo.specs.Journal.{room, is_due, add, note_in, newest_next, newest_records}

@@ -5,14 +5,13 @@ use Rattle.std.specs.List.{AllByRecursion}
 use Rattle.std.specs.Ordering.{nat_cmp}
 use Rattle.std.specs.Cmp.{nat_cmp_total}
 use Rattle.std.specs.FinMap.{FinMap, get, insert, get-insert}
-use Rattle.t3_undo.specs.Content.{Parts}
+use Rattle.t3_undo.specs.Content.{Parts, Places}
 use Rattle.t3_undo.specs.Objects.{Objects, Segment}
 use Rattle.t3_tadsobj.specs.Order.{SupersAt, IsWalk}
 use Rattle.t3_store.specs.Store.{either}
 use Rattle.t3_store.specs.Whole.{AreThere, IsAcyclic}
 use Rattle.t3_store.specs.Inner.Shapes.{Shape}
 use Rattle.t3_store.specs.Inner.Store.{AreNumbered, IsSound}
-use Rattle.t3_undo.specs.Content.{Places}
 use Rattle.t3_store.specs.Inner.Whole.{supers_by, supers_from, supers_of_both, IsGiven, AreGiven, AreOlderSupers, AreWhole}
 use Rattle.t3_store.proofs.Rows.{same, same-is, same-itself, differs}
 

@@ -8,7 +8,8 @@ use Rattle.t3_holder.specs.declared.holder.Holder.{Holder}
 use Rattle.t3_undo.specs.Cell.{cell_cmp, coded_cell}
 use Rattle.t3_undo.specs.Objects.{adjust}
 use Rattle.t3_undo.specs.declared.cell.Cell.{Cell}
-use Rattle.t3_store.specs.Value.{Value, Objects, coded_objects, holder_at, with_cell, without_cell, units_of, units_in, cell_units}
+use Rattle.t3_store.specs.Value.{Value, Objects, coded_objects, holder_at, with_cell, without_cell, units_of, units_in}
+use Rattle.t3_undo.specs.Units.{cell_units}
 use Rattle.t3_store.specs.declared.limits.StoreLimits.{StoreLimits}
 use Rattle.t3_store.specs.declared.admit.Admit.{Admit}
 use Rattle.t3_store.specs.declared.admit.Admit.TheVariants.{Fits, Clash, Full}

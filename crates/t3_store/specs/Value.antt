@@ -1,30 +1,26 @@
 -- The values of objects, by kind: what stands in their cells, how a cell is set, and how much they count.
-use Rattle.std.specs.Prelude.{◌≡◌, ◌<◌, ◌≤◌, ℕ, zero, suc, ◌+◌, ◌-◌, ◌==◌, Bool, true, false, not, ◌&&◌, ◌||◌, if◌then◌else◌, List, [], ◌∷◌, ◌++◌, Option, None, Some, map, filter, take, length, slice_get, slice_set, sum_by, MatchOption, IsSome, is_some, option_and_then, nat_lt, refl}
-use Rattle.std.specs.Int.{div_ceil}
-use Rattle.std.specs.Ordering.{nat_cmp, eq_by_cmp}
-use Rattle.std.specs.FinMap.{FinMap, empty, get, insert, remove, len, entries, from_entries, code as coded_map}
+use Rattle.std.specs.Prelude.{◌≡◌, ◌<◌, ◌≤◌, ℕ, zero, suc, ◌+◌, Bool, false, ◌||◌, List, [], Option, None, Some, map, length, sum_by, MatchOption, IsSome, option_and_then, nat_lt, refl}
+use Rattle.std.specs.Ordering.{nat_cmp}
+use Rattle.std.specs.FinMap.{FinMap, empty, get, len, entries, from_entries, code as coded_map}
 use Rattle.std.specs.Coded.{Coded, code_by, coded×, coded_ℕ, coded_bool, coded_list}
 use Rattle.t3_holder.specs.declared.holder.Holder.{Holder}
 use Rattle.t3_holder.specs.declared.holder.Holder.TheVariants as holders
 use Rattle.t3_undo.specs.Content.{coded_holder}
-use Rattle.t3_undo.specs.Key.{key_cmp, coded_key}
+use Rattle.t3_undo.specs.Key.{coded_key}
 use Rattle.t3_undo.specs.declared.cell.Cell.{Cell}
 use Rattle.t3_undo.specs.declared.cell.Cell.TheVariants as cells
 use Rattle.t3_undo.specs.declared.key.Key.{Key}
-use Rattle.t3_undo.specs.declared.key.Key.TheVariants as keys
+use Rattle.t3_undo.specs.Units.{eights, key_units}
+use Rattle.t3_tadsobj.specs.Props.{PropMap, pair_of, prop_at, with_prop, without_prop}
+use Rattle.t3_lists.specs.Items.{element_at, with_element, without_element, is_element_for, is_last}
+use Rattle.t3_tables.specs.Entries.{entry_at, entries_with, default_with, without_entry, is_key}
 use Rattle.t3_tadsobj.specs.Object.{is_prop}
-use Rattle.t3_tadsobj.specs.declared.props.PropValue.{PropValue}
-use Rattle.t3_tables.specs.Order.{with_value}
 use Rattle.t3_tables.specs.Table.{is_cell}
 use Rattle.t3_tables.specs.declared.pair.Pair.{Pair}
 use Rattle.t3_store.specs.declared.kind.Kind.{Kind}
 use Rattle.t3_store.specs.declared.kind.Kind.TheVariants as kinds
 use Rattle.t3_store.specs.declared.new_object.NewObject.{NewObject}
 use Rattle.t3_store.specs.declared.new_object.NewObject.TheVariants as new
-
--- properties, from their numbers to their values
-abbrev pub PropMap : Type 0
-PropMap = FinMap nat_cmp Holder
 
 -- the value of an object: of a tads-object its superclasses from left to right, whether it is a class, and its properties;
 -- the bytes of a string; the items of a list or a vector; the entries of a table with distinct keys, the oldest first, and
@@ -144,37 +140,6 @@ kind_of (Items items) = kinds.List
 kind_of (Vector items) = kinds.Vector
 kind_of (Table pairs default) = kinds.Table
 
--- the property in a cell
-abbrev pub prop_at : Cell → PropMap → Option Holder
-prop_at (cells.Prop number) props = get props number
-prop_at (cells.Elem _) props = None
-prop_at (cells.Key _) props = None
-prop_at cells.Default props = None
-
--- the element of a number, from 1 on
-abbrev pub element_of : ℕ → List Holder → Option Holder
-element_of zero items = None
-element_of (suc index) items = slice_get items index
-
--- the element in a cell
-abbrev pub element_at : Cell → List Holder → Option Holder
-element_at (cells.Elem number) items = element_of number items
-element_at (cells.Prop _) items = None
-element_at (cells.Key _) items = None
-element_at cells.Default items = None
-
--- the value under a key
-abbrev pub value_under : Key → List Pair → Option Holder
-value_under key [] = None
-value_under key (pair ∷ pairs) = if eq_by_cmp key_cmp key pair.key then Some pair.value else value_under key pairs
-
--- what stands in a cell of a table
-abbrev pub entry_at : Cell → List Pair → Holder → Option Holder
-entry_at (cells.Key key) pairs default = value_under key pairs
-entry_at cells.Default pairs default = Some default
-entry_at (cells.Prop _) pairs default = None
-entry_at (cells.Elem _) pairs default = None
-
 -- what stands in a cell of a value
 abbrev pub holder_in : Value → Cell → Option Holder
 holder_in (Tads supers class props) cell = prop_at cell props
@@ -183,71 +148,13 @@ holder_in (Items items) cell = None
 holder_in (Vector items) cell = element_at cell items
 holder_in (Table pairs default) cell = entry_at cell pairs default
 
-abbrev pub with_prop : Cell → Holder → PropMap → PropMap
-with_prop (cells.Prop number) holder props = insert props number holder
-with_prop (cells.Elem _) holder props = props
-with_prop (cells.Key _) holder props = props
-with_prop cells.Default holder props = props
-
--- the items with the one at an index set, or with one more behind the last
-abbrev pub set_item : ℕ → Holder → List Holder → List Holder
-set_item index holder items = if nat_lt index (length items) then slice_set items index holder else items ++ holder ∷ []
-
-abbrev pub set_element : ℕ → Holder → List Holder → List Holder
-set_element zero holder items = items
-set_element (suc index) holder items = set_item index holder items
-
-abbrev pub with_element : Cell → Holder → List Holder → List Holder
-with_element (cells.Elem number) holder items = set_element number holder items
-with_element (cells.Prop _) holder items = items
-with_element (cells.Key _) holder items = items
-with_element cells.Default holder items = items
-
--- the entries with a key set: one that is absent comes last, and one that is present keeps its place
-abbrev pub set_entry : Key → Holder → List Pair → List Pair
-set_entry key holder pairs =
-    if is_some (value_under key pairs) then map (with_value key holder) pairs else pairs ++ record { key = key; value = holder } ∷ []
-
-abbrev pub with_table_cell : Cell → Holder → List Pair → Holder → Value
-with_table_cell (cells.Key key) holder pairs default = Table (set_entry key holder pairs) default
-with_table_cell cells.Default holder pairs default = Table pairs holder
-with_table_cell (cells.Prop _) holder pairs default = Table pairs default
-with_table_cell (cells.Elem _) holder pairs default = Table pairs default
-
 -- a value with one cell set
 abbrev pub with_cell : Cell → Holder → Value → Value
 with_cell cell holder (Tads supers class props) = Tads supers class (with_prop cell holder props)
 with_cell cell holder (Text bytes) = Text bytes
 with_cell cell holder (Items items) = Items items
 with_cell cell holder (Vector items) = Vector (with_element cell holder items)
-with_cell cell holder (Table pairs default) = with_table_cell cell holder pairs default
-
-abbrev pub without_prop : Cell → PropMap → PropMap
-without_prop (cells.Prop number) props = remove props number
-without_prop (cells.Elem _) props = props
-without_prop (cells.Key _) props = props
-without_prop cells.Default props = props
-
--- the items without the last one
-abbrev pub but_last : List Holder → List Holder
-but_last items = take (length items - 1) items
-
--- an element that is taken away is the last one
-abbrev pub without_element : Cell → List Holder → List Holder
-without_element (cells.Elem _) items = but_last items
-without_element (cells.Prop _) items = items
-without_element (cells.Key _) items = items
-without_element cells.Default items = items
-
--- the entries without a key
-abbrev pub without_key : Key → List Pair → List Pair
-without_key key pairs = filter (λ pair. not (eq_by_cmp key_cmp key pair.key)) pairs
-
-abbrev pub without_entry : Cell → List Pair → List Pair
-without_entry (cells.Key key) pairs = without_key key pairs
-without_entry cells.Default pairs = pairs
-without_entry (cells.Prop _) pairs = pairs
-without_entry (cells.Elem _) pairs = pairs
+with_cell cell holder (Table pairs default) = Table (entries_with cell holder pairs) (default_with cell holder default)
 
 -- a value with one cell taken away
 abbrev pub without_cell : Cell → Value → Value
@@ -257,17 +164,6 @@ without_cell cell (Items items) = Items items
 without_cell cell (Vector items) = Vector (without_element cell items)
 without_cell cell (Table pairs default) = Table (without_entry cell pairs) default
 
--- an element that is there, or the next one, which is at most number 65,535
-abbrev pub is_element_within : ℕ → ℕ → Bool
-is_element_within zero count = false
-is_element_within (suc index) count = nat_lt index count || (index == count && nat_lt index 65535)
-
-abbrev pub is_element_for : Cell → ℕ → Bool
-is_element_for (cells.Elem number) count = is_element_within number count
-is_element_for (cells.Prop _) count = false
-is_element_for (cells.Key _) count = false
-is_element_for cells.Default count = false
-
 -- whether the value can have something in the cell, as it stands
 abbrev pub can_have : Value → Cell → Bool
 can_have (Tads supers class props) cell = is_prop cell
@@ -276,19 +172,6 @@ can_have (Items items) cell = false
 can_have (Vector items) cell = is_element_for cell (length items)
 can_have (Table pairs default) cell = is_cell cell
 
--- the last element, or an entry
-abbrev pub is_last : Cell → ℕ → Bool
-is_last (cells.Elem number) count = nat_lt 0 number && (number == count)
-is_last (cells.Prop _) count = false
-is_last (cells.Key _) count = false
-is_last cells.Default count = false
-
-abbrev pub is_key : Cell → Bool
-is_key (cells.Key _) = true
-is_key cells.Default = false
-is_key (cells.Prop _) = false
-is_key (cells.Elem _) = false
-
 -- whether what stands in the cell can be taken away: a property, the last element of a vector, or an entry of a table
 abbrev pub can_lose : Value → Cell → Bool
 can_lose (Tads supers class props) cell = is_prop cell
@@ -296,28 +179,6 @@ can_lose (Text bytes) cell = false
 can_lose (Items items) cell = false
 can_lose (Vector items) cell = is_last cell (length items)
 can_lose (Table pairs default) cell = is_key cell
-
--- bytes by eights, rounded up
-abbrev pub eights : List ℕ → ℕ
-eights bytes = div_ceil (length bytes) 8
-
--- how many units an entry under a key counts
-abbrev pub key_units : Key → ℕ
-key_units keys.Nil = 1
-key_units keys.True = 1
-key_units (keys.Int _) = 1
-key_units (keys.Enum _) = 1
-key_units (keys.Prop _) = 1
-key_units (keys.Func _) = 1
-key_units (keys.Obj _) = 1
-key_units (keys.Text bytes) = 1 + eights bytes
-
--- how many units a cell that is set counts
-abbrev pub cell_units : Cell → ℕ
-cell_units (cells.Prop _) = 1
-cell_units (cells.Elem _) = 1
-cell_units (cells.Key key) = key_units key
-cell_units cells.Default = 0
 
 -- how many units a value counts
 abbrev pub units_of : Value → ℕ
@@ -384,9 +245,6 @@ can_lose_at (Some value) cell = can_lose value cell
 abbrev pub can_be_written : Option Holder → Option Value → Cell → Bool
 can_be_written None value cell = can_lose_at value cell
 can_be_written (Some holder) value cell = can_have_at value cell
-
-abbrev pub pair_of : PropValue → ℕ × Holder
-pair_of prop = (prop.number, prop.value)
 
 -- the value of what is to be made
 abbrev pub new_value : NewObject → Value

@@ -1,7 +1,8 @@
 //! Objects in a row, by rising number.
-ghost use Rattle.std.specs.Prelude.{◌≡◌, ◌+◌, ◌-◌, ◌^◌, ◌<◌, ◌≤◌, ◌↔◌, ◌++◌, [], ◌∷◌, ℕ, length, take, drop, slice_get, true, IsTrue, IsSome, IfSome, IfOk, None, Some, OnOk, OnErr, is_some, option_map, map};
+ghost use Rattle.std.specs.Prelude.{◌≡◌, ◌+◌, ◌-◌, ◌^◌, ◌<◌, ◌≤◌, ◌↔◌, ◌++◌, [], ◌∷◌, ℕ, length, take, drop, slice_get, true, IsTrue, IsSome, IfSome, IfOk, None, Some, OnOk, OnErr, is_some, option_map, option_and_then, map};
 ghost use Rattle.std.specs.FinMap.{get, insert};
 ghost use Rattle.std.specs.List.{AllWithin, list_any};
+ghost use Rattle.t3_undo.specs.Present.{value_in};
 ghost use Rattle.t3_undo.specs.Content.{shown, is_form};
 ghost use Rattle.t3_undo.specs.declared.cell.Cell.TheVariants.{Prop};
 ghost use Rattle.t3_undo.specs.Objects.{part_at, set_cell, adjust, below, put_back};
@@ -9,7 +10,8 @@ ghost use Rattle.t3_undo.specs.Journal.{old_of, newest_records};
 ghost use Rattle.t3_undo.specs.Stamps.{AreStamped};
 ghost use Rattle.t3_store.specs.Inner.Store.{CanBePut, CanEachBePut, AreRecordsWithin, emptied};
 ghost use Rattle.t3_store.specs.Value.{holder_at, can_have_at, with_cell};
-ghost use Rattle.t3_store.specs.Inner.Shapes.{thing_of, places_of, tick_of, values, has_place, stamp_at, with_place_stamp, with_place, places_below, ticks_below, tick_behind, risen, AreWithin, HasFreshPlaces};
+ghost use Rattle.t3_store.specs.Inner.Shapes.{thing_of, places_of, tick_of, values, has_place, stamp_at, with_place_stamp, with_place, places_below, ticks_below, tick_behind, AreWithin, HasFreshPlaces};
+ghost use Rattle.t3_tables.specs.Entries.{risen};
 ghost use Rattle.t3_store.specs.Inner.Bounded.{AreBounded, IsTidiedAt, IsWithoutGaps, parts_under, is_recorded};
 ghost use Rattle.t3_store.specs.Inner.Valid.{IsValid, AreValid};
 ghost use Rattle.t3_store.specs.Inner.Entries.{IsRising, index_of, is_numbered, object_at, things_of, places_in, ticks_in, stored_of, keyed, AreAllValid, HaveTicksForUnits, HasTickForUnits, HaveAllFreshPlaces, IsFirstFrom};
@@ -163,7 +165,7 @@ pub(crate) fn replace_prop(
     ensures placed { IsSome (shown result)
         → IsTrue (has_place (places_in entries.old.items) number (Prop property)) }
     ensures formed { IsTrue (is_form (Prop property) (shown result)) }
-    ensures value { option_map (λ present. present.value) (shown result)
+    ensures value { option_and_then value_in (shown result)
         ≡ holder_at (get (values (things_of entries.old.items)) number) (Prop property) }
     ensures set { IsSome (shown result) → things_of entries.new.items
         ≡ set_cell (things_of entries.old.items) number (Prop property) (shown (Content.Held value)) }

@@ -4,7 +4,8 @@ ghost use Rattle.std.specs.Ordering.{nat_cmp};
 ghost use Rattle.t3_lists.specs.Vector.{parts_of, filled};
 ghost use Rattle.t3_lists.specs.Vector as vectors;
 ghost use Rattle.t3_undo.specs.Content.{with_place, places_for};
-ghost use Rattle.t3_store.specs.Value.{Tads, pair_of, new_value, units_of, HasFittingLength};
+ghost use Rattle.t3_store.specs.Value.{Tads, new_value, units_of, HasFittingLength};
+ghost use Rattle.t3_tadsobj.specs.Props.{pair_of};
 ghost use Rattle.t3_store.specs.Inner.Shapes.{thing_of, value_of, tick_of, HasFreshPlaces, HasElements, IsWithElement};
 ghost use Rattle.t3_store.specs.Inner.Valid.{IsValid};
 
@@ -68,7 +69,7 @@ impl NewObject {
             NewObject::Text(bytes) => Ok(Object::Text(Text::of(bytes))),
             NewObject::List(items) => Ok(Object::List(List::of(items))),
             NewObject::Vector(items) => Ok(Object::Vector(make_vector(alloc, &items)?)),
-            NewObject::Table => Ok(Object::Table(Table::new(alloc))),
+            NewObject::Table => Ok(Object::Table(Box::new(alloc, Table::new(alloc))?)),
         }
     }
 }

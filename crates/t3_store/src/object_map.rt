@@ -1,11 +1,13 @@
-ghost use Rattle.std.specs.Prelude.{◌≡◌, ◌+◌, ◌-◌, ◌<◌, ◌≤◌, ◌^◌, ℕ, Some, None, IsTrue, IsSome, IfSome, IfOk, OnOk, OnErr, is_some, option_map, drop};
+ghost use Rattle.std.specs.Prelude.{◌≡◌, ◌+◌, ◌-◌, ◌<◌, ◌≤◌, ◌^◌, ℕ, Some, None, IsTrue, IsSome, IfSome, IfOk, OnOk, OnErr, is_some, option_map, option_and_then, drop};
 ghost use Rattle.std.specs.List.{list_any};
 ghost use Rattle.std.specs.FinMap as finite;
 ghost use Rattle.std.specs.FinMap.{get, insert, entries, keys};
+ghost use Rattle.t3_undo.specs.Present.{value_in};
 ghost use Rattle.t3_undo.specs.Content.{shown, is_form};
 ghost use Rattle.t3_undo.specs.declared.cell.Cell.TheVariants.{Prop};
 ghost use Rattle.t3_undo.specs.Objects.{part_at};
-ghost use Rattle.t3_store.specs.Value.{holder_at, can_have_at, can_lose_at, with_cell, without_cell, cell_units, cells_at, units_of, units_in, IsNextAbove};
+ghost use Rattle.t3_store.specs.Value.{holder_at, can_have_at, can_lose_at, with_cell, without_cell, cells_at, units_of, units_in, IsNextAbove};
+ghost use Rattle.t3_undo.specs.Units.{cell_units};
 ghost use Rattle.t3_store.specs.Inner.Shapes.{thing_of, places_of, tick_of, value_of, values, has_place, stamp_at, with_place_stamp, with_place, AreWithin, IsChanged};
 ghost use Rattle.t3_store.specs.Inner.Bounded.{HaveFreshPlaces, HaveNoGaps, IsTidiedAt, IsPlaced, IsFilledBelow, AreBounded, parts_under};
 ghost use Rattle.t3_store.specs.Inner.Valid.{IsValid, AreValid};
@@ -93,7 +95,7 @@ impl ObjectMap {
     #[inline(always)]
     pub(crate) fn get(&self, number: u32, cell: &Cell) -> Content
         ensures content { shown result ≡ part_at self.now.objects number cell.now }
-        ensures value { option_map (λ present. present.value) (shown result)
+        ensures value { option_and_then value_in (shown result)
             ≡ holder_at (get (values self.now.objects) number) cell.now }
         ensures placed { IsSome (shown result) → IsTrue (has_place self.now.places number cell.now) }
     {
@@ -131,7 +133,7 @@ impl ObjectMap {
     /// memory is taken.
     #[inline(always)]
     pub(crate) fn replace_prop(&mut self, number: u32, property: u16, value: Holder) -> Content
-        ensures value { option_map (λ present. present.value) (shown result)
+        ensures value { option_and_then value_in (shown result)
             ≡ holder_at (get (values self.old.objects) number) (Prop property) }
         ensures written { IsSome (shown result) → IsWritten self.old self.new number (Prop property)
             (with_cell (Prop property) value) (shown result) }

@@ -5,8 +5,10 @@ ghost use Rattle.std.specs.Int.{div_ceil};
 ghost use Rattle.t3_undo.specs.Content.{shown, is_form};
 ghost use Rattle.t3_undo.specs.Objects.{with_part};
 ghost use Rattle.t3_tables.specs.Table.{parts_of, is_cell};
-ghost use Rattle.t3_store.specs.Value.{with_cell, cell_units, key_units};
-ghost use Rattle.t3_store.specs.Inner.Shapes.{TableShape, value_of, tick_behind, risen};
+ghost use Rattle.t3_store.specs.Value.{with_cell};
+ghost use Rattle.t3_undo.specs.Units.{cell_units, key_units};
+ghost use Rattle.t3_store.specs.Inner.Shapes.{TableShape, value_of, tick_behind};
+ghost use Rattle.t3_tables.specs.Entries.{risen};
 ghost use Rattle.t3_store.specs.Inner.Valid.{IsValid};
 
 use t3_holder::Holder;

@@ -2,7 +2,8 @@
 ghost use Rattle.std.specs.Prelude.{◌≡◌, ◌+◌, ◌-◌, ◌<◌, ◌^◌, ◌&&◌, ◌↔◌, true, false, None, Err, IsTrue, IsSome, IfOk, OnOk, OnErr, is_none};
 ghost use Rattle.std.specs.FinMap.{get};
 ghost use Rattle.t3_undo.specs.Content.{shown};
-ghost use Rattle.t3_store.specs.Value.{holder_at, can_have_at, can_lose_at, with_cell, without_cell, units_in, cell_units};
+ghost use Rattle.t3_store.specs.Value.{holder_at, can_have_at, can_lose_at, with_cell, without_cell, units_in};
+ghost use Rattle.t3_undo.specs.Units.{cell_units};
 ghost use Rattle.t3_store.specs.Inner.Shapes.{values, AreWithin};
 ghost use Rattle.t3_store.specs.Inner.Bounded.{IsPlaced};
 ghost use Rattle.t3_store.specs.Inner.Store.{IsReady, IsWritten, KeepStamps};

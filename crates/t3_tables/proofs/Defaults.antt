@@ -3,7 +3,8 @@ use Rattle.std.proofs.Common.{◌≡◌, ◌≢◌, ◌∙◌, ap, sym, subst, r
 use Rattle.std.specs.FinMap.{get, get-empty, get-insert, empty, insert, contains_key, len, len-insert, entries as all_entries}
 use Rattle.t3_holder.specs.declared.holder.Holder.{Holder}
 use Rattle.t3_undo.specs.Cell.{cell_cmp, cell_cmp_total, cell_cmp-IsAntisymmetric}
-use Rattle.t3_undo.specs.Content.{Present, Parts, Places, shown, with_place}
+use Rattle.t3_undo.specs.Content.{Parts, Places, shown, with_place}
+use Rattle.t3_undo.specs.Present.{Present, tick_in}
 use Rattle.t3_undo.specs.Objects.{set_at}
 use Rattle.t3_undo.specs.declared.cell.Cell.{Cell}
 use Rattle.t3_undo.specs.declared.cell.Cell.TheVariants as cells
@@ -108,9 +109,9 @@ more next (Some tick) = omega arith
 
 pub more-after : (next : ℕ) (o : Option Present) → next ≤ tick_after next o
 more-after next None = omega arith
-more-after next (Some present) = more next present.tick
+more-after next (Some present) = more next (tick_in present)
 
-own : (next : ℕ) (present : Present) (tick : ℕ) → present.tick ≡ Some tick → tick < tick_after next (Some present)
+own : (next : ℕ) (present : Present) (tick : ℕ) → tick_in present ≡ Some tick → tick < tick_after next (Some present)
 own next present tick is = let e : tick_after next (Some present) ≡ max next (tick + 1) = ap (above next) is in omega (arith, e)
 
 pub below-set : (next : ℕ) (entries : Parts) (cell : Cell) (o : Option Present) → AreBelow next entries
@@ -133,9 +134,9 @@ below-set next entries cell o below q present tick stands is =
 pub tick-below : (next : ℕ) (entries : Parts) (cell : Cell) (o : Option Present) → AreBelow next entries → o ≡ get entries cell
     → tick_after 0 o ≤ next
 tick-below next entries cell None below is = omega arith
-tick-below next entries cell (Some present) below is = by present.tick refl
+tick-below next entries cell (Some present) below is = by (tick_in present) refl
   where
-    by : (tick : Option ℕ) → present.tick ≡ tick → above 0 tick ≤ next
+    by : (tick : Option ℕ) → tick_in present ≡ tick → above 0 tick ≤ next
     by None e = omega arith
     by (Some tick) e = let h = below cell present tick (sym is) e in omega arith
 

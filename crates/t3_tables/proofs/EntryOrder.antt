@@ -9,17 +9,19 @@ use Rattle.std.specs.FinMap.{nat_cmp-IsAntisymmetric, get, get-insert, entries, 
 use Rattle.std.specs.FinMap.Entries.{find, below_all, is_sorted, where_key, is_sorted-where_key, find-where_key, find-append, same_entries}
 use Rattle.t3_holder.specs.declared.holder.Holder.{Holder}
 use Rattle.t3_undo.specs.Cell.{cell_cmp_total, cell_cmp-IsAntisymmetric}
-use Rattle.t3_undo.specs.Content.{Present, Parts, shown}
+use Rattle.t3_undo.specs.Content.{Parts, shown}
+use Rattle.t3_undo.specs.Present.{Present, tick_in}
+use Rattle.t3_undo.specs.Present as presents
 use Rattle.t3_undo.specs.Key.{key_cmp, key_cmp_total}
 use Rattle.t3_undo.specs.Objects.{set_at}
 use Rattle.t3_undo.specs.declared.key.Key.{Key}
 use Rattle.t3_undo.specs.declared.cell.Cell.TheVariants as cells
 use Rattle.t3_undo.specs.declared.content.Content.TheVariants.{Held, Slot}
-use Rattle.t3_undo.proofs.Maps.{get-set_at, get-tied, set_at-back}
+use Rattle.t3_undo.proofs.Maps.{get-set_at, get-tied, set_at-back, first, second}
 use Rattle.t3_tables.specs.declared.pair.Pair.{Pair}
 use Rattle.t3_tables.specs.Table.{place_cmp, ordered, pair_of, entries_of}
 use Rattle.t3_tables.specs.Order.{with_value, NewComesLast, PresentKeepsPlace, OthersStay, OldStandsWhereItStood, DefaultIsApart}
-use Rattle.t3_tables.proofs.OrderedEntries.{Place, place_cmp_total, place_cmp-IsAntisymmetric, same_key, value_at, at_tick, get-ordered, ordered-new, ordered-Default, all-found, first, second}
+use Rattle.t3_tables.proofs.OrderedEntries.{Place, place_cmp_total, place_cmp-IsAntisymmetric, same_key, value_at, get-ordered, ordered-new, ordered-Default, all-found}
 
 abbrev Entries : Type 0
 Entries = List (Place × Holder)
@@ -181,21 +183,19 @@ pairs-push [] e = refl
 pairs-push (f ∷ es) e = ap (λ xs. pair_of f ∷ xs) (pairs-push es e)
 
 value-below : (s tick : ℕ) (o : Option Present) (v : Holder)
-    → ((present : Present) (t : ℕ) → o ≡ Some present → present.tick ≡ Some t → t < tick)
+    → ((present : Present) (t : ℕ) → o ≡ Some present → tick_in present ≡ Some t → t < tick)
     → value_at s o ≡ Some v → s < tick
 value-below s tick None v below e = cc
-value-below s tick (Some present) v below e = by present.tick refl e
+value-below s tick (Some (presents.Supers supers)) v below e = cc
+value-below s tick (Some (presents.Value None value)) v below e = cc
+value-below s tick (Some (presents.Value (Some t) value)) v below e = at (eq_by_cmp nat_cmp s t) refl e
   where
-    by : (o : Option ℕ) → present.tick ≡ o → at_tick s o present.value ≡ Some v → s < tick
-    by None is e = cc
-    by (Some t) is e = at (eq_by_cmp nat_cmp s t) refl e
-      where
-        at : (b : Bool) → eq_by_cmp nat_cmp s t ≡ b → cond b (Some present.value) None ≡ Some v → s < tick
-        at true same e =
-            let tie : s ≡ t = nat_cmp-IsAntisymmetric s t ((Equal-is (nat_cmp s t)).0 same) in
-            let h : t < tick = below present t refl is in
-            omega arith
-        at false same e = cc
+    at : (b : Bool) → eq_by_cmp nat_cmp s t ≡ b → cond b (Some value) None ≡ Some v → s < tick
+    at true same e =
+        let tie : s ≡ t = nat_cmp-IsAntisymmetric s t ((Equal-is (nat_cmp s t)).0 same) in
+        let h : t < tick = below (presents.Value (Some t) value) t refl refl in
+        omega arith
+    at false same e = cc
 
 less-last : (q last : Place) → q.0 < last.0 → T (is_lt (place_cmp q last))
 less-last q last h = subst (λ r. T (is_lt (ordering_then r (key_cmp q.1 last.1)))) (nat_cmp_is q.0 last.0 Less h) tt

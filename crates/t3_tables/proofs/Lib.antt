@@ -3,4 +3,6 @@ pub mod NumberedSlots
 pub mod Defaults
 pub mod TableLists
 pub mod EntryOrder
+pub mod EntryValues
+pub mod EntryUnits
 pub mod TablePurges

@@ -1,26 +1,27 @@
 -- The entries among parts, ordered: what is found there, and how a change of one cell changes them. Other crates may use these.
 use Rattle.std.proofs.Common.{◌≡◌, ◌∙◌, ap, sym, subst, refl, ℕ, Bool, true, false, cond, ◌&&◌, T, List, [], ◌∷◌, filter_map, Option, None, Some, is_some, true≢false}
 use Rattle.std.specs.Option.{option_map, option_or}
-use Rattle.std.specs.List.{cons_option}
+use Rattle.std.specs.List.{cons_option, AllByRecursion}
 use Rattle.std.specs.declared.cmp.Ordering.{Ordering}
 use Rattle.std.specs.declared.cmp.Ordering.TheVariants.{Less, Equal, Greater}
-use Rattle.std.specs.Ordering.{nat_cmp, eq_by_cmp, is_eq, is_lt, ordering_then, match_ordering}
+use Rattle.std.specs.Ordering.{nat_cmp, eq_by_cmp, is_eq, ordering_then, match_ordering}
 use Rattle.std.specs.Cmp.{IsTotalOrder, Equal-is, eq_by_cmp_equiv, nat_cmp_total}
 use Rattle.std.proofs.lemmas.Cmp.{on_total, then_total}
-use Rattle.std.specs.List.{AllByRecursion}
 use Rattle.std.specs.BTreeMap.{insert_entry}
 use Rattle.std.specs.FinMap.{FinMap, IsAntisymmetric, get, insert, entries, entries_sorted, from_entries, put, same_map, get-insert, get-entries, get-from_entries, entries-insert, nat_cmp-IsAntisymmetric}
 use Rattle.std.specs.FinMap.Entries.{find, by_order, below_all, is_sorted, find_tied}
 use Rattle.t3_holder.specs.declared.holder.Holder.{Holder}
 use Rattle.t3_undo.specs.Cell.{cell_cmp, cell_cmp_total, cell_cmp-IsAntisymmetric}
-use Rattle.t3_undo.specs.Content.{Present, Parts}
+use Rattle.t3_undo.specs.Content.{Parts}
+use Rattle.t3_undo.specs.Present.{Present}
+use Rattle.t3_undo.specs.Present as presents
 use Rattle.t3_undo.specs.Key.{key_cmp, key_cmp_total, key_cmp-IsAntisymmetric}
 use Rattle.t3_undo.specs.Objects.{set_at}
 use Rattle.t3_undo.specs.Slots.{parts_of}
 use Rattle.t3_undo.specs.declared.key.Key.{Key}
 use Rattle.t3_undo.specs.declared.cell.Cell.{Cell}
 use Rattle.t3_undo.specs.declared.cell.Cell.TheVariants as cells
-use Rattle.t3_undo.proofs.Maps.{get-set_at, get-tied, set_at-absent, entries-empty}
+use Rattle.t3_undo.proofs.Maps.{get-set_at, get-tied, set_at-absent, entries-empty, first, second, find-below}
 use Rattle.t3_undo.proofs.SlotLists.{same}
 use Rattle.t3_tables.specs.Table.{place_cmp, entry_in, ordered}
 use Rattle.t3_tables.specs.Inner.Slots.{with_entry}
@@ -61,34 +62,15 @@ same_key = eq_by_cmp key_cmp
 same-place : (t s : ℕ) (k l : Key) → eq_by_cmp place_cmp (t, k) (s, l) ≡ (same_tick t s && same_key k l)
 same-place t s k l = is_eq-then (nat_cmp t s) (key_cmp k l)
 
--- the value of a content that has this tick
+-- the value that has this tick
 abbrev pub at_tick : ℕ → Option ℕ → Holder → Option Holder
 at_tick t None value = None
 at_tick t (Some s) value = cond (same_tick t s) (Some value) None
 
 abbrev pub value_at : ℕ → Option Present → Option Holder
 value_at t None = None
-value_at t (Some present) = at_tick t present.tick present.value
-
-pub first : (a b : Bool) → T (a && b) → T a
-first true b h = tt
-first false b h = h
-
-pub second : (a b : Bool) → T (a && b) → T b
-second true b h = h
-second false b h = absurd h
-
-module _ {K X : Type 0} (R : K → K → Ordering) where
-  -- what is below all others isn't found among them
-  pub find-below : (x : K) (es : List (K × X)) → T (below_all R x es) → find R x es ≡ None
-  find-below x [] below = refl
-  find-below x (e ∷ es) below = by (find-below x es) (R x e.0) below
-    where
-      by : (T (below_all R x es) → find R x es ≡ None) → (r : Ordering) → T (is_lt r && below_all R x es)
-          → cond (is_eq r) (Some e.1) (find R x es) ≡ None
-      by rest Less below = rest below
-      by rest Equal below = absurd below
-      by rest Greater below = absurd below
+value_at t (Some (presents.Value tick value)) = at_tick t tick value
+value_at t (Some (presents.Supers supers)) = None
 
 none-here : {X : Type 0} (b : Bool) (v : X) (o : Option X) → cond b (Some v) o ≡ None → (b ≡ false) × (o ≡ None)
 none-here true v o e = cc
@@ -119,9 +101,11 @@ find-gathered-Key t k l (Some s) value rest b e =
 
 none-gathered : (t : ℕ) (k : Key) (es : Found) → find cell_cmp (cells.Key k) es ≡ None → find place_cmp (t, k) (gathered es) ≡ None
 none-gathered t k [] e = refl
-none-gathered t k ((cells.Key l, p) ∷ es) e =
-    let here = none-here (same_key k l) p (find cell_cmp (cells.Key k) es) e in
-    find-gathered-Key t k l p.tick p.value (gathered es) false here.0 ∙ none-gathered t k es here.1
+none-gathered t k ((cells.Key l, presents.Value tick value) ∷ es) e =
+    let here = none-here (same_key k l) (presents.Value tick value) (find cell_cmp (cells.Key k) es) e in
+    find-gathered-Key t k l tick value (gathered es) false here.0 ∙ none-gathered t k es here.1
+none-gathered t k ((cells.Key l, presents.Supers supers) ∷ es) e =
+    none-gathered t k es (none-here (same_key k l) (presents.Supers supers) (find cell_cmp (cells.Key k) es) e).1
 none-gathered t k ((cells.Prop n, p) ∷ es) e = none-gathered t k es e
 none-gathered t k ((cells.Elem n, p) ∷ es) e = none-gathered t k es e
 none-gathered t k ((cells.Default, p) ∷ es) e = none-gathered t k es e
@@ -134,20 +118,23 @@ find-gathered : (t : ℕ) (k : Key) (es : Found) → T (is_sorted cell_cmp es) �
     ≡ value_at t (find cell_cmp (cells.Key k) es)
 find-gathered t k [] sorted = refl
 find-gathered t k ((cells.Key l, p) ∷ es) sorted =
-    by (find-gathered t k es (second (below_all cell_cmp (cells.Key l) es) (is_sorted cell_cmp es) sorted)) (same_key k l) refl
+    by p (find-gathered t k es (second (below_all cell_cmp (cells.Key l) es) (is_sorted cell_cmp es) sorted)) (same_key k l) refl
   where
-    by : find place_cmp (t, k) (gathered es) ≡ value_at t (find cell_cmp (cells.Key k) es) → (b : Bool) → same_key k l ≡ b
-        → find place_cmp (t, k) (cons_option (option_map (λ s. ((s, l), p.value)) p.tick) (gathered es))
-        ≡ value_at t (cond b (Some p) (find cell_cmp (cells.Key k) es))
-    by rest true e =
+    none : same_key k l ≡ true → find cell_cmp (cells.Key k) es ≡ None
+    none e =
         let P : Key → Type 0 = λ key. find cell_cmp (cells.Key key) es ≡ None in
-        let none : find cell_cmp (cells.Key k) es ≡ None =
         subst P (sym (key_cmp-IsAntisymmetric k l ((Equal-is (key_cmp k l)).0 e)))
-        (find-below cell_cmp (cells.Key l) es (first (below_all cell_cmp (cells.Key l) es) (is_sorted cell_cmp es) sorted)) in
-        find-gathered-Key t k l p.tick p.value (gathered es) true e
-        ∙ ap (option_or (at_tick t p.tick p.value)) (none-gathered t k es none)
-        ∙ or-None (at_tick t p.tick p.value)
-    by rest false e = find-gathered-Key t k l p.tick p.value (gathered es) false e ∙ rest
+        (find-below cell_cmp (cells.Key l) es (first (below_all cell_cmp (cells.Key l) es) (is_sorted cell_cmp es) sorted))
+
+    by : (p : Present) → find place_cmp (t, k) (gathered es) ≡ value_at t (find cell_cmp (cells.Key k) es) → (b : Bool) → same_key k l ≡ b
+        → find place_cmp (t, k) (gathered ((cells.Key l, p) ∷ es)) ≡ value_at t (cond b (Some p) (find cell_cmp (cells.Key k) es))
+    by (presents.Value tick value) rest true e =
+        find-gathered-Key t k l tick value (gathered es) true e
+        ∙ ap (option_or (at_tick t tick value)) (none-gathered t k es (none e))
+        ∙ or-None (at_tick t tick value)
+    by (presents.Value tick value) rest false e = find-gathered-Key t k l tick value (gathered es) false e ∙ rest
+    by (presents.Supers supers) rest true e = none-gathered t k es (none e)
+    by (presents.Supers supers) rest false e = rest
 find-gathered t k ((cells.Prop n, p) ∷ es) sorted =
     find-gathered t k es (second (below_all cell_cmp (cells.Prop n) es) (is_sorted cell_cmp es) sorted)
 find-gathered t k ((cells.Elem n, p) ∷ es) sorted =
@@ -179,7 +166,7 @@ ordered-Default parts o = ordered-alike parts cells.Default o (λ k. get-set_at 
 -- a key set with a tick, that was absent or had the tick
 set-tick : (s t : ℕ) (k l : Key) (v : Holder) (o : Option Present) → (b : Bool) → same_key l k ≡ b
     → (b ≡ true → cond (same_tick s t) (Some v) (value_at s o) ≡ cond (same_tick s t) (Some v) None)
-    → value_at s (cond b (Some (record { tick = Some t; value = v })) o)
+    → value_at s (cond b (Some (presents.Value (Some t) v)) o)
     ≡ cond (eq_by_cmp place_cmp (s, l) (t, k)) (Some v) (value_at s o)
 set-tick s t k l v o true e alike =
     sym (alike refl) ∙ by (same_tick s t) ∙ ap (λ b. cond (same_tick s t && b) (Some v) (value_at s o)) (sym e)
@@ -198,27 +185,27 @@ set-tick s t k l v o false e alike =
 
 -- a key that was absent, with a tick
 pub ordered-new : (parts : Parts) (t : ℕ) (k : Key) (v : Holder) → get parts (cells.Key k) ≡ None
-    → ordered (set_at parts (cells.Key k) (Some (record { tick = Some t; value = v }))) ≡ insert (ordered parts) (t, k) v
+    → ordered (set_at parts (cells.Key k) (Some (presents.Value (Some t) v))) ≡ insert (ordered parts) (t, k) v
 ordered-new parts t k v none =
     same_ordered _ _ (λ s l.
-    ap (value_at s) (get-set_at cell_cmp_total parts (cells.Key k) (Some (record { tick = Some t; value = v })) (cells.Key l))
+    ap (value_at s) (get-set_at cell_cmp_total parts (cells.Key k) (Some (presents.Value (Some t) v)) (cells.Key l))
     ∙ set-tick s t k l v (get parts (cells.Key l)) (same_key l k) refl
     (λ e. ap (λ o. cond (same_tick s t) (Some v) (value_at s o)) (sym (get-tied cell_cmp_total parts (cells.Key l) (cells.Key k) e) ∙ none))
     ∙ ap (cond (eq_by_cmp place_cmp (s, l) (t, k)) (Some v)) (sym (get-ordered parts s l))
     ∙ sym (get-insert place_cmp_total (ordered parts) (t, k) v (s, l)))
 
--- without a tick it isn't among them
-pub ordered-untimed : (parts : Parts) (k : Key) (v : Holder) → get parts (cells.Key k) ≡ None
-    → ordered (set_at parts (cells.Key k) (Some (record { tick = None; value = v }))) ≡ ordered parts
-ordered-untimed parts k v none =
+-- what has no tick isn't among them
+ordered-unlisted : (parts : Parts) (k : Key) (p : Present) → ((t : ℕ) → value_at t (Some p) ≡ None) → get parts (cells.Key k) ≡ None
+    → ordered (set_at parts (cells.Key k) (Some p)) ≡ ordered parts
+ordered-unlisted parts k p untimed none =
     same_ordered _ _ (λ s l.
-    ap (value_at s) (get-set_at cell_cmp_total parts (cells.Key k) (Some (record { tick = None; value = v })) (cells.Key l))
+    ap (value_at s) (get-set_at cell_cmp_total parts (cells.Key k) (Some p) (cells.Key l))
     ∙ by s l (same_key l k) refl
     ∙ sym (get-ordered parts s l))
   where
     by : (s : ℕ) (l : Key) (b : Bool) → same_key l k ≡ b
-        → value_at s (cond b (Some (record { tick = None; value = v })) (get parts (cells.Key l))) ≡ value_at s (get parts (cells.Key l))
-    by s l true e = ap (value_at s) (sym (sym (get-tied cell_cmp_total parts (cells.Key l) (cells.Key k) e) ∙ none))
+        → value_at s (cond b (Some p) (get parts (cells.Key l))) ≡ value_at s (get parts (cells.Key l))
+    by s l true e = untimed s ∙ ap (value_at s) (sym (sym (get-tied cell_cmp_total parts (cells.Key l) (cells.Key k) e) ∙ none))
     by s l false e = refl
 
 -- what stands in a further cell, among the ordered entries
@@ -226,13 +213,13 @@ pub entries-with_entry : (parts : Parts) (cell : Cell) (o : Option Present) → 
     → with_entry cell o (entries (ordered parts)) ≡ entries (ordered (set_at parts cell o))
 entries-with_entry parts cell None none =
     ap (λ parts. entries (ordered parts)) (sym (set_at-absent cell_cmp_total cell_cmp-IsAntisymmetric parts cell none))
-entries-with_entry parts (cells.Key k) (Some p) none = by p.tick
+entries-with_entry parts (cells.Key k) (Some p) none = by p
   where
-    by : (tick : Option ℕ) → with_entry (cells.Key k) (Some (record { tick = tick; value = p.value })) (entries (ordered parts))
-        ≡ entries (ordered (set_at parts (cells.Key k) (Some (record { tick = tick; value = p.value }))))
-    by None = ap entries (sym (ordered-untimed parts k p.value none))
-    by (Some t) =
-        sym (entries-insert place_cmp_total (ordered parts) (t, k) p.value) ∙ ap entries (sym (ordered-new parts t k p.value none))
+    by : (p : Present) → with_entry (cells.Key k) (Some p) (entries (ordered parts)) ≡ entries (ordered (set_at parts (cells.Key k) (Some p)))
+    by (presents.Value None value) = ap entries (sym (ordered-unlisted parts k (presents.Value None value) (λ t. refl) none))
+    by (presents.Value (Some t) value) =
+        sym (entries-insert place_cmp_total (ordered parts) (t, k) value) ∙ ap entries (sym (ordered-new parts t k value none))
+    by (presents.Supers supers) = ap entries (sym (ordered-unlisted parts k (presents.Supers supers) (λ t. refl) none))
 entries-with_entry parts (cells.Prop n) (Some p) none =
     ap entries (sym (ordered-alike parts (cells.Prop n) (Some p)
     (λ k. get-set_at cell_cmp_total parts (cells.Prop n) (Some p) (cells.Key k))))

@@ -1,5 +1,6 @@
 -- A table's slots: what is true of them, and of those for numbered entries. Other crates may use these.
 use Rattle.std.proofs.Common.{◌≡◌, T, ◌∙◌, ap, sym, subst, refl, ℕ, suc, ◌+◌, ◌<◌, Bool, true, false, cond, ◌||◌, List, [], ◌∷◌, map, length, Option, None, Some, is_some, true≢false, arith}
+use Rattle.std.specs.Option.{option_and_then}
 use Rattle.std.specs.Ordering.{nat_cmp, eq_by_cmp, is_eq, is_lt, ordering_then}
 use Rattle.std.specs.declared.cmp.Ordering.{Ordering}
 use Rattle.std.specs.declared.cmp.Ordering.TheVariants.{Less, Equal, Greater}
@@ -10,7 +11,9 @@ use Rattle.std.specs.FinMap.{get, insert, contains_key, entries, entries_sorted,
 use Rattle.std.specs.FinMap.Entries.{by_order, below_all, is_sorted}
 use Rattle.t3_holder.specs.declared.holder.Holder.{Holder}
 use Rattle.t3_undo.specs.Cell.{cell_cmp_total, cell_cmp-IsAntisymmetric}
-use Rattle.t3_undo.specs.Content.{Present, Parts, shown, with_place, places_for}
+use Rattle.t3_undo.specs.Content.{Parts, shown, with_place, places_for}
+use Rattle.t3_undo.specs.Present.{Present, tick_in}
+use Rattle.t3_undo.specs.Present as presents
 use Rattle.t3_undo.specs.Key.{key_cmp, key_cmp-IsAntisymmetric}
 use Rattle.t3_undo.specs.Objects.{set_at}
 use Rattle.t3_undo.specs.Slots.{parts_of, places_of, unstamped}
@@ -19,12 +22,12 @@ use Rattle.t3_undo.specs.declared.cell.Cell.{Cell}
 use Rattle.t3_undo.specs.declared.cell.Cell.TheVariants as cells
 use Rattle.t3_undo.specs.declared.content.Content.TheVariants.{Held, Slot}
 use Rattle.t3_undo.specs.declared.place.Place.{Place as SlotPlace}
-use Rattle.t3_undo.proofs.Maps.{get-set_at}
+use Rattle.t3_undo.proofs.Maps.{get-set_at, first, second}
 use Rattle.t3_undo.proofs.SlotLists.{same, same-is, seen, stamped, zero_if, get-parts_of, get-places_of, get-places_for, contains-places_of, lookup-none}
 use Rattle.t3_tables.specs.declared.pair.Pair.{Pair}
 use Rattle.t3_tables.specs.Table.{AreBelow, tick_after, place_cmp, ordered, pair_of, entries_of, with_default, numbered, filled}
 use Rattle.t3_tables.specs.Inner.Slots.{IsEntry, IsTable}
-use Rattle.t3_tables.proofs.OrderedEntries.{Place, place_cmp_total, same_key, value_at, at_tick, get-ordered, ordered-new, all-found, no-entries, first, second}
+use Rattle.t3_tables.proofs.OrderedEntries.{Place, place_cmp_total, same_key, value_at, at_tick, get-ordered, ordered-new, all-found, no-entries}
 use Rattle.t3_tables.proofs.NumberedSlots.{distinct-numbered}
 use Rattle.t3_tables.proofs.Defaults.{only-empty, only-insert, only-with_place, below-empty, below-set, entries-default}
 
@@ -84,7 +87,7 @@ absent-default slots next table = by (lookup (same cells.Default) slots) refl
 -- the keys of the entries are distinct
 tick_of : Option Present → Option ℕ
 tick_of None = None
-tick_of (Some present) = present.tick
+tick_of (Some present) = tick_in present
 
 at_tick-is : (t : ℕ) (tick : Option ℕ) (value v : Holder) → at_tick t tick value ≡ Some v → tick ≡ Some t
 at_tick-is t None value v e = cc
@@ -97,7 +100,8 @@ at_tick-is t (Some s) value v e = by (eq_by_cmp nat_cmp t s) refl e
 value_at-is : (t : ℕ) (o : Option Present) (v : Holder) → value_at t o ≡ Some v → tick_of o ≡ Some t
 unfolding tick_of
 value_at-is t None v e = cc
-value_at-is t (Some present) v e = at_tick-is t present.tick present.value v e
+value_at-is t (Some (presents.Value tick value)) v e = at_tick-is t tick value v e
+value_at-is t (Some (presents.Supers supers)) v e = cc
 
 -- each entry has the tick that its key has
 ticked : (parts : Parts) → AllByRecursion (λ (e : Place × Holder). tick_of (get parts (cells.Key e.0.1)) ≡ Some e.0.0)
@@ -193,7 +197,7 @@ entries-filled default pairs apart =
 
 -- what is found among numbered slots
 abbrev IsBelow : ℕ → SlotPlace → Type 0
-IsBelow limit place = (present : Present) (t : ℕ) → shown place.content ≡ Some present → present.tick ≡ Some t → t < limit
+IsBelow limit place = (present : Present) (t : ℕ) → shown place.content ≡ Some present → tick_in present ≡ Some t → t < limit
 
 found-numbered : (tick : ℕ) (pairs : List Pair) (cell : Cell) (place : SlotPlace)
     → lookup (same cell) (numbered tick pairs) ≡ Some place → IsEntry cell × IsBelow (tick + length pairs) place
@@ -209,7 +213,10 @@ found-numbered tick (pair ∷ pairs) cell place e =
         let slot : unstamped (Slot tick pair.value) ≡ place = cc in (
           subst IsEntry (sym (same-is cell (cells.Key pair.key) is)) tt,
           λ present t shows ticks.
-              let same_tick : t ≡ tick = cc (ap (λ p. shown p.content) slot) in omega (arith, same_tick),
+              let held : Some (presents.Value (Some tick) pair.value) ≡ Some present = ap (λ p. shown p.content) slot ∙ shows in
+              let timed : Some tick ≡ Some t = ap (option_and_then tick_in) held ∙ ticks in
+              let same_tick : t ≡ tick = cc in
+              omega (arith, same_tick),
         )
     by rest false is e = let r = rest e in (r.0, λ present t shows ticks. let h = r.1 present t shows ticks in omega (arith, h))
 

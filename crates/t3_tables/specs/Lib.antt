@@ -1,3 +1,4 @@
 pub mod Table
 pub mod Order
+pub mod Entries
 pub mod Inner

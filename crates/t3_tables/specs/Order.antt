@@ -3,7 +3,8 @@ use Rattle.std.specs.Prelude.{◌≡◌, ℕ, [], ◌∷◌, ◌++◌, map, filt
 use Rattle.std.specs.Ordering.{eq_by_cmp}
 use Rattle.std.specs.FinMap.{get}
 use Rattle.t3_holder.specs.declared.holder.Holder.{Holder}
-use Rattle.t3_undo.specs.Content.{Present, Parts, shown}
+use Rattle.t3_undo.specs.Content.{Parts, shown}
+use Rattle.t3_undo.specs.Present.{Present}
 use Rattle.t3_undo.specs.Key.{key_cmp}
 use Rattle.t3_undo.specs.Objects.{set_at}
 use Rattle.t3_undo.specs.declared.key.Key.{Key}

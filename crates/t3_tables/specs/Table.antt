@@ -9,7 +9,9 @@ use Rattle.std.specs.FinMap as finite
 use Rattle.std.specs.Coded.{Coded, code_by, coded×, coded_ℕ}
 use Rattle.t3_holder.specs.declared.holder.Holder.{Holder}
 use Rattle.t3_holder.specs.declared.holder.Holder.TheVariants as holders
-use Rattle.t3_undo.specs.Content.{Present, Parts, Places, shown, coded_parts, coded_places, coded_holder}
+use Rattle.t3_undo.specs.Content.{Parts, Places, shown, coded_parts, coded_places, coded_holder}
+use Rattle.t3_undo.specs.Present.{Present, tick_in}
+use Rattle.t3_undo.specs.Present as presents
 use Rattle.t3_undo.specs.Key.{key_cmp}
 use Rattle.t3_undo.specs.Objects.{set_at}
 use Rattle.t3_undo.specs.Slots as slots
@@ -68,12 +70,12 @@ above next_tick (Some tick) = max next_tick (tick + 1)
 -- the next tick behind a content that is put
 abbrev pub tick_after : ℕ → Option Present → ℕ
 tick_after next_tick None = next_tick
-tick_after next_tick (Some present) = above next_tick present.tick
+tick_after next_tick (Some present) = above next_tick (tick_in present)
 
 -- the tick is above those of all entries
 abbrev pub AreBelow : ℕ → Parts → Type 0
 AreBelow next_tick parts =
-    (cell : Cell) (present : Present) (tick : ℕ) → get parts cell ≡ Some present → present.tick ≡ Some tick → tick < next_tick
+    (cell : Cell) (present : Present) (tick : ℕ) → get parts cell ≡ Some present → tick_in present ≡ Some tick → tick < next_tick
 
 -- the order of entries: by their ticks, and where two were equal by their keys
 abbrev pub place_cmp : ℕ × Key → ℕ × Key → Ordering
@@ -81,7 +83,8 @@ place_cmp x y = ordering_then (nat_cmp x.0 y.0) (key_cmp x.1 y.1)
 
 -- an entry under its tick and key
 abbrev pub entry_in : Cell → Present → Option ((ℕ × Key) × Holder)
-entry_in (cells.Key key) present = option_map (λ tick. ((tick, key), present.value)) present.tick
+entry_in (cells.Key key) (presents.Value tick value) = option_map (λ tick. ((tick, key), value)) tick
+entry_in (cells.Key key) (presents.Supers supers) = None
 entry_in cells.Default present = None
 entry_in (cells.Prop _) present = None
 entry_in (cells.Elem _) present = None

@@ -128,6 +128,7 @@ impl Metaclass for Table {
         ensures places { places_of self.new ≡ places_of self.old }
         ensures next { self.new.next_tick ≡ tick_after self.old.next_tick (shown content) }
         ensures old { shown result ≡ get (parts_of self.old) cell.now }
+        ensures back { set_at (parts_of self.new) cell.now (shown result) ≡ parts_of self.old }
         ensures formed { IsTrue (is_form cell.now (shown result)) }
         ensures below { tick_after 0 (shown result) ≤ self.old.next_tick }
     {

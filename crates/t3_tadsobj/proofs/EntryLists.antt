@@ -2,7 +2,7 @@
 use Rattle.std.proofs.Common.{◌≡◌, ◌∙◌, ap, sym, refl, ℕ, suc, ◌+◌, ◌≤◌, length, Bool, true, false, cond, List, [], ◌∷◌, filter, Option, None, Some, IsTrue, IsSome, is_some, true≢false, arith}
 use Rattle.std.specs.Ordering.{nat_cmp, eq_by_cmp}
 use Rattle.std.specs.Cmp.{nat_cmp_total, eq_by_cmp_equiv}
-use Rattle.std.specs.Option.{option_map}
+use Rattle.std.specs.Option.{option_map, option_and_then}
 use Rattle.std.specs.Map.{keys_of, lookup}
 use Rattle.std.specs.Map.Calls.{RetainsPairs}
 use Rattle.std.specs.BTreeMap.{is_at}
@@ -10,7 +10,8 @@ use Rattle.std.specs.FinMap.{get, insert, len, get-insert, same_map, contains_ke
 use Rattle.std.specs.List.{IsDistinct, AllByRecursion}
 use Rattle.t3_holder.specs.declared.holder.Holder.{Holder}
 use Rattle.t3_undo.specs.Cell.{cell_cmp_total, cell_cmp-IsAntisymmetric}
-use Rattle.t3_undo.specs.Content.{Present, shown, is_form, places_for}
+use Rattle.t3_undo.specs.Content.{shown, is_form, places_for}
+use Rattle.t3_undo.specs.Present.{Present, value_in}
 use Rattle.t3_undo.specs.Objects.{set_at}
 use Rattle.t3_undo.specs.Slots.{parts_of, places_of, is_present}
 use Rattle.t3_undo.specs.declared.cell.Cell.{Cell}
@@ -23,18 +24,18 @@ use Rattle.t3_undo.proofs.SlotCopies.{parts_of-filter, places_of-filter, parts_o
 use Rattle.t3_undo.proofs.SlotCopies as slots
 use Rattle.t3_tadsobj.specs.Object.{is_prop}
 use Rattle.t3_tadsobj.specs.Inner.Entries.{content_of, content_at, value_at, new_stamp, replaced, place_of, slots_of, parts_in, places_in, afresh}
-use Rattle.t3_tadsobj.specs.declared.entries.PropPlace.{PropPlace}
+use Rattle.t3_undo.specs.StampedValue.{ValuePlace}
 use Rattle.t3_undo.specs.declared.place.Place.{Place}
 use Rattle.t3_tadsobj.proofs.PropLists.{same-Prop}
 
 abbrev pub Entries : Type 0
-Entries = List (ℕ × PropPlace)
+Entries = List (ℕ × ValuePlace)
 
 -- what stands under a number
-abbrev pub at : ℕ → Entries → Option PropPlace
+abbrev pub at : ℕ → Entries → Option ValuePlace
 at n es = lookup (is_at (nat_cmp n)) es
 
-cond-place_of : (b : Bool) (p : PropPlace) (rest : Option PropPlace) → option_map place_of (cond b (Some p) rest)
+cond-place_of : (b : Bool) (p : ValuePlace) (rest : Option ValuePlace) → option_map place_of (cond b (Some p) rest)
     ≡ cond b (Some (place_of p)) (option_map place_of rest)
 cond-place_of true p rest = refl
 cond-place_of false p rest = refl
@@ -56,7 +57,7 @@ lookup-other [] cells.Default other = refl
 lookup-other (e ∷ es) cells.Default other = lookup-other es cells.Default other
 
 -- what a property's cell shows
-seen-content : (o : Option PropPlace) → seen (option_map place_of o) ≡ shown (content_at o)
+seen-content : (o : Option ValuePlace) → seen (option_map place_of o) ≡ shown (content_at o)
 seen-content None = refl
 seen-content (Some o) = refl
 
@@ -74,7 +75,7 @@ pub contains-Prop : (es : Entries) (n : ℕ) → contains_key (places_in es) (ce
 contains-Prop es n =
     contains-places_of (slots_of es) (cells.Prop n) ∙ ap is_some (lookup-Prop es n) ∙ is_some-map place_of (at n es)
 
-stamped-place : (o : Option PropPlace) → stamped (option_map place_of o) ≡ option_map (λ p. p.stamp) o
+stamped-place : (o : Option ValuePlace) → stamped (option_map place_of o) ≡ option_map (λ p. p.stamp) o
 stamped-place None = refl
 stamped-place (Some p) = refl
 
@@ -90,17 +91,17 @@ contains-other es cell other = contains-places_of (slots_of es) cell ∙ ap is_s
 pub placed-Prop : (es : Entries) (n : ℕ) → IsSome (shown (content_at (at n es))) → contains_key (places_in es) (cells.Prop n) ≡ true
 placed-Prop es n some = contains-Prop es n ∙ found (at n es) some
   where
-    found : (o : Option PropPlace) → is_some (shown (content_at o)) ≡ true → is_some o ≡ true
+    found : (o : Option ValuePlace) → is_some (shown (content_at o)) ≡ true → is_some o ≡ true
     found None some = some
     found (Some p) some = refl
 
 -- a number that isn't found has nothing
-pub missed : (o : Option PropPlace) → is_some o ≡ false → o ≡ None
+pub missed : (o : Option ValuePlace) → is_some o ≡ false → o ≡ None
 missed None e = refl
 missed (Some p) e = absurd (true≢false e)
 
 -- what a property's entry has is of the cell's form
-pub formed : (n : ℕ) (o : Option PropPlace) → IsTrue (is_form (cells.Prop n) (shown (content_at o)))
+pub formed : (n : ℕ) (o : Option ValuePlace) → IsTrue (is_form (cells.Prop n) (shown (content_at o)))
 formed n None = refl
 formed n (Some p) = by p.value
   where
@@ -110,13 +111,13 @@ formed n (Some p) = by p.value
 
 -- a content of that form is its value's
 pub content-value : (n : ℕ) (content : Content) → IsTrue (is_form (cells.Prop n) (shown content))
-    → shown (content_of (option_map (λ present. present.value) (shown content))) ≡ shown content
+    → shown (content_of (option_and_then value_in (shown content))) ≡ shown content
 content-value n Absent fits = refl
 content-value n (Held value) fits = refl
 content-value n (Slot tick value) fits = absurd (true≢false (sym fits))
 
 -- a property set, or given a place
-module _ (old new : Entries) (k : ℕ) (p : PropPlace) (updates : (q : ℕ) → at q new ≡ cond (is_at (nat_cmp k) q) (Some p) (at q old)) where
+module _ (old new : Entries) (k : ℕ) (p : ValuePlace) (updates : (q : ℕ) → at q new ≡ cond (is_at (nat_cmp k) q) (Some p) (at q old)) where
   lookup-set : (cell : Cell) → lookup (same cell) (slots_of new)
       ≡ cond (same cell (cells.Prop k)) (Some (place_of p)) (lookup (same cell) (slots_of old))
   lookup-set (cells.Prop n) =
@@ -157,7 +158,7 @@ module _ (old new : Entries) (k : ℕ) (p : PropPlace) (updates : (q : ℕ) → 
   one_if-shown None = refl
   one_if-shown (Some value) = refl
 
-  one_if-at : (o : Option PropPlace) → one_if (shown (content_at o)) ≡ one_if (value_at o)
+  one_if-at : (o : Option ValuePlace) → one_if (shown (content_at o)) ≡ one_if (value_at o)
   one_if-at None = refl
   one_if-at (Some q) = one_if-shown q.value
 
@@ -186,12 +187,12 @@ pub parts-absent : (es : Entries) (k : ℕ) → at k es ≡ None → set_at (par
 parts-absent es k none = parts-unset es k (get-Prop es k ∙ ap (λ o. shown (content_at o)) none)
 
 -- the content of a property, from its value
-pub content-value_at : (o : Option PropPlace) → content_of (value_at o) ≡ content_at o
+pub content-value_at : (o : Option ValuePlace) → content_of (value_at o) ≡ content_at o
 content-value_at None = refl
 content-value_at (Some p) = refl
 
 -- and its value, from the content
-pub shown-value : (o : Option Holder) → option_map (λ present. present.value) (shown (content_of o)) ≡ o
+pub shown-value : (o : Option Holder) → option_and_then value_in (shown (content_of o)) ≡ o
 shown-value None = refl
 shown-value (Some value) = refl
 
@@ -204,13 +205,13 @@ none-value None none = refl
 none-value (Some value) none = absurd cc
 
 -- the entry under a number that is there
-pub found : (o : Option PropPlace) → is_some o ≡ true → (p : PropPlace) × (o ≡ Some p)
+pub found : (o : Option ValuePlace) → is_some o ≡ true → (p : ValuePlace) × (o ≡ Some p)
 found None e = absurd (true≢false (sym e))
 found (Some p) e = (p, refl)
 
 -- a value put in the place of one, and a stamp
-module _ (old new : Entries) (k : ℕ) (p : PropPlace) (there : at k old ≡ Some p) where
-  abbrev Updated : PropPlace → Type 0
+module _ (old new : Entries) (k : ℕ) (p : ValuePlace) (there : at k old ≡ Some p) where
+  abbrev Updated : ValuePlace → Type 0
   Updated q = (n : ℕ) → at n new ≡ cond (is_at (nat_cmp k) n) (Some q) (at n old)
 
   own-stamp : get (places_in old) (cells.Prop k) ≡ Some p.stamp
@@ -281,8 +282,8 @@ slots-afresh (e ∷ es) = by e.1.value (slots-afresh es)
     by (Some value) rest = ap (λ ss. (cells.Prop e.0, record { stamp = 0; content = Held value }) ∷ ss) rest
 
 -- what is left of entries, once those without a value are taken away and the stamps are cleared
-module _ {F : Type 0} (Called : F → ℕ → PropPlace → Bool → PropPlace → F → Type 0) where
-  pub afresh-retained : ((g : F) (k : ℕ) (v : PropPlace) (b : Bool) (w : PropPlace) (g' : F) → Called g k v b w g'
+module _ {F : Type 0} (Called : F → ℕ → ValuePlace → Bool → ValuePlace → F → Type 0) where
+  pub afresh-retained : ((g : F) (k : ℕ) (v : ValuePlace) (b : Bool) (w : ValuePlace) (g' : F) → Called g k v b w g'
       → (b ≡ is_some v.value) × (w ≡ record { stamp = 0; value = v.value }))
       → (f : F) (es kept : Entries) → RetainsPairs Called f es kept → kept ≡ afresh es
   afresh-retained told f [] kept s = s

@@ -7,7 +7,7 @@ use Rattle.t3_undo.specs.declared.cell.Cell.{Cell}
 use Rattle.t3_undo.specs.declared.cell.Cell.TheVariants as cells
 use Rattle.t3_undo.specs.declared.place.Place.{Place}
 use Rattle.t3_tadsobj.specs.Inner.Entries.{content_of, place_of, slots_of, is_needed}
-use Rattle.t3_tadsobj.specs.declared.entries.PropPlace.{PropPlace}
+use Rattle.t3_undo.specs.StampedValue.{ValuePlace}
 use Rattle.t3_tadsobj.proofs.EntryLists.{Entries}
 
 is_some-shown : (o : Option Holder) → is_some (shown (content_of o)) ≡ is_some o
@@ -15,7 +15,7 @@ is_some-shown None = refl
 is_some-shown (Some value) = refl
 
 -- a place in front of others that are left, if it stays
-kept : (b : Bool) (n : ℕ) (p : PropPlace) (es : Entries)
+kept : (b : Bool) (n : ℕ) (p : ValuePlace) (es : Entries)
     → slots_of (cond b ((n, p) ∷ es) es) ≡ cond b ((cells.Prop n, place_of p) ∷ slots_of es) (slots_of es)
 kept true n p es = refl
 kept false n p es = refl

@@ -2,6 +2,7 @@ pub mod PropLists
 pub mod EntryLists
 mod EntryPurges
 pub mod PropRows
+pub mod PropValues
 pub mod OrderMembers
 pub mod OrderDepth
 pub mod OrderClosed

@@ -1,19 +1,21 @@
 -- The properties that parts have. Other crates may use these.
-use Rattle.std.proofs.Common.{◌≡◌, ◌∙◌, ap, sym, refl, ℕ, Bool, true, false, cond, List, [], ◌∷◌, filter_map, Option, Some}
+use Rattle.std.proofs.Common.{◌≡◌, ◌∙◌, ap, sym, refl, ℕ, Bool, true, false, cond, T, List, [], ◌∷◌, filter_map, Option, None, Some}
 use Rattle.std.specs.declared.cmp.Ordering.{Ordering}
 use Rattle.std.specs.declared.cmp.Ordering.TheVariants.{Less, Equal, Greater}
 use Rattle.std.specs.Ordering.{nat_cmp, eq_by_cmp, is_eq, ordering_then}
-use Rattle.std.specs.Option.{option_map}
-use Rattle.std.specs.Cmp.{nat_cmp_total}
-use Rattle.std.specs.FinMap.{FinMap, get, insert, entries, same_map, get-insert, get-from_entries, get-entries, nat_cmp-IsAntisymmetric}
-use Rattle.std.specs.FinMap.Entries.{find}
+use Rattle.std.specs.Option.{option_and_then}
+use Rattle.std.specs.Cmp.{nat_cmp_total, Equal-is}
+use Rattle.std.specs.FinMap.{FinMap, get, insert, entries, entries_sorted, same_map, get-insert, get-from_entries, get-entries, nat_cmp-IsAntisymmetric}
+use Rattle.std.specs.FinMap.Entries.{find, below_all, is_sorted, find_tied}
 use Rattle.t3_holder.specs.declared.holder.Holder.{Holder}
 use Rattle.t3_undo.specs.Cell.{cell_cmp, cell_cmp_total}
-use Rattle.t3_undo.specs.Content.{Present, Parts}
+use Rattle.t3_undo.specs.Content.{Parts}
+use Rattle.t3_undo.specs.Present.{Present, value_in}
+use Rattle.t3_undo.specs.Present as presents
 use Rattle.t3_undo.specs.Objects.{set_at}
 use Rattle.t3_undo.specs.declared.cell.Cell.{Cell}
 use Rattle.t3_undo.specs.declared.cell.Cell.TheVariants as cells
-use Rattle.t3_undo.proofs.Maps.{get-set_at}
+use Rattle.t3_undo.proofs.Maps.{get-set_at, first, second, find-below}
 use Rattle.t3_tadsobj.specs.Object.{prop_in, props_of}
 
 abbrev Entries : Type 0
@@ -31,39 +33,60 @@ then-Equal Greater = refl
 pub same-Prop : (n k : ℕ) → eq_by_cmp cell_cmp (cells.Prop n) (cells.Prop k) ≡ eq_by_cmp nat_cmp n k
 same-Prop n k = then-Equal (nat_cmp n k)
 
-option_map-cond : (b : Bool) (p : Present) (o : Option Present) → option_map (λ present. present.value) (cond b (Some p) o)
-    ≡ cond b (Some p.value) (option_map (λ present. present.value) o)
-option_map-cond true p o = refl
-option_map-cond false p o = refl
+value-cond : (b : Bool) (tick : Option ℕ) (value : Holder) (o : Option Present)
+    → option_and_then value_in (cond b (Some (presents.Value tick value)) o) ≡ cond b (Some value) (option_and_then value_in o)
+value-cond true tick value o = refl
+value-cond false tick value o = refl
 
-find-gathered : (n : ℕ) (es : Entries) → find nat_cmp n (gathered es)
-    ≡ option_map (λ present. present.value) (find cell_cmp (cells.Prop n) es)
-find-gathered n [] = refl
-find-gathered n ((cells.Prop k, p) ∷ es) =
-    (λ i. cond (sym (same-Prop n k) i) (Some p.value) (find-gathered n es i))
-    ∙ sym (option_map-cond (eq_by_cmp cell_cmp (cells.Prop n) (cells.Prop k)) p (find cell_cmp (cells.Prop n) es))
-find-gathered n ((cells.Elem k, p) ∷ es) = find-gathered n es
-find-gathered n ((cells.Key k, p) ∷ es) = find-gathered n es
-find-gathered n ((cells.Default, p) ∷ es) = find-gathered n es
+-- what is first among sorted entries, and isn't a value, isn't found behind it either
+passed : (n k : ℕ) (p : Present) (es : Entries) → T (below_all cell_cmp (cells.Prop k) es) → value_in p ≡ None
+    → option_and_then value_in (find cell_cmp (cells.Prop n) es)
+    ≡ option_and_then value_in (cond (eq_by_cmp cell_cmp (cells.Prop n) (cells.Prop k)) (Some p) (find cell_cmp (cells.Prop n) es))
+passed n k p es below none = by (eq_by_cmp cell_cmp (cells.Prop n) (cells.Prop k)) refl
+  where
+    by : (b : Bool) → eq_by_cmp cell_cmp (cells.Prop n) (cells.Prop k) ≡ b → option_and_then value_in (find cell_cmp (cells.Prop n) es)
+        ≡ option_and_then value_in (cond b (Some p) (find cell_cmp (cells.Prop n) es))
+    by true e =
+        ap (option_and_then value_in) (sym (find_tied cell_cmp cell_cmp_total (cells.Prop n) (cells.Prop k)
+        ((Equal-is (cell_cmp (cells.Prop n) (cells.Prop k))).0 e) es) ∙ find-below cell_cmp (cells.Prop k) es below)
+        ∙ sym none
+    by false e = refl
+
+find-gathered : (n : ℕ) (es : Entries) → T (is_sorted cell_cmp es) → find nat_cmp n (gathered es)
+    ≡ option_and_then value_in (find cell_cmp (cells.Prop n) es)
+find-gathered n [] sorted = refl
+find-gathered n ((cells.Prop k, presents.Value tick value) ∷ es) sorted =
+    (let rest = find-gathered n es (second (below_all cell_cmp (cells.Prop k) es) (is_sorted cell_cmp es) sorted) in
+    λ i. cond (sym (same-Prop n k) i) (Some value) (rest i))
+    ∙ sym (value-cond (eq_by_cmp cell_cmp (cells.Prop n) (cells.Prop k)) tick value (find cell_cmp (cells.Prop n) es))
+find-gathered n ((cells.Prop k, presents.Supers supers) ∷ es) sorted =
+    find-gathered n es (second (below_all cell_cmp (cells.Prop k) es) (is_sorted cell_cmp es) sorted)
+    ∙ passed n k (presents.Supers supers) es (first (below_all cell_cmp (cells.Prop k) es) (is_sorted cell_cmp es) sorted) refl
+find-gathered n ((cells.Elem k, p) ∷ es) sorted =
+    find-gathered n es (second (below_all cell_cmp (cells.Elem k) es) (is_sorted cell_cmp es) sorted)
+find-gathered n ((cells.Key k, p) ∷ es) sorted =
+    find-gathered n es (second (below_all cell_cmp (cells.Key k) es) (is_sorted cell_cmp es) sorted)
+find-gathered n ((cells.Default, p) ∷ es) sorted =
+    find-gathered n es (second (below_all cell_cmp cells.Default es) (is_sorted cell_cmp es) sorted)
 
 -- a property has the value that stands in its cell
-pub get-props_of : (parts : Parts) (n : ℕ) → get (props_of parts) n ≡ option_map (λ present. present.value) (get parts (cells.Prop n))
+pub get-props_of : (parts : Parts) (n : ℕ) → get (props_of parts) n ≡ option_and_then value_in (get parts (cells.Prop n))
 unfolding props_of
 get-props_of parts n =
-    get-from_entries nat_cmp_total (gathered (entries parts)) n ∙ find-gathered n (entries parts)
-    ∙ ap (option_map (λ present. present.value)) (sym (get-entries parts (cells.Prop n)))
+    get-from_entries nat_cmp_total (gathered (entries parts)) n ∙ find-gathered n (entries parts) (entries_sorted parts)
+    ∙ ap (option_and_then value_in) (sym (get-entries parts (cells.Prop n)))
 
 -- parts are known to have the same properties by what stands in these
 same_props : (parts : Parts) (props : FinMap nat_cmp Holder)
-    → ((n : ℕ) → option_map (λ present. present.value) (get parts (cells.Prop n)) ≡ get props n) → props_of parts ≡ props
+    → ((n : ℕ) → option_and_then value_in (get parts (cells.Prop n)) ≡ get props n) → props_of parts ≡ props
 same_props parts props alike = same_map nat_cmp_total nat_cmp-IsAntisymmetric _ _ (λ n. get-props_of parts n ∙ alike n)
 
 -- a property set among others
-pub props_of-set : (parts : Parts) (k : ℕ) (p : Present) → props_of (set_at parts (cells.Prop k) (Some p))
-    ≡ insert (props_of parts) k p.value
-props_of-set parts k p =
+pub props_of-set : (parts : Parts) (k : ℕ) (tick : Option ℕ) (value : Holder)
+    → props_of (set_at parts (cells.Prop k) (Some (presents.Value tick value))) ≡ insert (props_of parts) k value
+props_of-set parts k tick value =
     same_props _ _ (λ n.
-    ap (option_map (λ present. present.value)) (get-set_at cell_cmp_total parts (cells.Prop k) (Some p) (cells.Prop n))
-    ∙ option_map-cond (eq_by_cmp cell_cmp (cells.Prop n) (cells.Prop k)) p (get parts (cells.Prop n))
-    ∙ (let e = sym (get-props_of parts n) in λ i. cond (same-Prop n k i) (Some p.value) (e i))
-    ∙ sym (get-insert nat_cmp_total (props_of parts) k p.value n))
+    ap (option_and_then value_in) (get-set_at cell_cmp_total parts (cells.Prop k) (Some (presents.Value tick value)) (cells.Prop n))
+    ∙ value-cond (eq_by_cmp cell_cmp (cells.Prop n) (cells.Prop k)) tick value (get parts (cells.Prop n))
+    ∙ (let e = sym (get-props_of parts n) in λ i. cond (same-Prop n k i) (Some value) (e i))
+    ∙ sym (get-insert nat_cmp_total (props_of parts) k value n))

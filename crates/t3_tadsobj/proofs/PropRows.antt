@@ -3,7 +3,7 @@ use Rattle.std.proofs.Common.{◌≡◌, T, ◌∙◌, ap, sym, subst, refl, ℕ
 use Rattle.std.specs.declared.cmp.Ordering.TheVariants.{Less}
 use Rattle.std.specs.Ordering.{nat_cmp, eq_by_cmp, is_lt}
 use Rattle.std.specs.Cmp.{nat_cmp_total, unsigned_tied, eq_by_cmp_equiv}
-use Rattle.std.specs.Option.{option_map}
+use Rattle.std.specs.Option.{option_map, option_and_then}
 use Rattle.std.specs.Map.{keys_of}
 use Rattle.std.specs.List.{IsDistinct, AllByRecursion}
 use Rattle.std.specs.List.Sorted.{IsStrictlySortedBy}
@@ -13,10 +13,11 @@ use Rattle.std.proofs.lemmas.Map.{lookup-none}
 use Rattle.std.proofs.lemmas.Map.Entries.{none_past_head}
 use Rattle.std.proofs.lemmas.Map.Keys.{IsDistinct-from_sorted}
 use Rattle.t3_holder.specs.declared.holder.Holder.{Holder}
-use Rattle.t3_undo.specs.Content.{Present, shown}
+use Rattle.t3_undo.specs.Content.{shown}
+use Rattle.t3_undo.specs.Present.{value_in}
 use Rattle.t3_tadsobj.specs.Object.{props_of}
 use Rattle.t3_tadsobj.specs.Inner.Entries.{content_of, content_at, value_at, parts_in, listed}
-use Rattle.t3_tadsobj.specs.declared.entries.PropPlace.{PropPlace}
+use Rattle.t3_undo.specs.StampedValue.{ValuePlace}
 use Rattle.t3_tadsobj.proofs.PropLists.{get-props_of}
 use Rattle.t3_tadsobj.proofs.EntryLists.{Entries, at, get-Prop}
 
@@ -44,7 +45,7 @@ numbers-listed (e ∷ es) = by e.1.value (numbers-listed es)
     by None rest = rest
     by (Some value) rest = ap (λ xs. e.0 ∷ xs) rest
 
-value-cond : (b : Bool) (p : PropPlace) (rest : Option PropPlace) → value_at (cond b (Some p) rest) ≡ cond b p.value (value_at rest)
+value-cond : (b : Bool) (p : ValuePlace) (rest : Option ValuePlace) → value_at (cond b (Some p) rest) ≡ cond b p.value (value_at rest)
 value-cond true p rest = refl
 value-cond false p rest = refl
 
@@ -107,18 +108,18 @@ from_true : (b : Bool) → b ≡ true → T b
 from_true true t = tt
 from_true false t = absurd (true≢false (sym t))
 
-shown-value : (o : Option PropPlace) → option_map (λ (p : Present). p.value) (shown (content_at o)) ≡ value_at o
+shown-value : (o : Option ValuePlace) → option_and_then value_in (shown (content_at o)) ≡ value_at o
 shown-value None = refl
 shown-value (Some p) = by p.value
   where
-    by : (o : Option Holder) → option_map (λ (p : Present). p.value) (shown (content_of o)) ≡ o
+    by : (o : Option Holder) → option_and_then value_in (shown (content_of o)) ≡ o
     by None = refl
     by (Some value) = refl
 
 -- a property of the parts
 pub get-prop : (es : Entries) (n : ℕ) → get (props_of (parts_in es)) n ≡ value_at (at n es)
 get-prop es n =
-    get-props_of (parts_in es) n ∙ ap (option_map (λ (p : Present). p.value)) (get-Prop es n) ∙ shown-value (at n es)
+    get-props_of (parts_in es) n ∙ ap (option_and_then value_in) (get-Prop es n) ∙ shown-value (at n es)
 
 -- they are the properties of the parts
 pub rows-props : (es : Entries) → IsStrictlySortedBy nat_cmp (keys_of es) → rows es ≡ entries (props_of (parts_in es))

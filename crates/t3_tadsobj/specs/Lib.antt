@@ -1,4 +1,5 @@
 pub mod Object
+pub mod Props
 pub mod Order
 pub mod Cycles
 pub mod Inner

@@ -1,12 +1,13 @@
 -- Tads-objects: what they are, and their properties.
-use Rattle.std.specs.Prelude.{ℕ, Bool, true, false, IsTrue, List, Option, None, Some, refl}
+use Rattle.std.specs.Prelude.{ℕ, Bool, true, false, IsTrue, List, Option, None, option_map, refl}
 use Rattle.std.specs.List.{filter_map}
 use Rattle.std.specs.Ordering.{nat_cmp}
 use Rattle.std.specs.FinMap.{FinMap, entries, from_entries}
 use Rattle.std.specs.FinMap as finite
 use Rattle.std.specs.Coded.{Coded, code_by, coded×, coded_ℕ, coded_bool, coded_list}
 use Rattle.t3_holder.specs.declared.holder.Holder.{Holder}
-use Rattle.t3_undo.specs.Content.{Present, Parts, Places, coded_parts, coded_places}
+use Rattle.t3_undo.specs.Content.{Parts, Places, coded_parts, coded_places}
+use Rattle.t3_undo.specs.Present.{Present, value_in}
 use Rattle.t3_undo.specs.declared.cell.Cell.{Cell}
 use Rattle.t3_undo.specs.declared.cell.Cell.TheVariants as cells
 
@@ -40,7 +41,7 @@ HasOnlyProps places = (cell : Cell) → IsTrue (finite.contains_key places cell)
 
 -- a property's number and value
 abbrev pub prop_in : Cell → Present → Option (ℕ × Holder)
-prop_in (cells.Prop number) present = Some (number, present.value)
+prop_in (cells.Prop number) present = option_map (λ value. (number, value)) (value_in present)
 prop_in (cells.Elem _) present = None
 prop_in (cells.Key _) present = None
 prop_in cells.Default present = None

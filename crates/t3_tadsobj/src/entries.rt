@@ -3,24 +3,16 @@ ghost use Rattle.std.specs.Prelude.{◌≡◌, ◌||◌, nat_le, Some, None, fil
 ghost use Rattle.std.specs.BTreeMap as tree;
 ghost use Rattle.std.specs.Ordering.{nat_cmp};
 ghost use Rattle.t3_tadsobj.specs.Inner.Entries.{content_of, content_at, value_at, stamp_or, place_of, replaced, listed, afresh, is_needed};
-ghost use Rattle.t3_tadsobj.specs.declared.entries.PropPlace.{PropPlace};
+ghost use Rattle.t3_undo.specs.StampedValue.{ValuePlace};
 
 use crate::props::PropValue;
 use std::alloc::Global;
 use std::collections::BTreeMap;
-use std::mem;
 use t3_holder::{Holder, NoMemory};
-use t3_undo::{Content, Place};
+use t3_undo::{Content, Place, StampedValue};
 
 /// The properties that have a place, by their numbers.
-pub(crate) type Entries = BTreeMap<u16, PropPlace>;
-
-/// A property's place: a stamp, and its value if it is present.
-#[derive(Clone, Copy, Debug)]
-pub(crate) struct PropPlace {
-    pub(crate) stamp: u64,
-    pub(crate) value: Option<Holder>,
-}
+pub(crate) type Entries = BTreeMap<u16, StampedValue>;
 
 /// A value as the content of a property.
 #[inline(always)]
@@ -39,7 +31,7 @@ pub(crate) fn content_at(entries: &Entries, number: u16) -> Content
     ensures { result ≡ content_at (tree.get nat_cmp entries.now number) }
 {
     match entries.get(&number) {
-        Some(place) => content_of(place.value),
+        Some(place) => content_of(place.value()),
         None => Content::Absent,
     }
 }
@@ -50,19 +42,19 @@ pub(crate) fn stamp_at(entries: &Entries, number: u16) -> u64
     ensures { result ≡ stamp_or (tree.get nat_cmp entries.now number) }
 {
     match entries.get(&number) {
-        Some(place) => place.stamp,
+        Some(place) => place.stamp(),
         None => 0,
     }
 }
 
 /// An entry as a place.
 #[inline(always)]
-pub(crate) fn place_of(place: PropPlace) -> Place
+pub(crate) fn place_of(place: StampedValue) -> Place
     ensures { result ≡ place_of place }
 {
     Place {
-        stamp: place.stamp,
-        content: content_of(place.value),
+        stamp: place.stamp(),
+        content: content_of(place.value()),
     }
 }
 
@@ -72,17 +64,17 @@ pub(crate) fn value_at(entries: &Entries, number: u16) -> Option<Holder>
     ensures { result ≡ value_at (tree.get nat_cmp entries.now number) }
 {
     match entries.get(&number) {
-        Some(place) => place.value,
+        Some(place) => place.value(),
         None => None,
     }
 }
 
 /// The value of a place, if there is a place.
-pub(crate) fn value_in(place: Option<PropPlace>) -> Option<Holder>
+pub(crate) fn value_in(place: Option<StampedValue>) -> Option<Holder>
     ensures { result ≡ value_at place }
 {
     match place {
-        Some(place) => place.value,
+        Some(place) => place.value(),
         None => None,
     }
 }
@@ -99,12 +91,12 @@ pub(crate) fn one_if_present(value: Option<Holder>) -> u64
 #[inline(always)]
 pub(crate) fn exchange(entries: &mut Entries, number: u16, value: Option<Holder>) -> Option<Holder>
     requires { IsSome (tree.get nat_cmp entries.old number) }
-    ensures { (place : PropPlace) → tree.get nat_cmp entries.old number ≡ Some place
+    ensures { (place : ValuePlace) → tree.get nat_cmp entries.old number ≡ Some place
         → tree.Updates nat_cmp entries.old entries.new number (Some (record place { value = value }))
         × (result ≡ place.value) }
 {
     match entries.get_mut(&number) {
-        Some(place) => mem::replace(&mut place.value, value),
+        Some(place) => place.replace(value),
         None => value,
     }
 }
@@ -112,12 +104,12 @@ pub(crate) fn exchange(entries: &mut Entries, number: u16, value: Option<Holder>
 /// Gives the place under a number that is there another stamp.
 pub(crate) fn restamp(entries: &mut Entries, number: u16, stamp: u64)
     requires { IsSome (tree.get nat_cmp entries.old number) }
-    ensures { (place : PropPlace) → tree.get nat_cmp entries.old number ≡ Some place
+    ensures { (place : ValuePlace) → tree.get nat_cmp entries.old number ≡ Some place
         → tree.Updates nat_cmp entries.old entries.new number
         (Some (record place { stamp = stamp })) }
 {
     if let Some(place) = entries.get_mut(&number) {
-        place.stamp = stamp;
+        place.set_stamp(stamp);
     }
 }
 
@@ -129,28 +121,22 @@ pub(crate) fn replace_value(
     number: u16,
     value: Holder,
     stamp: Option<u64>,
-) -> PropPlace
+) -> StampedValue
     ensures value { result.value ≡ value_at (tree.get nat_cmp entries.old number) }
     ensures stamp { result.stamp ≡ stamp_or (tree.get nat_cmp entries.old number) }
-    ensures updates { (place : PropPlace) → tree.get nat_cmp entries.old number ≡ Some place
+    ensures updates { (place : ValuePlace) → tree.get nat_cmp entries.old number ≡ Some place
         → tree.Updates nat_cmp entries.old entries.new number (Some (replaced value stamp place)) }
     ensures kept { tree.get nat_cmp entries.old number ≡ None → entries.new ≡ entries.old }
 {
     match entries.get_mut(&number) {
         Some(place) => {
             let old = *place;
-            if old.value.is_some() {
-                *place = PropPlace {
-                    stamp: stamp.unwrap_or(old.stamp),
-                    value: Some(value),
-                };
+            if old.is_present() {
+                *place = StampedValue::new(stamp.unwrap_or(old.stamp()), Some(value));
             }
             old
         }
-        None => PropPlace {
-            stamp: 0,
-            value: None,
-        },
+        None => StampedValue::new(0, None),
     }
 }
 
@@ -163,10 +149,10 @@ pub(crate) fn purge(entries: &mut Entries, oldest: u64)
 }
 
 /// Whether there is a value in a place, or its stamp isn't below this one.
-fn is_needed(place: &PropPlace, oldest: u64) -> bool
+fn is_needed(place: &StampedValue, oldest: u64) -> bool
     ensures { result ≡ (is_some place.now.value || nat_le oldest place.now.stamp) }
 {
-    place.value.is_some() || place.stamp >= oldest
+    place.is_present() || place.stamp() >= oldest
 }
 
 /// The entries that are present, with stamp 0.
@@ -176,8 +162,8 @@ pub(crate) fn present_entries(alloc: Global, entries: &Entries) -> Result<Entrie
 {
     let mut copy = entries.clone()?;
     copy.retain(|_, place| {
-        place.stamp = 0;
-        place.value.is_some()
+        place.set_stamp(0);
+        place.is_present()
     });
     Ok(copy)
 }
@@ -189,7 +175,7 @@ pub(crate) fn listed(alloc: Global, entries: &Entries) -> Result<Vec<PropValue>,
 {
     let props = entries
         .iter()
-        .filter_map(|(number, place)| prop_value(*number, place.value));
+        .filter_map(|(number, place)| prop_value(*number, place.value()));
     Ok(props.collect(alloc)?)
 }
 

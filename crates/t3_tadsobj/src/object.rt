@@ -1,23 +1,24 @@
-ghost use Rattle.std.specs.Prelude.{◌≡◌, ℕ, false, [], Some, None, map, option_map, IsTrue, IsSome, IfOk, OnOk, OnErr, MatchOption};
+ghost use Rattle.std.specs.Prelude.{◌≡◌, ℕ, false, [], Some, None, map, option_and_then, IsTrue, IsSome, IfOk, OnOk, OnErr, MatchOption};
 ghost use Rattle.std.specs.FinMap.{get, entries, insert, contains_key};
 ghost use Rattle.std.specs.List.Sorted.{IsStrictlyIncreasing};
 ghost use Rattle.t3_undo.specs.Content.{shown, is_form, with_place, places_for};
 ghost use Rattle.t3_undo.specs.Objects.{set_at};
+ghost use Rattle.t3_undo.specs.Present.{value_in};
 ghost use Rattle.t3_undo.specs.Purging.{Stays};
 ghost use Rattle.t3_undo.specs.declared.cell.Cell.{Cell};
 ghost use Rattle.t3_tadsobj.specs.Object.{bare, is_prop, props_of};
 ghost use Rattle.t3_tadsobj.specs.Inner.Entries.{new_stamp};
 
 use crate::entries::{
-    Entries, PropPlace, content_at, content_of, exchange, listed, one_if_present, place_of,
-    present_entries, purge, replace_value, restamp, stamp_at, value_at, value_in,
+    Entries, content_at, content_of, exchange, listed, one_if_present, place_of, present_entries,
+    purge, replace_value, restamp, stamp_at, value_at, value_in,
 };
 use crate::props::Props;
 use std::alloc::Global;
 use std::collections::BTreeMap;
 use std::marker::Model;
 use t3_holder::{Holder, NoMemory};
-use t3_undo::{Cell, Content, Metaclass, Numbers, Place};
+use t3_undo::{Cell, Content, Metaclass, Numbers, Place, StampedValue};
 
 /// An object of the TADS language: superclasses, whether it is a class, and properties.
 #[derive(Drop)]
@@ -92,10 +93,7 @@ impl TadsObject {
         ensures err { OnErr result (self.new ≡ self.old) }
     {
         let _within = self.props.len();
-        let place = PropPlace {
-            stamp: 0,
-            value: Some(value),
-        };
+        let place = StampedValue::new(0, Some(value));
         let old = self.props.insert(number, place)?;
         self.present = self.present + 1 - one_if_present(value_in(old));
         Ok(())
@@ -110,7 +108,7 @@ impl TadsObject {
         ensures placed { IsSome (shown result.content)
             → get self.old.places (Cell.Prop number) ≡ Some result.stamp }
         ensures formed { IsTrue (is_form (Cell.Prop number) (shown result.content)) }
-        ensures value { option_map (λ present. present.value) (shown result.content)
+        ensures value { option_and_then value_in (shown result.content)
             ≡ get (props_of self.old.parts) number }
         ensures set { IsSome (shown result.content) → self.new ≡ record self.old {
           parts = set_at self.old.parts (Cell.Prop number) (shown (Content.Held value));
@@ -185,6 +183,7 @@ impl Metaclass for TadsObject {
         requires form { IsTrue (is_form cell.now (shown content)) }
         ensures object { self.new ≡ record self.old { parts = set_at self.old.parts cell.now (shown content) } }
         ensures old { shown result ≡ get self.old.parts cell.now }
+        ensures back { set_at self.new.parts cell.now (shown result) ≡ self.old.parts }
         ensures formed { IsTrue (is_form cell.now (shown result)) }
         ensures only_props { IsTrue (is_prop cell.now) }
     {
@@ -212,10 +211,7 @@ impl Metaclass for TadsObject {
         if self.props.contains_key(&number) {
             return Ok(());
         }
-        let place = PropPlace {
-            stamp: 0,
-            value: None,
-        };
+        let place = StampedValue::new(0, None);
         self.props.insert(number, place)?;
         Ok(())
     }

@@ -2,7 +2,7 @@
 use Rattle.std.proofs.Common.{◌≡◌, ◌∙◌, ap, sym, refl, ℕ, zero, suc, Bool, true, false, cond, ◌||◌, List, [], ◌∷◌, Option, None, true≢false, IsPermutation, All, arith}
 use Rattle.std.specs.List.{AllByRecursion}
 use Rattle.std.proofs.lemmas.List.Sorted.{All-permutation, list_any-IsPermutation}
-use Rattle.t3_undo.specs.Content.{Present}
+use Rattle.t3_undo.specs.Present.{Present}
 use Rattle.t3_undo.specs.Objects.{Objects, OldPart, Segment, set_cell, part_at, is_of, is_noted, AreApart, put_back, below, before, copies}
 use Rattle.t3_undo.specs.Journal.{HaveDistinctCells}
 use Rattle.t3_undo.specs.UndoLaw.{AreReordered}

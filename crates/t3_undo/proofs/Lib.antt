@@ -1,4 +1,5 @@
 pub mod Maps
+pub mod PresentForms
 pub mod SlotLists
 pub mod SlotCopies
 pub mod SlotPurges

@@ -1,11 +1,12 @@
 -- What a finite map answers after a key was set or its value changed. Other crates may use these.
-use Rattle.std.proofs.Common.{◌≡◌, ◌∙◌, ap, sym, refl, ℕ, ◌+◌, ◌-◌, ◌<◌, ◌≤◌, Bool, true, false, cond, List, [], ◌∷◌, length, Option, None, Some, is_some, true≢false, arith}
+use Rattle.std.proofs.Common.{◌≡◌, ◌∙◌, ap, sym, refl, ℕ, ◌+◌, ◌-◌, ◌<◌, ◌≤◌, Bool, true, false, cond, ◌&&◌, T, List, [], ◌∷◌, length, Option, None, Some, is_some, true≢false, arith}
 use Rattle.std.specs.declared.cmp.Ordering.{Ordering}
-use Rattle.std.specs.Ordering.{eq_by_cmp}
+use Rattle.std.specs.declared.cmp.Ordering.TheVariants.{Less, Equal, Greater}
+use Rattle.std.specs.Ordering.{eq_by_cmp, is_eq, is_lt}
 use Rattle.std.specs.Option.{option_map}
 use Rattle.std.specs.Cmp.{IsTotalOrder, Equal-is, eq_by_cmp_equiv}
 use Rattle.std.specs.FinMap.{FinMap, empty, entries, len, len-empty, len-entries, len-insert, len-remove, get, insert, remove, get-insert, get-remove, get-entries, get_tied, IsAntisymmetric, same_map}
-use Rattle.std.specs.FinMap.Entries.{find}
+use Rattle.std.specs.FinMap.Entries.{find, below_all}
 use Rattle.t3_undo.specs.Objects.{set_at, adjust, adjusted}
 
 -- one for a value, and nothing for none
@@ -75,6 +76,11 @@ module _ {K X : Type 0} {R : K → K → Ordering} (total : IsTotalOrder R) wher
       by q true t = get-tied m q k t
       by q false t = get-set_at m k o q ∙ ap (λ b. cond b o (get m q)) t
 
+  -- and where both are known by equations
+  pub set_at-restored : IsAntisymmetric R → (m new : FinMap R X) (k : K) (o old : Option X) → new ≡ set_at m k o → old ≡ get m k
+      → set_at new k old ≡ m
+  set_at-restored same m new k o old is was = (λ i. set_at (is i) k (was i)) ∙ set_at-back same m k o
+
   -- what is absent, taken away
   pub set_at-absent : IsAntisymmetric R → (m : FinMap R X) (k : K) → get m k ≡ None → set_at m k None ≡ m
   set_at-absent same m k none = same_map total same _ m (λ q. get-set_at m k None q ∙ by q (eq_by_cmp R q k) refl)
@@ -112,6 +118,26 @@ module _ {K X : Type 0} {R : K → K → Ordering} (total : IsTotalOrder R) wher
 no_length : {X : Type 0} (xs : List X) → length xs ≡ 0 → xs ≡ []
 no_length [] e = refl
 no_length (x ∷ xs) e = absurd (omega arith)
+
+pub first : (a b : Bool) → T (a && b) → T a
+first true b h = tt
+first false b h = h
+
+pub second : (a b : Bool) → T (a && b) → T b
+second true b h = h
+second false b h = absurd h
+
+module _ {K X : Type 0} (R : K → K → Ordering) where
+  -- what is below all others isn't found among them
+  pub find-below : (x : K) (es : List (K × X)) → T (below_all R x es) → find R x es ≡ None
+  find-below x [] below = refl
+  find-below x (e ∷ es) below = by (find-below x es) (R x e.0) below
+    where
+      by : (T (below_all R x es) → find R x es ≡ None) → (r : Ordering) → T (is_lt r && below_all R x es)
+          → cond (is_eq r) (Some e.1) (find R x es) ≡ None
+      by rest Less below = rest below
+      by rest Equal below = absurd below
+      by rest Greater below = absurd below
 
 pub entries-empty : {K X : Type 0} (R : K → K → Ordering) → entries (empty {K = K} {X = X} {R = R}) ≡ []
 entries-empty {K} {X} R = no_length _ (sym (len-entries (empty {K = K} {X = X} {R = R})) ∙ len-empty R X)

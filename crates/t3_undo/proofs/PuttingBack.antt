@@ -5,7 +5,8 @@ use Rattle.std.specs.Option.{option_map}
 use Rattle.std.specs.Cmp.{nat_cmp_total, Equal-is, eq_by_cmp_equiv}
 use Rattle.std.specs.FinMap.{get, insert, same_map, get-insert, get-retain_keys, nat_cmp-IsAntisymmetric}
 use Rattle.t3_undo.specs.Cell.{cell_cmp, cell_cmp_total, cell_cmp-IsAntisymmetric}
-use Rattle.t3_undo.specs.Content.{Present, Parts}
+use Rattle.t3_undo.specs.Content.{Parts}
+use Rattle.t3_undo.specs.Present.{Present}
 use Rattle.t3_undo.specs.Objects.{Objects, OldPart, Segment, set_cell, with_part, part_of, part_at, is_of, is_noted, put_back, below, before}
 use Rattle.t3_undo.specs.declared.cell.Cell.{Cell}
 use Rattle.t3_undo.proofs.Maps.{get-set_at, get-adjust}

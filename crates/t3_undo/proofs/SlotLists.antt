@@ -9,7 +9,8 @@ use Rattle.std.specs.FinMap.Entries.{find, find-append}
 use Rattle.std.proofs.lemmas.Map.{lookup-set_value}
 use Rattle.std.proofs.lemmas.Map.Made.{is_some-lookup}
 use Rattle.t3_undo.specs.Cell.{cell_cmp, cell_cmp_total, cell_cmp-IsAntisymmetric}
-use Rattle.t3_undo.specs.Content.{Present, Parts, Places, shown, is_form, with_place, places_for}
+use Rattle.t3_undo.specs.Content.{Parts, Places, shown, is_form, with_place, places_for}
+use Rattle.t3_undo.specs.Present.{Present}
 use Rattle.t3_undo.specs.Objects.{set_at}
 use Rattle.t3_undo.specs.Slots.{parts_of, places_of, unstamped, AreFormed, AreSlots}
 use Rattle.t3_undo.specs.declared.cell.Cell.{Cell}

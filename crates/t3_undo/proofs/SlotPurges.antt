@@ -6,7 +6,8 @@ use Rattle.std.specs.Map.{keys_of, lookup}
 use Rattle.std.specs.FinMap.{get}
 use Rattle.std.proofs.lemmas.Map.Entries.{lookup-filter-values, option_filter}
 use Rattle.t3_undo.specs.Cell.{cell_cmp_total}
-use Rattle.t3_undo.specs.Content.{Present, shown}
+use Rattle.t3_undo.specs.Content.{shown}
+use Rattle.t3_undo.specs.Present.{Present}
 use Rattle.t3_undo.specs.Slots.{parts_of, places_of, is_needed, AreFormed}
 use Rattle.t3_undo.specs.Purging.{IsNeeded}
 use Rattle.t3_undo.specs.declared.cell.Cell.{Cell}

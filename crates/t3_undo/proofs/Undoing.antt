@@ -4,7 +4,8 @@ use Rattle.std.specs.List.{AllByRecursion}
 use Rattle.std.specs.Option.{option_map}
 use Rattle.std.specs.Cmp.{nat_cmp_total}
 use Rattle.std.specs.FinMap.{get, insert, same_map, get-insert, nat_cmp-IsAntisymmetric}
-use Rattle.t3_undo.specs.Content.{Present, Parts}
+use Rattle.t3_undo.specs.Content.{Parts}
+use Rattle.t3_undo.specs.Present.{Present}
 use Rattle.t3_undo.specs.Objects.{Objects, OldPart, Segment, set_cell, with_part, part_at, below, is_noted, AreApart, put_back, before, copies}
 use Rattle.t3_undo.specs.Journal.{add, HaveDistinctCells}
 use Rattle.t3_undo.specs.UndoLaw.{Event, Sets, Makes, Saves, Drops, Undoes, Copied, Noted, newest_copy, copied_after, noted, undone, noted_after, AreBelow, IsUndoLaw}

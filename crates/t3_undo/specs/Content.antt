@@ -1,10 +1,12 @@
 -- What stands in the cells of an object, and which cells have a place.
-use Rattle.std.specs.Prelude.{◌≡◌, if◌then◌else◌, map, ℕ, ◌-◌, ◌^◌, zero, suc, ℤ, pos, negsuc, Bool, true, false, not, Option, None, Some, is_some, nat_lt, refl}
+use Rattle.std.specs.Prelude.{◌≡◌, if◌then◌else◌, map, ℕ, ◌-◌, ◌^◌, zero, suc, ℤ, pos, negsuc, Bool, true, false, not, List, [], Option, None, Some, is_some, nat_lt, refl}
 use Rattle.std.specs.FinMap.{FinMap, contains_key, insert, keys, from_entries, code as coded_map}
-use Rattle.std.specs.Coded.{Coded, code_by, coded_ℕ, coded_ℤ, coded×, coded_option}
+use Rattle.std.specs.Coded.{Coded, code_by, coded_ℕ, coded_ℤ, coded×, coded_option, coded_list}
 use Rattle.t3_holder.specs.declared.holder.Holder.{Holder}
 use Rattle.t3_holder.specs.declared.holder.Holder.TheVariants as holders
 use Rattle.t3_undo.specs.Cell.{cell_cmp, coded_cell}
+use Rattle.t3_undo.specs.Present.{Present, tick_in}
+use Rattle.t3_undo.specs.Present as presents
 use Rattle.t3_undo.specs.declared.cell.Cell.{Cell}
 use Rattle.t3_undo.specs.declared.cell.Cell.TheVariants as cells
 use Rattle.t3_undo.specs.declared.content.Content.{Content}
@@ -59,21 +61,29 @@ holder_by-holder_code (holders.Func n) = refl
 abbrev pub coded_holder : Coded Holder
 coded_holder = code_by (ℕ × ℤ) (coded× coded_ℕ coded_ℤ) holder_code (λ p. holder_by p.0 p.1) holder_by-holder_code
 
--- what stands in a present cell: a value, in a table's entry with its tick
-pub record Present : Type 0 where
-  pub tick : Option ℕ
-  pub value : Holder
+-- what stands in a present cell as a value with its tick, or else as superclasses
+abbrev pub present_code : Present → ℕ × ((Option ℕ × Holder) × List ℕ)
+present_code (presents.Value tick value) = (0, ((tick, value), []))
+present_code (presents.Supers supers) = (1, ((None, holders.Nil), supers))
+
+abbrev pub present_by : ℕ → (Option ℕ × Holder) × List ℕ → Present
+present_by zero c = presents.Value c.0.0 c.0.1
+present_by (suc _) c = presents.Supers c.1
+
+pub present_by-present_code : (p : Present) → present_by (present_code p).0 (present_code p).1 ≡ p
+present_by-present_code (presents.Value tick value) = refl
+present_by-present_code (presents.Supers supers) = refl
 
 abbrev pub coded_present : Coded Present
 coded_present =
-    code_by (Option ℕ × Holder) (coded× (coded_option coded_ℕ) coded_holder) (λ p. (p.tick, p.value))
-    (λ t. record { tick = t.0; value = t.1 }) (λ _. refl)
+    code_by (ℕ × ((Option ℕ × Holder) × List ℕ)) (coded× coded_ℕ (coded× (coded× (coded_option coded_ℕ) coded_holder) (coded_list coded_ℕ)))
+    present_code (λ c. present_by c.0 c.1) present_by-present_code
 
 -- a content as what stands in a cell, none where it is absent
 abbrev pub shown : Content → Option Present
 shown contents.Absent = None
-shown (contents.Held value) = Some (record { tick = None; value = value })
-shown (contents.Slot tick value) = Some (record { tick = Some tick; value = value })
+shown (contents.Held value) = Some (presents.Value None value)
+shown (contents.Slot tick value) = Some (presents.Value (Some tick) value)
 
 -- the parts of an object: its present cells, each with what stands there
 abbrev pub Parts : Type 0
@@ -102,15 +112,16 @@ abbrev pub is_tick : Option ℕ → Bool
 is_tick None = false
 is_tick (Some tick) = nat_lt tick (2 ^ 64 - 1)
 
--- there is a content without a tick
+-- there is a value without a tick
 abbrev pub is_held : Option Present → Bool
 is_held None = false
-is_held (Some present) = not (is_some present.tick)
+is_held (Some (presents.Value tick value)) = not (is_some tick)
+is_held (Some (presents.Supers supers)) = false
 
--- the content is of the cell's form: an entry has a tick, others have none, and a default is never absent
+-- the content is of the cell's form: a value, in an entry with a tick and in others without one; and a default is never absent
 abbrev pub is_form : Cell → Option Present → Bool
 is_form (cells.Key _) None = true
-is_form (cells.Key _) (Some present) = is_tick present.tick
+is_form (cells.Key _) (Some present) = is_tick (tick_in present)
 is_form (cells.Prop _) None = true
 is_form (cells.Prop _) (Some present) = is_held (Some present)
 is_form (cells.Elem _) None = true

@@ -3,7 +3,8 @@ use Rattle.std.specs.Prelude.{ℕ, ◌+◌, ◌-◌, Bool, true, false, ◌&&◌
 use Rattle.std.specs.List.{AllByRecursion}
 use Rattle.std.specs.Coded.{Coded, code_by, coded×, coded_ℕ, coded_list, coded_option}
 use Rattle.t3_undo.specs.Cell.{coded_cell}
-use Rattle.t3_undo.specs.Content.{Present, shown, coded_present}
+use Rattle.t3_undo.specs.Content.{shown, coded_present}
+use Rattle.t3_undo.specs.Present.{Present}
 use Rattle.t3_undo.specs.Objects.{OldPart, Segment, is_noted, AreApart}
 use Rattle.t3_undo.specs.declared.cell.Cell.{Cell}
 use Rattle.t3_undo.specs.declared.kept.Kept.{Kept}

@@ -1,6 +1,9 @@
 pub mod Key
 pub mod Cell
+pub mod Present
 pub mod Content
+pub mod Units
+pub mod StampedValue
 pub mod Objects
 pub mod Slots
 pub mod Purging

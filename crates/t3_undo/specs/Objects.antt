@@ -5,7 +5,8 @@ use Rattle.std.specs.List.{list_any}
 use Rattle.std.specs.declared.cmp.Ordering.{Ordering}
 use Rattle.std.specs.FinMap.{FinMap, get, insert, remove, retain_keys}
 use Rattle.t3_undo.specs.Cell.{cell_cmp}
-use Rattle.t3_undo.specs.Content.{Present, Parts}
+use Rattle.t3_undo.specs.Content.{Parts}
+use Rattle.t3_undo.specs.Present.{Present}
 use Rattle.t3_undo.specs.declared.cell.Cell.{Cell}
 
 module _ {K X : Type 0} {R : K → K → Ordering} where

@@ -1,7 +1,8 @@
 -- Savepoints as whole copies of all objects, and as records of what was changed first: that both are the same.
 use Rattle.std.specs.Prelude.{◌≡◌, ◌≤◌, ℕ, ◌+◌, List, [], ◌∷◌, Option, None, IsPermutation, if◌then◌else◌, fold, take, drop}
 use Rattle.std.specs.FinMap.{get, insert}
-use Rattle.t3_undo.specs.Content.{Present, Parts}
+use Rattle.t3_undo.specs.Content.{Parts}
+use Rattle.t3_undo.specs.Present.{Present}
 use Rattle.t3_undo.specs.Objects.{Objects, OldPart, Segment, set_cell, part_at, before, copies}
 use Rattle.t3_undo.specs.Journal.{is_due, add}
 use Rattle.t3_undo.specs.declared.cell.Cell.{Cell}

@@ -1,5 +1,6 @@
-ghost use Rattle.std.specs.Prelude.{◌≡◌, is_some, option_map};
+ghost use Rattle.std.specs.Prelude.{◌≡◌, is_some, option_and_then};
 ghost use Rattle.t3_undo.specs.Content.{shown};
+ghost use Rattle.t3_undo.specs.Present.{value_in};
 
 use t3_holder::Holder;
 
@@ -24,7 +25,7 @@ impl Content {
 
     /// The value, without a tick. `None` exactly where the content is absent.
     pub fn value(&self) -> Option<Holder>
-        ensures { result ≡ option_map (λ present. present.value) (shown self.now) }
+        ensures { result ≡ option_and_then value_in (shown self.now) }
     {
         match self {
             Content::Absent => None,

@@ -29,9 +29,11 @@ mod mark;
 mod metaclass;
 mod newest;
 mod numbers;
+mod optional_holder;
 mod place;
 mod rings;
 mod slots;
+mod stamped_value;
 
 pub use cell::Cell;
 pub use content::Content;
@@ -43,3 +45,4 @@ pub use metaclass::Metaclass;
 pub use numbers::Numbers;
 pub use place::Place;
 pub use slots::Slots;
+pub use stamped_value::StampedValue;

@@ -41,6 +41,7 @@ pub trait Metaclass {
         ensures parts { parts self.new ≡ set_at (parts self.old) cell.now (shown content) }
         ensures places { places self.new ≡ places self.old }
         ensures old { shown result ≡ get (parts self.old) cell.now }
+        ensures back { set_at (parts self.new) cell.now (shown result) ≡ parts self.old }
         ensures formed { IsTrue (is_form cell.now (shown result)) };
 
     /// Makes a place with stamp 0 for the cell, if it has none. The cell stays as it is.

@@ -1,14 +1,15 @@
 -- The elements of a vector by their indices.
-use Rattle.std.specs.Prelude.{◌≡◌, Bool, ◌||◌, nat_le, ℕ, zero, suc, ◌<◌, ◌^◌, ◌==◌, ◌++◌, if◌then◌else◌, List, [], ◌∷◌, Option, None, Some, count_by, is_some, length, slice_get, slice_set, option_map}
+use Rattle.std.specs.Prelude.{◌≡◌, Bool, ◌||◌, nat_le, ℕ, zero, suc, ◌<◌, ◌^◌, ◌==◌, ◌++◌, if◌then◌else◌, List, [], ◌∷◌, Option, None, Some, count_by, is_some, length, slice_get, slice_set, option_map, option_and_then}
 use Rattle.t3_holder.specs.declared.holder.Holder.{Holder}
 use Rattle.t3_undo.specs.Content.{shown}
+use Rattle.t3_undo.specs.Present.{value_in}
 use Rattle.t3_undo.specs.declared.cell.Cell.{Cell}
 use Rattle.t3_undo.specs.declared.cell.Cell.TheVariants as cells
 use Rattle.t3_undo.specs.declared.content.Content.{Content}
 use Rattle.t3_undo.specs.declared.content.Content.TheVariants as contents
 use Rattle.t3_lists.specs.Vector.{content_of}
 use Rattle.std.specs.List.{filter_map, list_any}
-use Rattle.t3_lists.specs.declared.elements.Element.{Element}
+use Rattle.t3_undo.specs.StampedValue.{ValuePlace}
 
 -- the index of an element
 abbrev pub index_of : Cell → Option ℕ
@@ -29,7 +30,7 @@ content_in elements (Some index) = content_found (slice_get elements index)
 
 -- the element that a content says
 abbrev pub element_of : Content → Option Holder
-element_of content = option_map (λ present. present.value) (shown content)
+element_of content = option_and_then value_in (shown content)
 
 -- the elements with that at an index
 abbrev pub exchanged : List (Option Holder) → Option ℕ → Content → List (Option Holder)
@@ -62,19 +63,19 @@ restamped stamps None stamp = stamps
 restamped stamps (Some index) stamp = slice_set stamps index stamp
 
 -- an element that isn't missing, with stamp 0
-abbrev pub afresh : Element → Option Element
+abbrev pub afresh : ValuePlace → Option ValuePlace
 afresh element = option_map (λ value. record { stamp = 0; value = Some value }) element.value
 
 -- the present elements alone, with stamp 0
-abbrev pub present_of : List Element → List Element
+abbrev pub present_of : List ValuePlace → List ValuePlace
 present_of elements = filter_map afresh elements
 
 -- whether an element isn't missing, or its stamp isn't below this one
-abbrev pub is_needed : ℕ → Element → Bool
+abbrev pub is_needed : ℕ → ValuePlace → Bool
 is_needed oldest element = is_some element.value || nat_le oldest element.stamp
 
 -- the elements up to the last one that is needed
-abbrev pub purged : ℕ → List Element → List Element
+abbrev pub purged : ℕ → List ValuePlace → List ValuePlace
 purged oldest [] = []
 purged oldest (element ∷ elements) =
     if list_any (is_needed oldest) (element ∷ elements) then element ∷ purged oldest elements else []

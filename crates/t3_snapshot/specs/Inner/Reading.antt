@@ -13,7 +13,8 @@ use Rattle.std.specs.FinMap.{from_entries}
 use Rattle.std.specs.List.{list_any}
 use Rattle.std.specs.Ordering.{eq_by_cmp}
 use Rattle.t3_undo.specs.Key.{key_cmp}
-use Rattle.t3_store.specs.Value.{Value, Tads, Text, Items, Vector, Table, pair_of}
+use Rattle.t3_store.specs.Value.{Value, Tads, Text, Items, Vector, Table}
+use Rattle.t3_tadsobj.specs.Props.{pair_of}
 use Rattle.t3_snapshot.specs.Layout.{keys_of}
 use Rattle.t3_snapshot.specs.declared.read_error.ReadError.{ReadError}
 use Rattle.t3_snapshot.specs.declared.read_error.ReadError.TheVariants as errors

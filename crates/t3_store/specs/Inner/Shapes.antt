@@ -1,23 +1,25 @@
 -- Objects as what never changes of each, its shape, and its parts; and what value that is.
-use Rattle.std.specs.Prelude.{◌≡◌, ◌+◌, ◌≤◌, ℕ, zero, suc, Bool, false, List, [], ◌∷◌, ◌++◌, length, Option, None, Some, map, option_map, nat_lt, refl}
+use Rattle.std.specs.Prelude.{◌≡◌, ◌≤◌, ℕ, zero, suc, Bool, false, List, [], ◌∷◌, ◌++◌, length, Option, None, Some, map, option_map, nat_lt, refl}
 use Rattle.std.specs.Ordering.{nat_cmp}
 use Rattle.std.specs.FinMap.{FinMap, empty, get, insert, contains_key, retain_keys, entries, from_entries, code as coded_map}
 use Rattle.std.specs.Borrow.{Bor}
 use Rattle.std.specs.Coded.{Coded, code_by, coded×, coded_ℕ, coded_bool, coded_list}
-use Rattle.t3_undo.specs.Content.{Parts, Places, Present, places_for, coded_parts, coded_places, coded_holder}
+use Rattle.t3_undo.specs.Content.{Parts, Places, places_for, coded_parts, coded_places, coded_holder}
+use Rattle.t3_undo.specs.Present.{Present}
 use Rattle.t3_undo.specs.Content as content
 use Rattle.t3_undo.specs.Objects.{Objects, set_at, set_cell, adjust}
 use Rattle.t3_undo.specs.Stamps.{Stamps}
 use Rattle.t3_undo.specs.declared.cell.Cell.{Cell}
 use Rattle.t3_undo.specs.declared.cell.Cell.TheVariants as cells
 use Rattle.t3_holder.specs.declared.holder.Holder.{Holder}
-use Rattle.t3_holder.specs.declared.holder.Holder.TheVariants as holders
 use Rattle.t3_tadsobj.specs.Object.{props_of}
 use Rattle.t3_tadsobj.specs.Object as Tadsobject
 use Rattle.t3_lists.specs.Vector.{items_of}
 use Rattle.t3_lists.specs.Vector as vectors
 use Rattle.t3_tables.specs.Table.{entries_of, tick_after}
 use Rattle.t3_tables.specs.Table as tables
+use Rattle.t3_tables.specs.Entries.{default_of}
+use Rattle.t3_undo.specs.Present as presents
 use Rattle.t3_store.specs.Value.{Value, Tads, Text, Items, Vector, Table}
 use Rattle.t3_store.specs.declared.object.Object.{Object}
 use Rattle.t3_store.specs.declared.object.Object.TheVariants as object
@@ -36,7 +38,7 @@ thing_of (object.Tads o) = (TadsShape o.supers o.class, o.parts)
 thing_of (object.Text t) = (TextShape t, empty)
 thing_of (object.List l) = (ItemsShape l, empty)
 thing_of (object.Vector v) = (VectorShape, vectors.parts_of v)
-thing_of (object.Table t) = (TableShape, tables.parts_of t)
+thing_of (object.Table t) = (TableShape, tables.parts_of t.value)
 
 -- the places of an object
 abbrev pub places_of : Object → Places
@@ -44,7 +46,7 @@ places_of (object.Tads o) = o.places
 places_of (object.Text t) = empty
 places_of (object.List l) = empty
 places_of (object.Vector v) = vectors.places_of v
-places_of (object.Table t) = tables.places_of t
+places_of (object.Table t) = tables.places_of t.value
 
 -- an object has a place for each present cell, with stamp 0, and no other
 abbrev pub HasFreshPlaces : Object → Type 0
@@ -56,15 +58,7 @@ tick_of (object.Tads o) = 0
 tick_of (object.Text t) = 0
 tick_of (object.List l) = 0
 tick_of (object.Vector v) = 0
-tick_of (object.Table t) = t.next_tick
-
-abbrev pub value_or_nil : Option Present → Holder
-value_or_nil None = holders.Nil
-value_or_nil (Some present) = present.value
-
--- the default among the parts of a table
-abbrev pub default_of : Parts → Holder
-default_of parts = value_or_nil (get parts cells.Default)
+tick_of (object.Table t) = t.value.next_tick
 
 abbrev pub value_by : Shape → Parts → Value
 value_by (TadsShape supers class) parts = Tads supers class (props_of parts)
@@ -174,11 +168,6 @@ ticks_below next ticks = retain_keys ticks (λ number. nat_lt number next)
 abbrev pub tick_behind : Option Present → ℕ
 tick_behind content = tick_after 0 content
 
--- where nothing stood a tick more may be given, and else none
-abbrev pub risen : ℕ → Option Present → ℕ
-risen bound None = bound + 1
-risen bound (Some present) = bound
-
 -- none of these is above the bound
 abbrev pub AreWithin : ℕ → FinMap nat_cmp ℕ → Type 0
 AreWithin bound ticks = (number tick : ℕ) → get ticks number ≡ Some tick → tick ≤ bound
@@ -195,7 +184,7 @@ pub record IsWithProp (old new : Tadsobject.Tads) (number : ℕ) (value : Holder
   pub props : props_of new.parts ≡ insert (props_of old.parts) number value
   pub supers : new.supers ≡ old.supers
   pub class : new.class ≡ old.class
-  pub parts : new.parts ≡ set_at old.parts (cells.Prop number) (Some (record { tick = None; value = value }))
+  pub parts : new.parts ≡ set_at old.parts (cells.Prop number) (Some (presents.Value None value))
   pub places : new.places ≡ insert old.places (cells.Prop number) 0
 
 -- a vector of these parts has so many elements, and none is missing

@@ -3,14 +3,16 @@ use Rattle.std.specs.Prelude.{◌≡◌, ◌<◌, ◌≤◌, ◌^◌, ◌⊎◌,
 use Rattle.std.specs.List.{AllByRecursion}
 use Rattle.std.specs.Ordering.{nat_cmp}
 use Rattle.std.specs.FinMap.{FinMap, get, len}
-use Rattle.t3_undo.specs.Content.{Places, Present, is_form}
+use Rattle.t3_undo.specs.Content.{Places, is_form}
+use Rattle.t3_undo.specs.Present.{Present}
 use Rattle.t3_undo.specs.Objects.{Objects, OldPart, Segment, set_cell, adjust, part_at, before}
 use Rattle.t3_undo.specs.Journal.{Held, note_in}
 use Rattle.t3_undo.specs.Stamps.{AreStamped, HasRecord, stamp_after}
 use Rattle.t3_undo.specs.declared.cell.Cell.{Cell}
 use Rattle.t3_store.specs.Value.{Value, units_in}
 use Rattle.t3_store.specs.Store.{Mark, StoreValue, AreLimits}
-use Rattle.t3_store.specs.Inner.Shapes.{Shape, Stored, values, has_place, stamp_at, with_place_stamp, HaveZeroStamps, tick_behind, risen, AreWithin}
+use Rattle.t3_store.specs.Inner.Shapes.{Shape, Stored, values, has_place, stamp_at, with_place_stamp, HaveZeroStamps, tick_behind, AreWithin}
+use Rattle.t3_tables.specs.Entries.{risen}
 use Rattle.t3_store.specs.Inner.Valid.{AreValidBefore}
 use Rattle.t3_store.specs.Inner.Bounded.{HaveFreshPlaces, HaveFewPlaces, IsPlaceMade, IsFilledBelow}
 use Rattle.t3_store.specs.Inner.Whole.{supers_from, supers_of_both, AreWhole}

@@ -2,7 +2,7 @@
 use Rattle.std.specs.Prelude.{ℕ, List, Option, None, Some, IsTrue}
 use Rattle.std.specs.FinMap.{put, contains_key}
 use Rattle.t3_holder.specs.declared.holder.Holder.{Holder}
-use Rattle.t3_undo.specs.Content.{Present}
+use Rattle.t3_undo.specs.Present.{Present}
 use Rattle.t3_undo.specs.Slots as slots
 use Rattle.t3_undo.specs.declared.key.Key.{Key}
 use Rattle.t3_undo.specs.declared.cell.Cell.{Cell}

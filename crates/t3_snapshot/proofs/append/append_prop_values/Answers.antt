@@ -1,4 +1,4 @@
-use Rattle.t3_store.specs.Value.{pair_of}
+use Rattle.t3_tadsobj.specs.Props.{pair_of}
 use Rattle.t3_snapshot.specs.Layout.{IsProp}
 use Rattle.t3_snapshot.specs.State.{trimmed_prop}
 use Rattle.t3_snapshot.proofs.Written.{each_at}

@@ -1,6 +1,6 @@
 use Rattle.std.proofs.Common.{◌≡◌, ◌++◌, take}
 use Rattle.std.specs.List.{flat_map}
-use Rattle.t3_store.specs.Value.{pair_of}
+use Rattle.t3_tadsobj.specs.Props.{pair_of}
 use Rattle.t3_snapshot.specs.Layout.{prop_text}
 use Rattle.t3_snapshot.specs.State.{trimmed_prop}
 use Rattle.t3_snapshot.proofs.append.append_prop_values.Given as goal

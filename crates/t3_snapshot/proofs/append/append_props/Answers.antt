@@ -1,5 +1,5 @@
 use Rattle.std.proofs.Common.{sym, length, map, arith}
-use Rattle.t3_store.specs.Value.{pair_of}
+use Rattle.t3_tadsobj.specs.Props.{pair_of}
 use Rattle.t3_snapshot.specs.Layout.{prop_text, counted_text, IsProp}
 use Rattle.t3_snapshot.specs.State.{trimmed_prop}
 use Rattle.t3_snapshot.proofs.Written.{counted_written, mapped_length, all_unmapped, texts_mapped}

@@ -1,5 +1,6 @@
 use Rattle.std.proofs.Common.{refl, sym, ap, subst, ◌∙◌, ◌++◌, map, Some, IsSome}
-use Rattle.t3_store.specs.Value.{Vector, is_class_at, props_at, pair_of}
+use Rattle.t3_store.specs.Value.{Vector, is_class_at, props_at}
+use Rattle.t3_tadsobj.specs.Props.{pair_of}
 use Rattle.t3_snapshot.specs.Inner.Writing.{WritableAt, trimmed_text, tads_written}
 use Rattle.t3_snapshot.proofs.Written.{on_ok}
 use Rattle.t3_snapshot.proofs.Trim.{is_tads, tads_text, tads_fits, is_string, is_list, is_vector, is_table_at, table_is, made}

@@ -4,7 +4,8 @@ use Rattle.std.specs.FinMap.{get}
 use Rattle.t3_undo.specs.Content.{Parts, shown}
 use Rattle.t3_undo.specs.Objects.{with_part, part_of, part_at}
 use Rattle.t3_store.specs.Value.{with_cell, can_have_at}
-use Rattle.t3_store.specs.Inner.Shapes.{Shape, thing_of, tick_of, value_of, risen}
+use Rattle.t3_store.specs.Inner.Shapes.{Shape, thing_of, tick_of, value_of}
+use Rattle.t3_tables.specs.Entries.{risen}
 use Rattle.t3_store.specs.Inner.Valid.{IsValid}
 use Rattle.t3_store.specs.Inner.Entries.{things_of}
 use Rattle.t3_store.proofs.Ticks.{risen-up}

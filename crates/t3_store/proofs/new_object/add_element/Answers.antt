@@ -1,4 +1,5 @@
 use Rattle.std.proofs.Common.{◌≡◌, ◌∙◌, ◌+◌, ℕ, suc, sym, subst, refl, length, Some, None, arith}
+use Rattle.t3_undo.specs.Present as presents
 use Rattle.t3_undo.specs.Objects.{set_at}
 use Rattle.t3_undo.proofs.SlotLists.{placed-made}
 use Rattle.t3_undo.specs.declared.cell.Cell.TheVariants as cells
@@ -21,5 +22,5 @@ pub returns-clause-parts : goal.returns-clause-parts
 returns-clause-parts c items are count =
     let number : c.args.count + 1 ≡ 1 + length items = omega (arith, count) in
     c.put-absent.ensures.parts
-    ∙ (λ i. set_at ((c.make_place.ensures.parts ∙ are) i) (cells.Elem (number i)) (Some (record { tick = None; value = c.args.value })))
+    ∙ (λ i. set_at ((c.make_place.ensures.parts ∙ are) i) (cells.Elem (number i)) (Some (presents.Value None c.args.value)))
     ∙ sym (filled-push items c.args.value)

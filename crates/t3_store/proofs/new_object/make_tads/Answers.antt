@@ -1,6 +1,7 @@
 use Rattle.std.proofs.Common.{◌≡◌, ◌∙◌, ap, ℕ, Some, None}
 use Rattle.std.specs.FinMap.{insert}
 use Rattle.t3_holder.specs.declared.holder.Holder.{Holder}
+use Rattle.t3_undo.specs.Present as presents
 use Rattle.t3_undo.specs.Objects.{set_at}
 use Rattle.t3_undo.specs.declared.cell.Cell.TheVariants as cells
 use Rattle.t3_tadsobj.specs.Object.{Tads, props_of}
@@ -11,11 +12,11 @@ use Rattle.t3_store.proofs.new_object.make_tads.Goals as goal
 
 with_prop : (old new : Tads) (number : ℕ) (value : Holder)
     → new ≡ record old {
-      parts = set_at old.parts (cells.Prop number) (Some (record { tick = None; value = value }));
+      parts = set_at old.parts (cells.Prop number) (Some (presents.Value None value));
       places = insert old.places (cells.Prop number) 0;
     } → IsWithProp old new number value
 with_prop old new number value is = record {
-  props = ap (λ (o : Tads). props_of o.parts) is ∙ props_of-set old.parts number (record { tick = None; value = value });
+  props = ap (λ (o : Tads). props_of o.parts) is ∙ props_of-set old.parts number None value;
   supers = ap (λ (o : Tads). o.supers) is;
   parts = ap (λ (o : Tads). o.parts) is;
   places = ap (λ (o : Tads). o.places) is;

@@ -3,9 +3,11 @@ use Rattle.std.specs.FinMap.{get}
 use Rattle.t3_undo.specs.Content.{shown}
 use Rattle.t3_undo.specs.declared.content.Content.TheVariants.{Held, Slot}
 use Rattle.t3_tables.specs.Table.{parts_of}
-use Rattle.t3_store.specs.Inner.Shapes.{tick_behind, risen}
+use Rattle.t3_store.specs.Inner.Shapes.{tick_behind}
+use Rattle.t3_tables.specs.Entries.{risen}
 use Rattle.t3_store.proofs.Ticks.{least}
-use Rattle.t3_store.proofs.TableValues.{IsTableSet, set-new, set-kept, set-default}
+use Rattle.t3_tables.proofs.EntryValues.{IsTableSet, set-new, set-kept, set-default}
+use Rattle.t3_store.proofs.KindValues.{table-set}
 use Rattle.t3_store.proofs.table_cells.content_with.Goals as goal
 
 new : (c : goal.In-Absent) → IsTableSet (parts_of c.args.table.now) c.args.cell.now c.args.value c.next_tick-next.result
@@ -15,7 +17,7 @@ new c =
     (omega (arith, c.next_tick-next.ensures.next, c.requires.room)) c.requires.can (sym c.get.ensures.content ∙ ap shown c.in-Absent.is)
 
 pub returns-in-Absent-clause-set : goal.returns-in-Absent-clause-set
-returns-in-Absent-clause-set c = (new c).set
+returns-in-Absent-clause-set c = table-set _ _ _ _ _ (new c)
 
 pub returns-in-Absent-clause-valid : goal.returns-in-Absent-clause-valid
 returns-in-Absent-clause-valid c = (new c).whole
@@ -26,7 +28,7 @@ default c =
     c.requires.can (sym c.get.ensures.content ∙ ap shown c.in-Held.is)
 
 pub returns-in-Held-clause-set : goal.returns-in-Held-clause-set
-returns-in-Held-clause-set c = (default c).set
+returns-in-Held-clause-set c = table-set _ _ _ _ _ (default c)
 
 pub returns-in-Held-clause-valid : goal.returns-in-Held-clause-valid
 returns-in-Held-clause-valid c = (default c).whole
@@ -38,7 +40,7 @@ kept c =
     c.requires.valid c.next_tick-next.ensures.above c.requires.can (sym c.get.ensures.content ∙ ap shown c.in-Slot.is)
 
 pub returns-in-Slot-clause-set : goal.returns-in-Slot-clause-set
-returns-in-Slot-clause-set c = (kept c).set
+returns-in-Slot-clause-set c = table-set _ _ _ _ _ (kept c)
 
 pub returns-in-Slot-clause-valid : goal.returns-in-Slot-clause-valid
 returns-in-Slot-clause-valid c = (kept c).whole

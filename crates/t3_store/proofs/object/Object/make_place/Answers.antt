@@ -3,7 +3,7 @@ use Rattle.t3_store.specs.Value.{can_have}
 use Rattle.t3_store.specs.Inner.Shapes.{thing_of, value_of}
 use Rattle.t3_store.specs.Inner.Valid.{IsValid}
 use Rattle.t3_store.specs.declared.object.Object.{Object}
-use Rattle.t3_store.proofs.VectorValues.{vector-place}
+use Rattle.t3_lists.proofs.ItemValues.{vector-place}
 use Rattle.t3_store.proofs.object.Object.make_place.Goals as goal
 
 pub make_place-requires-in-Vector : goal.make_place-requires-in-Vector

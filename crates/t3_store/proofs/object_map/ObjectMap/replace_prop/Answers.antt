@@ -4,7 +4,8 @@ use Rattle.t3_undo.specs.Content.{shown}
 use Rattle.t3_undo.specs.declared.cell.Cell.TheVariants as cells
 use Rattle.t3_undo.specs.declared.content.Content.TheVariants as contents
 use Rattle.t3_store.specs.Value.{with_cell, holder_at}
-use Rattle.t3_store.specs.Inner.Shapes.{Stored, values, has_place, risen, AreWithin}
+use Rattle.t3_store.specs.Inner.Shapes.{Stored, values, has_place, AreWithin}
+use Rattle.t3_tables.specs.Entries.{risen}
 use Rattle.t3_store.specs.Inner.Store.{IsWritten}
 use Rattle.t3_store.specs.Inner.Entries.{things_of, places_in, ticks_in}
 use Rattle.t3_undo.specs.Objects.{part_at}
@@ -23,8 +24,8 @@ invariant_of-self c =
     record {
       rising = e.rising;
       counted = c.self.invariant.counted
-          ∙ units-after things _ c.args.number c.args.property c.args.value (shown c.replace_prop.result) c.self.invariant.valid e.value e.set e.kept;
-      valid = valid-after things _ c.args.number c.args.property c.args.value (shown c.replace_prop.result) c.self.invariant.valid e.value e.set
+          ∙ units-after things _ c.args.number c.args.property c.args.value (shown c.replace_prop.result) c.self.invariant.valid e.value e.formed e.set e.kept;
+      valid = valid-after things _ c.args.number c.args.property c.args.value (shown c.replace_prop.result) c.self.invariant.valid e.value e.formed e.set
           e.kept;
     }
 
@@ -42,7 +43,7 @@ returns-clause-written c some =
     subst (λ (s : Stored). IsWritten s new c.args.number cell (with_cell cell c.args.value) was) c.self.view_is (record {
       content = shown (contents.Held c.args.value);
       objects = e.set some;
-      values = values-after things _ c.args.number c.args.property c.args.value was c.self.invariant.valid e.value e.set e.kept some;
+      values = values-after things _ c.args.number c.args.property c.args.value was c.self.invariant.valid e.value e.formed e.set e.kept some;
       kept = λ number other placed. ap (λ places. has_place places number other) e.places ∙ placed;
       placed = ap (λ places. has_place places c.args.number cell) e.places ∙ e.placed some;
       stood = e.old some;

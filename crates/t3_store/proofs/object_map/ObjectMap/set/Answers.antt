@@ -3,7 +3,8 @@ use Rattle.std.specs.FinMap.{get}
 use Rattle.t3_undo.specs.Content.{shown}
 use Rattle.t3_undo.specs.Objects.{set_cell, part_at}
 use Rattle.t3_store.specs.Value.{units_in, holder_at, can_have_at}
-use Rattle.t3_store.specs.Inner.Shapes.{Stored, values, risen, AreWithin}
+use Rattle.t3_store.specs.Inner.Shapes.{Stored, values, AreWithin}
+use Rattle.t3_tables.specs.Entries.{risen}
 use Rattle.t3_store.specs.Inner.Valid.{AreValid}
 use Rattle.t3_store.specs.Inner.Entries.{things_of, ticks_in}
 use Rattle.t3_store.specs.declared.entries.Entry.{Entry}

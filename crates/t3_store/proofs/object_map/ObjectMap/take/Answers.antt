@@ -2,8 +2,10 @@ use Rattle.std.proofs.Common.{◌≡◌, ◌∙◌, ◌+◌, ap, sym, subst, Non
 use Rattle.std.specs.FinMap.{get}
 use Rattle.t3_undo.specs.Content.{shown}
 use Rattle.t3_undo.specs.Objects.{set_cell}
-use Rattle.t3_store.specs.Value.{units_in, cell_units, can_lose_at}
-use Rattle.t3_store.specs.Inner.Shapes.{Stored, values, risen, AreWithin}
+use Rattle.t3_store.specs.Value.{units_in, can_lose_at}
+use Rattle.t3_undo.specs.Units.{cell_units}
+use Rattle.t3_store.specs.Inner.Shapes.{Stored, values, AreWithin}
+use Rattle.t3_tables.specs.Entries.{risen}
 use Rattle.t3_store.specs.Inner.Valid.{AreValid}
 use Rattle.t3_store.specs.Inner.Entries.{things_of}
 use Rattle.t3_store.proofs.MapValues.{values-without, present-can_at}

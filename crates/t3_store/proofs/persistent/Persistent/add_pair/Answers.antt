@@ -1,10 +1,12 @@
 use Rattle.std.proofs.Common.{◌≡◌, ◌∙◌, ◌+◌, ap, sym, subst, false, if◌then◌else◌, is_some, is_none, ltb-false}
 use Rattle.std.specs.FinMap.{get}
 use Rattle.t3_undo.specs.declared.cell.Cell.TheVariants as cells
-use Rattle.t3_store.specs.Value.{Objects, IsTableWithout, with_cell, units_in, key_units, holder_at, is_past_units}
+use Rattle.t3_store.specs.Value.{Objects, IsTableWithout, with_cell, units_in, holder_at, is_past_units}
+use Rattle.t3_undo.specs.Units.{key_units}
 use Rattle.t3_store.specs.Inner.Shapes.{values}
 use Rattle.t3_store.specs.declared.limits.StoreRefusal.TheVariants as refusals
-use Rattle.t3_store.proofs.TableUnits.{table-key, least-units}
+use Rattle.t3_tables.proofs.EntryUnits.{least-units}
+use Rattle.t3_store.proofs.KindValues.{table-key}
 use Rattle.t3_store.proofs.MapValues.{units_in-with}
 use Rattle.t3_store.proofs.Changes.{ok-not}
 use Rattle.t3_store.proofs.Adding.{paired-kept, not-and}

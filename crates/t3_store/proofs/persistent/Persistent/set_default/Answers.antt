@@ -5,7 +5,8 @@ use Rattle.t3_undo.specs.Content.{shown}
 use Rattle.t3_undo.specs.declared.cell.Cell.TheVariants as cells
 use Rattle.t3_store.specs.Value.{Objects, entries_in, with_cell}
 use Rattle.t3_store.specs.Inner.Shapes.{values}
-use Rattle.t3_store.proofs.TableUnits.{table-default, default-some}
+use Rattle.t3_undo.proofs.PresentForms.{default-some}
+use Rattle.t3_store.proofs.KindValues.{table-default}
 use Rattle.t3_store.proofs.Changes.{units-overwritten}
 use Rattle.t3_store.proofs.Adding.{overwritten-kept}
 use Rattle.t3_store.proofs.persistent.Persistent.set_default.Goals as goal

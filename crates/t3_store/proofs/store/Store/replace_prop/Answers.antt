@@ -29,7 +29,7 @@ invariant_of-self c =
           let some = sym c.is_present.ensures ∙ c.if-is_present.true in
           let old = c.replace_prop-old.ensures in
           let written = old.written some in
-          let same = units-overwritten _ _ _ _ c.args.value _ written (held-there _ _ old.value some) in
+          let same = units-overwritten _ _ _ _ c.args.value _ written (held-there (cells.Prop c.args.property) _ _ old.value (old.written some).formed some) in
           let counted = ap (λ s. s.writes) c.self.view_is in
           noted-kept _ _ _ c.self.inside.transient c.self.inside.next c.self.inside.next_transient c.self.inside.limits c.self.inside.journal
           _ c.self.inside.units.items (vec_capacity c.self.inside.units) c.self.inside.writes _ _
@@ -44,7 +44,7 @@ returns-then-is_present-clause-replaced c _ =
     let cell = cells.Prop c.args.property in
     let some = sym c.is_present.ensures ∙ c.if-is_present.true in
     let old = c.replace_prop-old.ensures in
-    let there = object-there c.self.inside.persistent.objects c.args.number cell (held-there _ _ old.value some) in
+    let there = object-there c.self.inside.persistent.objects c.args.number cell (held-there (cells.Prop c.args.property) _ _ old.value (old.written some).formed some) in
     λ i. record {
       store = (noted-changed c.self.inside.persistent _ _ c.self.inside.transient.objects c.self.inside.next
           c.self.inside.next_transient c.self.inside.limits c.self.inside.journal _ c.args.number cell (with_cell cell c.args.value)
@@ -62,7 +62,7 @@ invariant_of-self-then-is_present-2 c =
           let some = sym c.is_present-2.ensures ∙ c.if-is_present-2.true in
           let old = c.replace_prop-old-2.ensures in
           let written = old.written some in
-          let same = units-overwritten _ _ _ _ c.args.value _ written (held-there _ _ old.value some) in
+          let same = units-overwritten _ _ _ _ c.args.value _ written (held-there (cells.Prop c.args.property) _ _ old.value (old.written some).formed some) in
           let counted = ap (λ s. s.writes) c.self.view_is in
           let left = c.replace_prop-old.ensures.kept (none-of _ (sym c.is_present.ensures ∙ c.if-is_present.false)) in
           subst (λ (p : Stored). IsStore p c.replace_prop-old-2.new.self c.self.inside.next c.self.inside.next_transient
@@ -81,7 +81,8 @@ invariant_of-self-then-is_present-2 c =
 pub returns-then-is_present-2-clause-answer : goal.returns-then-is_present-2-clause-answer
 returns-then-is_present-2-clause-answer c =
     let cell = cells.Prop c.args.property in
-    let held = held-there _ _ c.replace_prop-old-2.ensures.value (sym c.is_present-2.ensures ∙ c.if-is_present-2.true) in
+    let held = (let some = sym c.is_present-2.ensures ∙ c.if-is_present-2.true in
+    held-there cell _ _ c.replace_prop-old-2.ensures.value (c.replace_prop-old-2.ensures.written some).formed some) in
     let gone = not-persistent c.self.inside.persistent.objects c.self.inside.transient.objects c.self.inside.next c.self.inside.next_transient
     c.args.number cell c.self.invariant.is.numbered held in
     sym (ap is_some (held-transient _ _ c.args.number cell (ap (λ s. s.store) c.self.view_is) gone) ∙ held)
@@ -90,7 +91,7 @@ pub returns-then-is_present-2-clause-replaced : goal.returns-then-is_present-2-c
 returns-then-is_present-2-clause-replaced c _ =
     let cell = cells.Prop c.args.property in
     let some = sym c.is_present-2.ensures ∙ c.if-is_present-2.true in
-    let held = held-there _ _ c.replace_prop-old-2.ensures.value some in
+    let held = held-there cell _ _ c.replace_prop-old-2.ensures.value (c.replace_prop-old-2.ensures.written some).formed some in
     let gone = not-persistent c.self.inside.persistent.objects c.self.inside.transient.objects c.self.inside.next c.self.inside.next_transient
     c.args.number cell c.self.invariant.is.numbered held in
     let left = c.replace_prop-old.ensures.kept (none-of _ (sym c.is_present.ensures ∙ c.if-is_present.false)) in

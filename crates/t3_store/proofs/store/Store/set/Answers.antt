@@ -1,6 +1,7 @@
 use Rattle.std.proofs.Common.{◌∙◌, ap, sym, Some, vec_capacity, arith}
 use Rattle.t3_undo.specs.Content.{shown}
-use Rattle.t3_store.specs.Value.{with_cell, can_have_at, cell_units}
+use Rattle.t3_store.specs.Value.{with_cell, can_have_at}
+use Rattle.t3_undo.specs.Units.{cell_units}
 use Rattle.t3_store.specs.Store.{set_cell, is_full_with}
 use Rattle.t3_store.specs.declared.limits.StoreRefusal.TheVariants as refusals
 use Rattle.t3_store.proofs.Changes.{held-persistent, can-persistent, can-transient, noted-changed, noted-kept, transient-kept, ok-not, units-set, written-ok, room-for}

@@ -1,7 +1,7 @@
 use Rattle.std.proofs.Common.{sym, subst}
 use Rattle.std.specs.FinMap.{len-empty}
 use Rattle.t3_undo.specs.Cell.{cell_cmp}
-use Rattle.t3_undo.specs.Content.{Present}
+use Rattle.t3_undo.specs.Present.{Present}
 use Rattle.t3_undo.specs.Slots.{parts_of, places_of}
 use Rattle.t3_tadsobj.specs.Inner.Entries.{parts_in, places_in, AreCounted}
 use Rattle.t3_tadsobj.proofs.EntryLists.{Entries}

@@ -1,15 +1,15 @@
-use Rattle.std.proofs.Common.{◌≡◌, ◌∙◌, ap, sym, refl, ℕ, Some, None, IsSome, is_some, Option, true≢false, arith}
-use Rattle.std.specs.Option.{option_map}
+use Rattle.std.proofs.Common.{◌≡◌, ◌∙◌, ap, sym, refl, ℕ, Some, None, IsSome, is_some, Option, true≢false, arith, BTreeMap}
+use Rattle.std.specs.Option.{option_map, option_and_then}
 use Rattle.std.specs.FinMap.{get, insert, len}
-use Rattle.std.proofs.Common.{BTreeMap}
 use Rattle.t3_undo.proofs.Maps.{one_if}
 use Rattle.t3_holder.specs.declared.holder.Holder.{Holder}
 use Rattle.t3_undo.specs.Content.{Parts, Places, shown}
+use Rattle.t3_undo.specs.Present.{value_in}
 use Rattle.t3_undo.specs.Objects.{set_at}
 use Rattle.t3_undo.specs.declared.cell.Cell.TheVariants as cells
 use Rattle.t3_undo.specs.declared.content.Content.TheVariants as contents
 use Rattle.t3_tadsobj.specs.Object.{Tads, props_of}
-use Rattle.t3_tadsobj.specs.declared.entries.PropPlace.{PropPlace}
+use Rattle.t3_undo.specs.StampedValue.{ValuePlace}
 use Rattle.t3_tadsobj.specs.Inner.Entries.{content_of, value_at, stamp_or, new_stamp, replaced_by, replaced, parts_in, places_in, AreCounted}
 use Rattle.t3_tadsobj.proofs.PropRows.{get-prop}
 use Rattle.t3_tadsobj.proofs.EntryLists.{Entries, at, len-set, get-Prop, stamp-Prop, content-value_at, shown-value, some-value, none-value, parts-replaced, places-replaced, parts-left, places-left}
@@ -32,8 +32,8 @@ one_if-replaced value stamp old (Some was) = refl
 pub invariant_of-self : goal.invariant_of-self
 invariant_of-self c = by (at c.args.number (before c)) refl
   where
-    by : (o : Option PropPlace) → at c.args.number (before c) ≡ o → AreCounted c.replace_value.new.entries.entries c.self.inside.present
-    by None e = c.self.invariant ∙ ap (λ (m : BTreeMap ℕ PropPlace). len (parts_in m.entries)) (sym (c.replace_value.ensures.kept e))
+    by : (o : Option ValuePlace) → at c.args.number (before c) ≡ o → AreCounted c.replace_value.new.entries.entries c.self.inside.present
+    by None e = c.self.invariant ∙ ap (λ (m : BTreeMap ℕ ValuePlace). len (parts_in m.entries)) (sym (c.replace_value.ensures.kept e))
     by (Some p) e =
         let moved = len-set (before c) c.replace_value.new.entries.entries c.args.number (replaced c.args.value c.args.stamp p)
         (c.replace_value.ensures.updates p e).0 in
@@ -47,7 +47,7 @@ returns-clause-old c =
     ∙ λ i. get (c.self.view_is i).parts (cells.Prop c.args.number)
 
 -- an entry with a value
-there : (o : Option PropPlace) → IsSome (value_at o) → (p : PropPlace) × (o ≡ Some p)
+there : (o : Option ValuePlace) → IsSome (value_at o) → (p : ValuePlace) × (o ≡ Some p)
 there None some = absurd (true≢false (sym some))
 there (Some p) some = (p, refl)
 
@@ -60,7 +60,7 @@ returns-clause-placed c some =
 
 pub returns-clause-value : goal.returns-clause-value
 returns-clause-value c =
-    ap (option_map (λ present. present.value)) (stood c) ∙ shown-value (value_at (at c.args.number (before c)))
+    ap (option_and_then value_in) (stood c) ∙ shown-value (value_at (at c.args.number (before c)))
     ∙ sym (get-prop (before c) c.args.number) ∙ λ i. get (props_of (c.self.view_is i).parts) c.args.number
 
 -- the value that stood there
@@ -94,7 +94,7 @@ returns-clause-kept c none = by (at c.args.number (before c)) refl
     left : value_at (at c.args.number (before c)) ≡ None
     left = none-value (value_at (at c.args.number (before c))) (sym (stood c) ∙ none)
 
-    by : (o : Option PropPlace) → at c.args.number (before c) ≡ o
+    by : (o : Option ValuePlace) → at c.args.number (before c) ≡ o
         → tads c (parts_in c.replace_value.new.entries.entries) (places_in c.replace_value.new.entries.entries) ≡ c.args.self.now
     by None e = let same = c.replace_value.ensures.kept e in (λ i. tads c (parts_in (same i).entries) (places_in (same i).entries)) ∙ c.self.view_is
     by (Some p) e =

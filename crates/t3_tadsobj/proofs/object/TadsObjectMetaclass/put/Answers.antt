@@ -1,10 +1,12 @@
 use Rattle.std.proofs.Common.{◌≡◌, ◌∙◌, ap, sym, Some, true≢false, arith}
 use Rattle.std.specs.FinMap.{get, contains_key}
+use Rattle.t3_undo.specs.Cell.{cell_cmp_total, cell_cmp-IsAntisymmetric}
 use Rattle.t3_undo.specs.Content.{shown, is_form}
 use Rattle.t3_undo.specs.Objects.{set_at}
-use Rattle.t3_tadsobj.specs.declared.entries.PropPlace.{PropPlace}
+use Rattle.t3_undo.specs.StampedValue.{ValuePlace}
 use Rattle.t3_tadsobj.specs.Inner.Entries.{content_of, content_at, value_at}
-use Rattle.t3_undo.proofs.Maps.{one_if, one_if-small}
+use Rattle.t3_undo.proofs.Maps.{one_if, one_if-small, set_at-restored}
+use Rattle.t3_tadsobj.specs.Object.{Tads}
 use Rattle.t3_tadsobj.proofs.EntryLists.{at, found, len-set, len-parts, get-Prop, contains-Prop, contains-other, content-value, formed, parts-put, places-put}
 use Rattle.t3_tadsobj.proofs.object.TadsObjectMetaclass.put.Goals as goal
 use Rattle.t3_tadsobj.proofs.object.TadsObjectMetaclass.put.Goals.{After-content_of}
@@ -14,7 +16,7 @@ exchange-old-requires c =
     sym (contains-Prop c.self.inside.props.entries c.in-Some.number)
     ∙ (λ i. contains_key (c.self.view_is i).places (sym c.in-Some.ensures i)) ∙ c.requires.place
 
-there : (c : After-content_of) → (p : PropPlace) × (at c.in-Some.number c.self.inside.props.entries ≡ Some p)
+there : (c : After-content_of) → (p : ValuePlace) × (at c.in-Some.number c.self.inside.props.entries ≡ Some p)
 there c = found (at c.in-Some.number c.self.inside.props.entries)
     (sym (contains-Prop c.self.inside.props.entries c.in-Some.number)
     ∙ (λ i. contains_key (c.self.view_is i).places (sym c.in-Some.ensures i)) ∙ c.requires.place)
@@ -75,6 +77,11 @@ pub returns-in-Some-clause-formed : goal.returns-in-Some-clause-formed
 returns-in-Some-clause-formed c =
     (λ i. is_form (c.in-Some.ensures i) (stood c i)) ∙ formed c.in-Some.number (at c.in-Some.number c.self.inside.props.entries)
 
+pub returns-in-Some-clause-back : goal.returns-in-Some-clause-back
+returns-in-Some-clause-back c =
+    set_at-restored cell_cmp_total cell_cmp-IsAntisymmetric _ _ c.args.cell.now (shown c.args.content) _
+    (ap (λ (o : Tads). o.parts) (returns-in-Some-clause-object c)) (returns-in-Some-clause-old c)
+
 unplaced : (c : goal.In-None) → ⊥
 unplaced c = true≢false (sym c.requires.place ∙ (λ i. contains_key (sym c.self.view_is i).places c.args.cell.now)
     ∙ contains-other c.self.inside.props.entries c.args.cell.now c.in-None.ensures)
@@ -84,6 +91,9 @@ returns-in-None-clause-object c = absurd (unplaced c)
 
 pub returns-in-None-clause-old : goal.returns-in-None-clause-old
 returns-in-None-clause-old c = absurd (unplaced c)
+
+pub returns-in-None-clause-back : goal.returns-in-None-clause-back
+returns-in-None-clause-back c = absurd (unplaced c)
 
 pub returns-in-None-clause-only_props : goal.returns-in-None-clause-only_props
 returns-in-None-clause-only_props c = absurd (unplaced c)

@@ -1,6 +1,5 @@
--- How many units a table's entries count, and tables that have just these entries.
-use Rattle.std.proofs.Common.{◌≡◌, ◌∙◌, ap, sym, subst, refl, ℕ, suc, ◌+◌, ◌-◌, ◌^◌, ◌<◌, ◌≤◌, Bool, true, false, cond, not, ◌&&◌, List, [], ◌∷◌, ◌++◌, length, map, Option, None, Some, IsTrue, IsSome, is_some, true≢false, lt-ltb, arith}
-use Rattle.std.specs.Option.{option_and_then}
+-- How many units a table's entries count, and tables that have just these entries. Other crates may use these.
+use Rattle.std.proofs.Common.{◌≡◌, ◌∙◌, ap, sym, subst, refl, ℕ, suc, ◌+◌, ◌-◌, ◌^◌, ◌<◌, ◌≤◌, Bool, true, false, cond, not, ◌&&◌, List, [], ◌∷◌, ◌++◌, length, map, Option, Some, IsTrue, IsSome, is_some, true≢false, lt-ltb, arith}
 use Rattle.std.specs.Ordering.{eq_by_cmp}
 use Rattle.std.specs.Cmp.{Equal-is}
 use Rattle.std.specs.List.{AllByRecursion, IsDistinct, sum_by}
@@ -9,9 +8,11 @@ use Rattle.std.specs.FinMap.{get, get-empty}
 use Rattle.t3_holder.specs.declared.holder.Holder.{Holder}
 use Rattle.t3_holder.specs.declared.holder.Holder.TheVariants as holders
 use Rattle.t3_undo.specs.Cell.{cell_cmp, cell_cmp_total}
-use Rattle.t3_undo.specs.Content.{Present, Parts, shown, is_form}
+use Rattle.t3_undo.specs.Content.{Parts, shown, is_form}
+use Rattle.t3_undo.specs.Present.{Present}
 use Rattle.t3_undo.specs.Key.{key_cmp, key_cmp-IsAntisymmetric}
 use Rattle.t3_undo.specs.Slots as slots
+use Rattle.t3_undo.specs.Units.{key_units}
 use Rattle.t3_undo.specs.declared.cell.Cell.{Cell}
 use Rattle.t3_undo.specs.declared.cell.Cell.TheVariants as cells
 use Rattle.t3_undo.specs.declared.content.Content.TheVariants.{Slot}
@@ -20,15 +21,12 @@ use Rattle.t3_undo.specs.declared.key.Key.TheVariants as keys
 use Rattle.t3_undo.proofs.Maps.{get-set_at}
 use Rattle.t3_undo.proofs.SlotLists.{same-is}
 use Rattle.t3_tables.specs.Order.{with_value}
+use Rattle.t3_tables.specs.Entries.{IsWholeTable, value_or_nil, default_of, value_under, set_entry, without_key}
 use Rattle.t3_tables.specs.Table.{TableValue, new_table, parts_of, entries_of, is_cell, numbered, filled, with_default}
 use Rattle.t3_tables.specs.declared.pair.Pair.{Pair}
 use Rattle.t3_tables.proofs.OrderedEntries.{same_key}
 use Rattle.t3_tables.proofs.Defaults.{get-default, get-other}
 use Rattle.t3_tables.proofs.TableLists.{entries-filled}
-use Rattle.t3_store.specs.Value.{value_under, set_entry, without_key, key_units, Value, Tads, Text, Items, Vector, Table, entries_in, holder_at, can_have_at}
-use Rattle.t3_store.specs.Inner.Shapes.{TableShape, value_of, default_of, value_or_nil}
-use Rattle.t3_store.specs.Inner.Valid.{IsWholeTable}
-use Rattle.t3_store.proofs.TableValues.{}
 
 -- how many units entries count
 abbrev Units : List Pair → ℕ
@@ -145,10 +143,12 @@ new-parts : parts_of new_table ≡ filled holders.Nil []
 unfolding slots.parts_of
 new-parts = refl
 
-pub value-new : value_of (TableShape, parts_of new_table) ≡ Table [] holders.Nil
+pub entries-new : entries_of (parts_of new_table) ≡ []
 unfolding IsDistinct
-value-new = λ i. Table ((ap entries_of new-parts ∙ entries-filled holders.Nil [] tt) i)
-    ((ap default_of new-parts ∙ default-of (slots.parts_of (numbered 1 [])) holders.Nil) i)
+entries-new = ap entries_of new-parts ∙ entries-filled holders.Nil [] tt
+
+pub default-new : default_of (parts_of new_table) ≡ holders.Nil
+default-new = ap default_of new-parts ∙ default-of (slots.parts_of (numbered 1 [])) holders.Nil
 
 pub whole-new : IsWholeTable (parts_of new_table)
 whole-new = subst IsWholeTable (sym new-parts) (whole-filled holders.Nil [] (omega arith))
@@ -172,40 +172,20 @@ fewer-entries (pair ∷ pairs) =
     let own = least-units pair.key in
     omega (arith, rest, all, own)
 
--- a table has its default, and can have each key
-pub table-default : (o : Option Value) → IsSome (option_and_then entries_in o) → IsSome (holder_at o cells.Default)
-table-default None some = absurd (true≢false (sym some))
-table-default (Some (Tads supers class props)) some = absurd (true≢false (sym some))
-table-default (Some (Text bytes)) some = absurd (true≢false (sym some))
-table-default (Some (Items items)) some = absurd (true≢false (sym some))
-table-default (Some (Vector items)) some = absurd (true≢false (sym some))
-table-default (Some (Table pairs default)) some = refl
-
-pub table-key : (o : Option Value) (key : Key) → IsSome (option_and_then entries_in o) → IsTrue (can_have_at o (cells.Key key))
-table-key None key some = absurd (true≢false (sym some))
-table-key (Some (Tads supers class props)) key some = absurd (true≢false (sym some))
-table-key (Some (Text bytes)) key some = absurd (true≢false (sym some))
-table-key (Some (Items items)) key some = absurd (true≢false (sym some))
-table-key (Some (Vector items)) key some = absurd (true≢false (sym some))
-table-key (Some (Table pairs default)) key some = refl
-
--- a default is never absent
-pub default-some : (o : Option Present) → IsTrue (is_form cells.Default o) → IsSome o
-default-some None form = absurd (true≢false (sym form))
-default-some (Some p) form = refl
-
--- a copy has the same value, is whole, and has a tick for each entry
-pub record IsTableCopy (copy : TableValue) (value : Value) : Type 0 where
-  pub same : value_of (TableShape, parts_of copy) ≡ value
+-- a copy has the same entries and the same default, is whole, and has a tick for each entry
+pub record IsTableCopy (table copy : TableValue) : Type 0 where
+  pub entries : entries_of (parts_of copy) ≡ entries_of (parts_of table)
+  pub default : default_of (parts_of copy) ≡ default_of (parts_of table)
   pub whole : IsWholeTable (parts_of copy)
   pub tick : copy.next_tick ≤ Units (entries_of (parts_of copy)) + 1
 
 pub table-copy : (table copy : TableValue) → parts_of copy ≡ filled table.default (entries_of (parts_of table))
     → entries_of (parts_of copy) ≡ entries_of (parts_of table) → copy.next_tick ≡ 1 + length (entries_of (parts_of table))
-    → copy.next_tick ≤ 2 ^ 63 → IsTableCopy copy (value_of (TableShape, parts_of table))
+    → copy.next_tick ≤ 2 ^ 63 → IsTableCopy table copy
 table-copy table copy parts pairs next few = record {
-  same = λ i. Table (pairs i) ((ap default_of parts ∙ default-of (slots.parts_of (numbered 1 (entries_of (parts_of table)))) table.default
-      ∙ sym (default-of table.entries table.default)) i);
+  entries = pairs;
+  default = ap default_of parts ∙ default-of (slots.parts_of (numbered 1 (entries_of (parts_of table)))) table.default
+      ∙ sym (default-of table.entries table.default);
   whole = subst IsWholeTable (sym parts) (whole-filled table.default (entries_of (parts_of table)) (omega (arith, next, few)));
   tick =
       let all = fewer-entries (entries_of (parts_of copy)) in

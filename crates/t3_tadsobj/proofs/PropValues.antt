@@ -1,60 +1,84 @@
--- What a change of a tads-object's parts does to its properties.
-use Rattle.std.proofs.Common.{◌≡◌, ◌∙◌, ap, sym, refl, ℕ, zero, suc, ◌+◌, ◌-◌, ◌<◌, Bool, true, false, cond, Option, None, Some, IsTrue, IsSome, is_some, true≢false, arith}
+-- What a change of a tads-object's parts does to its properties. Other crates may use these.
+use Rattle.std.proofs.Common.{◌≡◌, ◌∙◌, ap, sym, refl, ℕ, zero, suc, ◌+◌, ◌-◌, ◌<◌, Bool, true, false, cond, ◌&&◌, subst, Option, None, Some, IsTrue, IsSome, is_some, true≢false, arith}
 use Rattle.std.specs.Ordering.{nat_cmp, eq_by_cmp}
-use Rattle.std.specs.Option.{option_map}
+use Rattle.std.specs.Option.{option_and_then}
 use Rattle.std.specs.Cmp.{nat_cmp_total}
 use Rattle.std.specs.FinMap.{get, remove, len, len-insert, len-remove, empty_of_len, get-empty, get-remove, same_map, nat_cmp-IsAntisymmetric}
 use Rattle.t3_holder.specs.declared.holder.Holder.{Holder}
 use Rattle.t3_undo.specs.Cell.{cell_cmp, cell_cmp_total}
-use Rattle.t3_undo.specs.Content.{Present, Parts}
+use Rattle.t3_undo.specs.Content.{Parts, is_form}
+use Rattle.t3_undo.specs.Present.{Present, value_in}
+use Rattle.t3_undo.specs.Present as presents
 use Rattle.t3_undo.specs.Objects.{set_at}
 use Rattle.t3_undo.specs.declared.cell.Cell.{Cell}
 use Rattle.t3_undo.specs.declared.cell.Cell.TheVariants as cells
 use Rattle.t3_undo.proofs.Maps.{get-set_at}
+use Rattle.t3_undo.proofs.PresentForms.{value-formed}
+use Rattle.t3_undo.proofs.PuttingBack.{and-first, and-second}
 use Rattle.t3_tadsobj.specs.Object.{is_prop, props_of}
 use Rattle.t3_tadsobj.proofs.PropLists.{get-props_of, props_of-set, same-Prop}
 use Rattle.t3_undo.proofs.SlotLists.{same-is}
-use Rattle.t3_store.specs.Inner.Valid.{AreProps}
-use Rattle.t3_store.specs.Value.{PropMap, prop_at, with_prop, without_prop}
+use Rattle.t3_tadsobj.specs.Props.{AreProps, PropMap, prop_at, with_prop, without_prop}
+
+-- what is present is a property with a value, also once one is set or taken away
+pub is-prop : (parts : Parts) (cell : Cell) → AreProps parts → IsSome (get parts cell) → IsTrue (is_prop cell)
+is-prop parts cell are some = by (get parts cell) refl some
+  where
+    by : (o : Option Present) → get parts cell ≡ o → IsSome o → IsTrue (is_prop cell)
+    by None e some = absurd (true≢false (sym some))
+    by (Some p) e some = and-first (is_prop cell) (is_form cell (Some p)) (are cell p e)
+
+pub prop-valued : (parts : Parts) (cell : Cell) → AreProps parts → is_some (option_and_then value_in (get parts cell)) ≡ is_some (get parts cell)
+prop-valued parts cell are = by (get parts cell) refl
+  where
+    by : (o : Option Present) → get parts cell ≡ o → is_some (option_and_then value_in o) ≡ is_some o
+    by None e = refl
+    by (Some p) e = value-formed cell (Some p) (and-second (is_prop cell) (is_form cell (Some p)) (are cell p e))
 
 -- what stands in a cell of a tads-object is its property
-pub found-prop : (parts : Parts) (cell : Cell) (o : Option Present) → o ≡ get parts cell → (IsSome o → IsTrue (is_prop cell))
-    → option_map (λ present. present.value) o ≡ prop_at cell (props_of parts)
-found-prop parts (cells.Prop n) o e only = ap (option_map (λ present. present.value)) e ∙ sym (get-props_of parts n)
-found-prop parts (cells.Elem n) None e only = refl
-found-prop parts (cells.Elem n) (Some p) e only = absurd (true≢false (sym (only refl)))
-found-prop parts (cells.Key k) None e only = refl
-found-prop parts (cells.Key k) (Some p) e only = absurd (true≢false (sym (only refl)))
-found-prop parts cells.Default None e only = refl
-found-prop parts cells.Default (Some p) e only = absurd (true≢false (sym (only refl)))
-
--- what is present is a property, also once one is set or taken away
-pub props-set : (parts : Parts) (cell : Cell) (o : Option Present) → AreProps parts → IsTrue (is_prop cell) → AreProps (set_at parts cell o)
-props-set parts cell o are can q some = by (eq_by_cmp cell_cmp q cell) refl (sym (ap is_some (get-set_at cell_cmp_total parts cell o q)) ∙ some)
+pub found-prop : (parts : Parts) (cell : Cell) → AreProps parts → option_and_then value_in (get parts cell) ≡ prop_at cell (props_of parts)
+found-prop parts cell are = by cell (get parts cell) refl
   where
-    by : (b : Bool) → eq_by_cmp cell_cmp q cell ≡ b → IsSome (cond b o (get parts q)) → IsTrue (is_prop q)
-    by true e some = ap is_prop (same-is q cell e) ∙ can
-    by false e some = are q some
+    by : (cell : Cell) (o : Option Present) → get parts cell ≡ o → option_and_then value_in o ≡ prop_at cell (props_of parts)
+    by (cells.Prop n) o e = ap (option_and_then value_in) (sym e) ∙ sym (get-props_of parts n)
+    by (cells.Elem n) None e = refl
+    by (cells.Elem n) (Some p) e = absurd (true≢false (sym (are (cells.Elem n) p e)))
+    by (cells.Key k) None e = refl
+    by (cells.Key k) (Some p) e = absurd (true≢false (sym (are (cells.Key k) p e)))
+    by cells.Default None e = refl
+    by cells.Default (Some p) e = absurd (true≢false (sym (are cells.Default p e)))
+
+pub props-set : (parts : Parts) (cell : Cell) (o : Option Present) → AreProps parts → IsTrue (is_prop cell) → IsTrue (is_form cell o)
+    → AreProps (set_at parts cell o)
+props-set parts cell o are can form q present e =
+    by (eq_by_cmp cell_cmp q cell) refl (sym (get-set_at cell_cmp_total parts cell o q) ∙ e)
+  where
+    by : (b : Bool) → eq_by_cmp cell_cmp q cell ≡ b → cond b o (get parts q) ≡ Some present → IsTrue (is_prop q && is_form q (Some present))
+    by true t e =
+        let P : Cell → Type 0 = λ d. IsTrue (is_prop d && is_form d (Some present)) in
+        let Q : Option Present → Type 0 = λ p. IsTrue (is_form cell p) in
+        subst P (sym (same-is q cell t)) (ap (λ b. b && is_form cell (Some present)) can ∙ subst Q e form)
+    by false t e = are q present e
 
 -- a property set
 pub props_of-with : (parts : Parts) (cell : Cell) (value : Holder) → IsTrue (is_prop cell)
-    → props_of (set_at parts cell (Some (record { tick = None; value = value }))) ≡ with_prop cell value (props_of parts)
-props_of-with parts (cells.Prop n) value can = props_of-set parts n (record { tick = None; value = value })
+    → props_of (set_at parts cell (Some (presents.Value None value))) ≡ with_prop cell value (props_of parts)
+props_of-with parts (cells.Prop n) value can = props_of-set parts n None value
 props_of-with parts (cells.Elem n) value can = absurd (true≢false (sym can))
 props_of-with parts (cells.Key k) value can = absurd (true≢false (sym can))
 props_of-with parts cells.Default value can = absurd (true≢false (sym can))
 
-option_map-none : (b : Bool) (o : Option Present)
-    → option_map (λ present. present.value) (cond b None o) ≡ cond b None (option_map (λ present. present.value) o)
-option_map-none true o = refl
-option_map-none false o = refl
+value-none : (b : Bool) (o : Option Present)
+    → option_and_then value_in (cond b None o) ≡ cond b None (option_and_then value_in o)
+value-none true o = refl
+value-none false o = refl
 
 props_of-less : (parts : Parts) (n : ℕ) → props_of (set_at parts (cells.Prop n) None) ≡ remove (props_of parts) n
 props_of-less parts n =
     same_map nat_cmp_total nat_cmp-IsAntisymmetric _ _ (λ q.
     get-props_of (set_at parts (cells.Prop n) None) q
-    ∙ ap (option_map (λ present. present.value)) (get-set_at cell_cmp_total parts (cells.Prop n) None (cells.Prop q))
-    ∙ option_map-none (eq_by_cmp cell_cmp (cells.Prop q) (cells.Prop n)) (get parts (cells.Prop q))
+    ∙ ap (option_and_then value_in) (get-set_at cell_cmp_total parts (cells.Prop n) None (cells.Prop q))
+    ∙ value-none (eq_by_cmp cell_cmp (cells.Prop q) (cells.Prop n)) (get parts (cells.Prop q))
     ∙ (let back = sym (get-props_of parts q) in λ i. cond (same-Prop q n i) None (back i))
     ∙ sym (get-remove nat_cmp_total (props_of parts) n q))
 
