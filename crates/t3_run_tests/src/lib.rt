@@ -5,8 +5,12 @@
 #[cfg(test)]
 mod asking;
 #[cfg(test)]
+mod consoles;
+#[cfg(test)]
 mod devices;
 #[cfg(test)]
 mod hostile;
+#[cfg(test)]
+mod images;
 #[cfg(test)]
 mod run;

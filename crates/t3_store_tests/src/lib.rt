@@ -5,6 +5,8 @@
 #[cfg(test)]
 mod broken;
 #[cfg(test)]
+mod counts;
+#[cfg(test)]
 mod fixture;
 #[cfg(test)]
 mod persistents;

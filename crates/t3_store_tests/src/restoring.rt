@@ -47,7 +47,7 @@ fn objects_of(alloc: Global, count: u32) -> Result<Persistent, Fail> {
 }
 
 /// A state of one list of these numbers.
-fn list_of(alloc: Global, number: u32, items: &[i32]) -> Result<Persistent, Fail> {
+pub(crate) fn list_of(alloc: Global, number: u32, items: &[i32]) -> Result<Persistent, Fail> {
     if items.len() > 65_535 {
         return Err(Fail::from("a list that fits"));
     }
@@ -58,7 +58,7 @@ fn list_of(alloc: Global, number: u32, items: &[i32]) -> Result<Persistent, Fail
 
 /// A store with room for three objects and four units, of which a transient object with a property takes one of
 /// each.
-fn small_store(alloc: Global) -> Result<Store, Fail> {
+pub(crate) fn small_store(alloc: Global) -> Result<Store, Fail> {
     let mut store = empty_store(alloc, 3, 4, 8, 2)?;
     let object = create(&mut store, alloc, true)?;
     let _set = set(&mut store, object, 1, Some(1))?;

@@ -2,6 +2,7 @@
 use crate::story::{first_unlike, run_in, story_beside};
 use sha2::{Digest, Sha256};
 use std::alloc::{AllocError, Global};
+use std::process::Abort;
 use std::test::Fail;
 use t3_io::SureDepot;
 use t3_testing::Row;
@@ -83,33 +84,68 @@ fn forged(alloc: Global, state: &[u8], at: usize, bits: u8) -> Result<Vec<u8>, F
 
 const REFUSED: &[u8] = b"[unhandled object=3 fault=19]\n";
 
-/// The signature, the version, the fingerprint, and then the digest.
+/// These bytes are refused as a state.
+fn check_refused(rt: &impl Abort, alloc: Global, bytes: &[u8]) -> Result<(), Fail> {
+    let shown = restored(alloc, KEPT, bytes)?;
+    assert_eq!(rt; shown.as_slice(), REFUSED);
+    Ok(())
+}
+
+/// Places of the signature, of the version, of the fingerprint, and behind it.
+const PLACES: [usize; 6] = [0, 8, 10, 41, 42, 46];
+
+/// The state with another bit at each of these places is refused.
+fn check_changed(
+    rt: &impl Abort,
+    alloc: Global,
+    state: &[u8],
+    places: &[usize],
+) -> Result<(), Fail> {
+    for at in places {
+        check_refused(rt, alloc, &changed(alloc, state, *at, 1)?)?;
+    }
+    Ok(())
+}
+
 #[test]
 fn refuses_each_part(rt: HostRuntime) -> Result<(), Fail> {
-    let alloc = rt.alloc();
-    let state = saved(alloc, KEPT)?;
+    let state = saved(rt.alloc(), KEPT)?;
+    check_changed(&rt, rt.alloc(), &state, &PLACES)
+}
+
+/// The last byte before the digest, and its last one.
+#[test]
+fn refuses_another_digest(rt: HostRuntime) -> Result<(), Fail> {
+    let state = saved(rt.alloc(), KEPT)?;
     let end = state.len();
-    assert_eq!(rt;
-        restored(alloc, KEPT, &state)?.as_slice(),
-        b"nil\n".as_slice()
-    );
-    for at in [
-        0,
-        8,
-        10,
-        41,
-        42,
-        46,
-        end.saturating_sub(33),
-        end.saturating_sub(1),
-    ] {
-        let shown = restored(alloc, KEPT, &changed(alloc, &state, at, 1)?)?;
-        assert_eq!(rt; shown.as_slice(), REFUSED, "{at}");
+    let places = [end.saturating_sub(33), end.saturating_sub(1)];
+    check_changed(&rt, rt.alloc(), &state, &places)
+}
+
+/// How many bytes are left of a state that is cut.
+const SIZES: [usize; 5] = [0, 7, 9, 41, 73];
+
+/// The state is refused where so many of its bytes are left, and where the last is missing.
+fn check_cut(rt: &impl Abort, alloc: Global, state: &[u8], sizes: &[usize]) -> Result<(), Fail> {
+    for size in sizes {
+        check_refused(rt, alloc, state.get(..*size).unwrap_or(b""))?;
     }
-    for size in [0, 7, 9, 41, 73, end.saturating_sub(1)] {
-        let shown = restored(alloc, KEPT, state.get(..size).unwrap_or(b""))?;
-        assert_eq!(rt; shown.as_slice(), REFUSED, "{size}");
-    }
+    let shorter = state.len().saturating_sub(1);
+    check_refused(rt, alloc, state.get(..shorter).unwrap_or(b""))
+}
+
+#[test]
+fn refuses_a_front(rt: HostRuntime) -> Result<(), Fail> {
+    let state = saved(rt.alloc(), KEPT)?;
+    check_cut(&rt, rt.alloc(), &state, &SIZES)
+}
+
+/// The state itself is taken.
+#[test]
+fn takes_the_whole(rt: HostRuntime) -> Result<(), Fail> {
+    let state = saved(rt.alloc(), KEPT)?;
+    let shown = restored(rt.alloc(), KEPT, &state)?;
+    assert_eq!(rt; shown.as_slice(), b"nil\n".as_slice());
     Ok(())
 }
 
